@@ -266,8 +266,7 @@ done
 # The places in which each rule is.
 specs=$top/crates/t1_rules/specs
 told=$top/crates/t1_report/specs/Reports.antt
-tests=$top/crates/t1_rules_tests/src
-report_tests=$top/crates/t1_report_tests/src
+tests=$top/crates/t1_report_tests/src
 cut -d ' ' -f 1 "$scratch/book" >"$scratch/codes"
 sort "$scratch/codes" >"$scratch/sorted"
 
@@ -358,8 +357,8 @@ grep -oh 'Rule::[A-Z]*[0-9][0-9]' "$top"/crates/t1_rules/src/font_rules/*.rt "$t
     "$top/crates/t1_rules/src/sidebearings.rt" "$top/crates/t1_report/src/violations.rt" "$top/crates/t1_report/src/usage.rt" |
     sed 's/^Rule:://' | sort -u >"$scratch/list"
 compare_codes 'the code in crates/t1_rules/src and crates/t1_report/src' sorted <"$scratch/list"
-find "$tests" "$report_tests" -name '*.rt' ! -name book.rt ! -name mask.rt ! -name faults.rt -exec cat {} + | codes_in >"$scratch/list"
-compare_codes 'the tests in crates/t1_rules_tests/src and crates/t1_report_tests/src' sorted <"$scratch/list"
+find "$tests" -name '*.rt' ! -name book.rt ! -name mask.rt ! -name faults.rt -exec cat {} + | codes_in >"$scratch/list"
+compare_codes 'the tests in crates/t1_report_tests/src' sorted <"$scratch/list"
 sed -n 's/^| \([A-Z]*[0-9][0-9]\) | .* | .* | .* | .* | .* |$/\1/p' "$rules" >"$scratch/list"
 compare_codes 'docs/RULES.md, the table' codes <"$scratch/list"
 sed -n 's/^### \([A-Z]*[0-9][0-9]\) .*/\1/p' "$rules" | grep -v '^E[0-9]' >"$scratch/list"

@@ -6,7 +6,7 @@
 
 wanted <<'END'
 --
-t1check-all: known can't be read: no such file is found
+t1check-all: known can't be read: no such file or folder
 t1check-all: 't1check-all --help' says how it is used
 END
 try 'known faults that are missing' 3 "$all" --baseline known glyphs.pfb edge.pfb
@@ -76,7 +76,7 @@ try 'rows of other rules and fonts stand' 0 cat known
 echo 'one H02 glyph A glyphs.pfb' >known
 wanted <<'END'
 --
-t1check-all: known: no row of known faults: one H02 glyph A glyphs.pfb
+t1check-all: known: line 1: no row of known faults: one H02 glyph A glyphs.pfb
 END
 try 'a row that is none' 3 "$all" -q --baseline known glyphs.pfb
 cat >known <<'END'
@@ -87,7 +87,7 @@ END
 cp known twice
 wanted <<'END'
 --
-t1check-all: known: two rows of known faults: 2 H02 glyph A edge.pfb
+t1check-all: known: line 3: two rows of known faults: 2 H02 glyph A edge.pfb
 END
 try 'a row that is there twice' 3 "$all" -q --baseline known glyphs.pfb
 try 'a row that is there twice, and an update' 3 "$all" -q --baseline known --update-baseline glyphs.pfb
@@ -134,7 +134,7 @@ cp "$fonts/H02.pfb" waived.pfb
 echo 'A C05' >waived.pfb.waivers
 wanted <<'END'
 --
-missing.pfb: t1check: read failed
+missing.pfb: t1check: read failed: no such file or folder
 END
 try 'known faults of odd names' 3 "$all" -q --baseline - --update-baseline 'two words.pfb' 'back\slash.pfb' waived.pfb missing.pfb
 wanted <<'END'
@@ -163,7 +163,7 @@ try 'rows of a font that is refused' 2 "$all" -q --baseline known cut.pfa
 cp "$fonts/H02.pfb" edge.pfb
 wanted <<'END'
 --
-t1check-all: none/known can't be written
+t1check-all: none/known can't be written: no such file or folder
 END
 try "known faults that can't be written" 3 "$all" -q --baseline none/known --update-baseline edge.pfb
 

@@ -135,7 +135,7 @@ wanted <<'END'
 cut.pfa: refused: E03 segment cut short
 edge.pfb: 1: glyph A - 9 H02 stems overlap
 --
-missing.pfb: t1check: read failed
+missing.pfb: t1check: read failed: no such file or folder
 END
 try 'a font that is missing, one that is refused, and one with a line' 3 "$all" -q missing.pfb cut.pfa edge.pfb
 

@@ -21,9 +21,9 @@ wanted <<'END'
 {"code":"E03","file":"cut.pfa","level":"must","text":"segment cut short","unit":"refused"}
 {"code":"H02","file":"q'\"uote.PFB","level":"should","name":"A","number":1,"path":[],"step":9,"text":"stems overlap","unit":"glyph"}
 {"code":"Z05","file":"sub folder/deep/two words.pfb","index":4,"key":"BlueValues","level":"should","number":1,"text":"zones too near","unit":"font"}
-{"file":"missing.pfb","text":"read failed","unit":"unchecked"}
+{"file":"missing.pfb","text":"read failed: no such file or folder","unit":"unchecked"}
 --
-missing.pfb: t1check: read failed
+missing.pfb: t1check: read failed: no such file or folder
 7 fonts: 0 clean, 5 with faults, 1 refused, 1 not checked
       2 H02 stems overlap (should)
       1 F01 no end segment (should)
@@ -39,9 +39,9 @@ wanted <<'END'
 ::error file=cut.pfa,line=1,title=E03 segment cut short::refused: E03 segment cut short
 ::warning file=q'"uote.PFB,line=1,title=H02 stems overlap::H02 stems overlap × 1: A
 ::warning file=sub folder/deep/two words.pfb,line=1,title=Z05 zones too near::Z05 zones too near × 1: BlueValues
-::error file=missing.pfb,line=1,title=not checked::t1check: read failed
+::error file=missing.pfb,line=1,title=not checked::t1check: read failed: no such file or folder
 --
-missing.pfb: t1check: read failed
+missing.pfb: t1check: read failed: no such file or folder
 END
 try 'a folder as commands' 3 "$all" -q . --format=github missing.pfb
 wanted <<END
@@ -67,7 +67,7 @@ E03 error
 H02 warning
 Z05 warning
 --
-missing.pfb: t1check: read failed
+missing.pfb: t1check: read failed: no such file or folder
 END
 try_document 'a folder as sarif' 3 "$all" -q --format sarif . missing.pfb
 wanted <<'END'
@@ -186,9 +186,9 @@ wanted <<'END'
 {"level":"warning","locations":[{"logicalLocations":[{"kind":"key","name":"file"},{"kind":"index","name":"0"}],"physicalLocation":{"artifactLocation":{"uri":"F01.pfb"},"region":{"startLine":1}}}],"message":{"text":"font file 0 F01 no end segment"},"partialFingerprints":{"t1check/v1":"F01.pfb font file F01 1"},"ruleId":"F01","ruleIndex":N},
 {"level":"error","locations":[{"logicalLocations":[{"kind":"glyph","name":"A"},{"kind":"subr","name":"5"},{"kind":"subr","name":"4"},{"kind":"subr","name":"3"},{"kind":"subr","name":"2"},{"kind":"subr","name":"1"},{"kind":"step","name":"100001"}],"physicalLocation":{"artifactLocation":{"uri":"limit.pfb"},"region":{"startLine":1}}}],"message":{"text":"glyph A 5>4>3>2>1 100001 L01 step limit"},"partialFingerprints":{"t1check/v1":"limit.pfb glyph A L01 1"},"ruleId":"L01","ruleIndex":N},
 {"level":"error","locations":[{"physicalLocation":{"artifactLocation":{"uri":"cut.pfb"},"region":{"startLine":1}}}],"message":{"text":"refused: E03 segment cut short"},"partialFingerprints":{"t1check/v1":"cut.pfb refused E03 1"},"ruleId":"E03","ruleIndex":N}],"invocations":[{"executionSuccessful":false,"toolExecutionNotifications":[
-{"level":"error","locations":[{"physicalLocation":{"artifactLocation":{"uri":"missing.pfb"},"region":{"startLine":1}}}],"message":{"text":"t1check: read failed"}}]}]}]}
+{"level":"error","locations":[{"physicalLocation":{"artifactLocation":{"uri":"missing.pfb"},"region":{"startLine":1}}}],"message":{"text":"t1check: read failed: no such file or folder"}}]}]}]}
 --
-missing.pfb: t1check: read failed
+missing.pfb: t1check: read failed: no such file or folder
 END
 # shellcheck disable=SC2016
 try 'a document of sarif' 0 sh -c 'sh "$0/all_units" "$1" | awk -f "$0/split.awk"' "$scratch" "$all"
@@ -202,7 +202,7 @@ F01 warning
 L01 error
 E03 error
 --
-missing.pfb: t1check: read failed
+missing.pfb: t1check: read failed: no such file or folder
 END
 try_document 'each unit as sarif' 3 sh "$scratch/all_units" "$all"
 
@@ -271,20 +271,20 @@ END
 [ -z "$reader" ] || try 'a thousand and one fonts that were not checked' 0 \
     sh -c '"$1" "$0/read" many.sarif | awk -f "$0/runs.awk"' "$scratch" "$reader"
 
-# What was not even found is in the form, too.
+# What has no name in lines, and what was not even found, is in the form, too.
 wanted <<'END'
-{"text":"a name with a line end is passed over","unit":"unchecked"}
 {"code":"Z05","file":"one.pfb","index":4,"key":"BlueValues","level":"should","number":1,"text":"zones too near","unit":"font"}
+{"file":"two\\x0Alines.pfb","text":"its name has a line end","unit":"unchecked"}
 --
-t1check-all: a name with a line end is passed over
+two\nlines.pfb: t1check: its name has a line end
 END
 try 'a name with a line end, as jsonl' 3 sh -c "cd '$lines' && '$all' -q --format jsonl ."
 wanted <<'END'
-{"text":"a name with a line end is passed over","unit":"unchecked"}
 {"code":"Z05","file":"one.pfb","index":4,"key":"BlueValues","level":"should","number":1,"text":"zones too near","unit":"font"}
+{"file":"two\\x0Alines.pfb","text":"its name has a line end","unit":"unchecked"}
 {"code":"H02","file":"../edge.pfb","level":"should","name":"A","number":1,"path":[],"step":9,"text":"stems overlap","unit":"glyph"}
 --
-t1check-all: a name with a line end is passed over
+two\nlines.pfb: t1check: its name has a line end
 END
 try 'a name with a line end, as jsonl' 3 sh -c "cd '$lines' && '$all' -q --format jsonl . ../edge.pfb"
 wanted <<'END'
@@ -296,11 +296,11 @@ END
 try "a name below a folder that isn't UTF-8, as jsonl" 3 sh -c "cd '$bytes' && '$all' -q --format jsonl ."
 wanted <<'END'
 {"text":"a name that is not UTF-8 is passed over","unit":"unchecked"}
-{"text":"a name with a line end is passed over","unit":"unchecked"}
 {"code":"Z05","file":"one.pfb","index":4,"key":"BlueValues","level":"should","number":1,"text":"zones too near","unit":"font"}
+{"file":"two\\x0Alines.pfb","text":"its name has a line end","unit":"unchecked"}
 --
 t1check-all: a name that is not UTF-8 is passed over
-t1check-all: a name with a line end is passed over
+two\nlines.pfb: t1check: its name has a line end
 END
 # shellcheck disable=SC2016
 try "a word that isn't UTF-8, and a name with a line end, as jsonl" 3 \

@@ -35,7 +35,7 @@ try 'words in their order, each font once' 1 "$all" -q -- 'sub folder' "q'\"uote
 wanted <<'END'
 not-a-font.txt: 1: font BlueValues 4 Z05 zones too near
 --
-missing.pfb: t1check: read failed
+missing.pfb: t1check: read failed: no such file or folder
 2 fonts: 0 clean, 1 with faults, 0 refused, 1 not checked
       1 Z05 zones too near (should)
 END
@@ -69,7 +69,7 @@ try "a list on standard input that is read twice" 1 sh -c '{ cat "$1/list"; echo
     "$0" -q --files-from - a=b.t1 --files-from -' "$all" "$scratch"
 wanted <<'END'
 --
-t1check-all: nowhere can't be read: no such file is found
+t1check-all: nowhere can't be read: no such file or folder
 t1check-all: 't1check-all --help' says how it is used
 END
 try 'a list that is missing' 3 "$all" --files-from nowhere a=b.t1
@@ -92,22 +92,32 @@ try 'globs that match nothing' 1 "$all" -q --exclude 'dash/*' --exclude '?.pfb' 
 wanted <<'END'
 one.pfb: 1: font BlueValues 4 Z05 zones too near
 --
-t1check-all: a name with a line end is passed over
+two\nlines.pfb: t1check: its name has a line end
+2 fonts: 0 clean, 1 with faults, 0 refused, 1 not checked
+      1 Z05 zones too near (should)
 END
-try 'a name with a line end' 3 sh -c "cd '$lines' && '$all' -q ."
+try 'a name with a line end' 3 sh -c "cd '$lines' && '$all' ."
 wanted <<'END'
 edge.pfb: 1: glyph A - 9 H02 stems overlap
 --
-t1check-all: a name with a line end is passed over
+two\nlines.pfb: t1check: its name has a line end
 END
 cd "$scratch" || exit 1
 try 'a word with a line end' 3 "$all" -q "$(printf 'two\nlines.pfb')" edge.pfb
 try 'a word with a line end, and rules' 3 "$all" -q --only H02 "$(printf 'two\nlines.pfb')" edge.pfb glyphs.pfb
 wanted <<'END'
 --
-t1check-all: a name with a line end is passed over
+two\nlines.pfb: t1check: its name has a line end
 END
-try 'a word with a line end, and an empty shard' 3 "$all" -q --shard 1/2 "$(printf 'two\nlines.pfb')" edge.pfb
+try 'a shard of a word with a line end' 3 "$all" -q --shard 1/2 "$(printf 'two\nlines.pfb')" edge.pfb
+mkdir "$(printf 'a\nfolder')"
+cp edge.pfb "$(printf 'a\nfolder')"
+wanted <<'END'
+--
+a\nfolder/edge.pfb: t1check: its name has a line end
+END
+try 'a folder with a line end' 3 "$all" -q "$(printf 'a\nfolder')"
+rm -r "$(printf 'a\nfolder')"
 
 # An excluded name isn't skipped for its line end.
 wanted <<'END'
@@ -148,7 +158,7 @@ edge.pfb: 1: glyph A - 9 H02 stems overlap
 --
 t1check-all: a name that is not UTF-8 is passed over
 t1check-all: a name that is not UTF-8 is passed over
-t1check-all: a name with a line end is passed over
+two\nlines.pfb: t1check: its name has a line end
 END
 # shellcheck disable=SC2016
 try "names that aren't UTF-8, and one with a line end" 3 sh -c 'printf "b\377d.pfb\n" | "$0" -q --files-from - "$(printf "b\377d.pfb")" "$1" edge.pfb' \
@@ -185,12 +195,12 @@ cp edge.pfb piped/real.pfb
 wanted <<'END'
 piped/real.pfb: 1: glyph A - 9 H02 stems overlap
 --
-piped/pipe.pfb: t1check: read failed
+piped/pipe.pfb: t1check: read failed: it is no regular file
 END
 try 'a pipe below a folder' 3 "$all" -q piped
 wanted <<'END'
 --
-piped/pipe.pfb: t1check: read failed
+piped/pipe.pfb: t1check: read failed: it is no regular file
 END
 try 'a pipe that is named' 3 "$all" -q piped/pipe.pfb
 
@@ -274,7 +284,7 @@ cp edge.pfb loop.pfb
 ln -s loop.pfb.waivers loop.pfb.waivers
 wanted <<'END'
 --
-loop.pfb: t1check: read failed
+loop.pfb: t1check: read of waivers failed
 END
 try 'waivers that are a link to themselves' 3 "$all" -q loop.pfb
 long=$(printf '%0250d' 0).pfb
@@ -299,13 +309,17 @@ if [ -n "$as" ]; then
     chmod 000 closed.pfb
     wanted <<'END'
 --
-closed.pfb: t1check: read failed
+closed.pfb: t1check: read failed: permission is denied
 END
     # shellcheck disable=SC2086
     try 'an unreadable font' 3 $as "cd '$scratch' && '$all' -q closed.pfb"
     chmod 644 closed.pfb
     echo 'A H02' >closed.pfb.waivers
     chmod 000 closed.pfb.waivers
+    wanted <<'END'
+--
+closed.pfb: t1check: read of waivers failed: permission is denied
+END
     # shellcheck disable=SC2086
     try 'unreadable waivers' 3 $as "cd '$scratch' && '$all' -q closed.pfb"
     mkdir shut shut/inner
@@ -326,14 +340,14 @@ END
     chmod 555 locked
     wanted <<'END'
 --
-t1check-all: known can't be written
+t1check-all: known can't be written: permission is denied
 END
     # shellcheck disable=SC2086
     try "known faults in a folder that can't be written" 3 $as "cd '$scratch/locked' &&
         '$all' -q --baseline known --update-baseline edge.pfb"
     wanted <<'END'
 --
-t1check-all: edge.pfb.waivers can't be written
+t1check-all: edge.pfb.waivers can't be written: permission is denied
 END
     # shellcheck disable=SC2086
     try "waivers in a folder that can't be written" 3 $as "cd '$scratch/locked' && '$all' -q --write-waivers edge.pfb"

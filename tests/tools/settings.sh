@@ -128,7 +128,7 @@ rm .t1check.toml
 mkdir .t1check.toml
 wanted <<'END'
 --
-t1check-all: .t1check.toml can't be read
+t1check-all: .t1check.toml can't be read: it is no regular file
 END
 try "settings that can't be read" 3 "$all" -q fonts
 wanted <<'END'

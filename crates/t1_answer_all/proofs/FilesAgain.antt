@@ -1,7 +1,7 @@
 -- Two checks of the same files find the same, and what they find can become known.
-use Rattle.std.proofs.Common.{◌≡◌, ◌<◌, ◌==◌, ℕ, Bool, true, false, not, cond, nat_lt, List, [], ◌∷◌, length, map, Option, None, Some, Result, Ok, Err, IfOk, if◌then◌else◌, inl, inr, refl, sym, ap, ap₂, subst, ◌∙◌, arith}
-use Rattle.std.proofs.lemmas.Bool.{cases_Bool}
-use Rattle.std.specs.List.{AllByRecursion, IsDistinct, filter, flat_map}
+use Rattle.std.proofs.Common.{◌≡◌, ◌<◌, ◌==◌, ℕ, Bool, true, false, cond, nat_lt, List, [], ◌∷◌, length, map, Option, None, Some, Result, Ok, Err, IfOk, if◌then◌else◌, inl, inr, refl, sym, ap, ap₂, subst, ◌∙◌, arith}
+use Rattle.std.proofs.lemmas.Bool.{cases_Bool, true≢false}
+use Rattle.std.specs.List.{AllByRecursion, IsDistinct, flat_map}
 use Rattle.std.specs.Str.{bytes_eq}
 use Rattle.t1_batch.specs.Modes.{entry_readings, outcome_readings}
 use Rattle.t1_char.specs.declared.edition.Edition.{Edition}
@@ -17,16 +17,18 @@ use Rattle.t1_known.specs.Readings.{IsReadable}
 use Rattle.t1_refusals.specs.declared.refusal.Reason.{Reason}
 use Rattle.t1_many.specs.Ends.{AreChecked}
 use Rattle.t1_many.specs.Files.{ChecksIn, HasNoWaivers, IsFound, given_by}
-use Rattle.t1_many.specs.Files.ChecksIn.{cannot_open, cannot_open_waivers, with_waivers, without_waivers}
+use Rattle.t1_many.specs.Files.ChecksIn.{cannot_open, cannot_open_waivers, no_line, with_waivers, without_waivers}
 use Rattle.t1_many.specs.Files.IsFound.{breaks, breaks_waivers, no_memory, refused, reports, waivers_refused}
+use Rattle.t1_many.specs.FontErrors.{error_of}
 use Rattle.t1_many.specs.FontFiles.{asks}
 use Rattle.t1_many.specs.Laws.{KindsNameTheirRules}
 use Rattle.t1_many.specs.Outcomes.{Entry, IsRead, Outcome, Report, failed, reported}
+use Rattle.t1_many.specs.Unchecked.{has_line_end}
+use Rattle.t1_many.specs.declared.font_error.FontError.TheVariants.{Unchecked}
+use Rattle.t1_many.specs.declared.font_error.Obstacle.TheVariants.{LineEnd}
 use Rattle.t1_many.specs.declared.font_files.WaiverFiles.{WaiverFiles}
 use Rattle.t1_names.proofs.OnceLaws.{none_is_twice}
-use Rattle.t1_names.specs.Named.{one_line_names}
 use Rattle.t1_names.specs.Once.{each_once}
-use Rattle.t1_names.specs.Words.{has_line_end}
 use Rattle.t1_report.proofs.OneReport.{no_other_report}
 use Rattle.t1_report.specs.Checked.{checked}
 use Rattle.t1_report.specs.Faults.{FaultValue}
@@ -51,10 +53,16 @@ data IsSure (edition : Edition) (bytes : List ℕ) (text : Option (List ℕ)) (n
       (report : Report) → font_of bytes ≡ Ok report.font → waived_by text ≡ Ok report.waivers → report.edition ≡ edition
       → IsReport (checked report.font edition) report.waivers report.faults → 0 < length name → outcome ≡ reported report
       → IsSure edition bytes text name outcome
-  sure_refused : (reason : Reason) → font_of bytes ≡ Err reason → outcome ≡ failed (failure_of reason) → IsSure edition bytes text name outcome
+  sure_refused :
+      (reason : Reason) → font_of bytes ≡ Err reason → outcome ≡ failed (error_of (failure_of reason)) → IsSure edition bytes text name outcome
   sure_waivers :
-      (font : FontValue) (reason : Reason) → font_of bytes ≡ Ok font → waived_by text ≡ Err reason → outcome ≡ failed (failure_of reason)
-      → IsSure edition bytes text name outcome
+      (font : FontValue) (reason : Reason) → font_of bytes ≡ Ok font → waived_by text ≡ Err reason
+      → outcome ≡ failed (error_of (failure_of reason)) → IsSure edition bytes text name outcome
+
+-- The same by its name too.
+data IsSureNamed (edition : Edition) (bytes : List ℕ) (text : Option (List ℕ)) (name : List ℕ) (outcome : Outcome) : Type 0 where
+  sure_unnamed : has_line_end name ≡ true → outcome ≡ failed (Unchecked LineEnd) → IsSureNamed edition bytes text name outcome
+  sure_named : has_line_end name ≡ false → IsSure edition bytes text name outcome → IsSureNamed edition bytes text name outcome
 
 -- The text of a font's waivers that counts: that of its file, where it is asked for.
 abbrev asked_text : WaiverFiles → (List ℕ → Option (List ℕ)) → List ℕ → Option (List ℕ)
@@ -83,16 +91,19 @@ module _ (bytes_of : List ℕ → List ℕ) (text_of : List ℕ → Option (List
   found_so bytes text asked source source' waivers waivers' is waives named outcome (no_memory same) checks = absurd (subst IsChecked same checks)
 
   sure : (old new : Unit {0}) (outcome : Outcome) → ChecksIn (holding bytes_of text_of) beside edition name old new outcome → IsChecked outcome
-      → IsSure edition (bytes_of name) (asked_text beside text_of name) name outcome
-  sure old new outcome (cannot_open opens same) checks = absurd (subst IsChecked same checks)
-  sure old new outcome (cannot_open_waivers opened asked source opens asks_is none leaves same) checks = absurd (subst IsChecked same checks)
-  sure old new outcome (without_waivers opened asked source source' waivers waivers' opens none leaves few found) checks =
-      found_so (bytes_of name) (asked_text beside text_of name) false source source' waivers waivers' opens.1
-      (λ waived is. ap waived_by (none_asked (asks beside name) opened asked none) ∙ is) opens.0 outcome found checks
-  sure old new outcome (with_waivers opened asked left source source' waivers waivers' opens asks_is some leaves leaves' few few' found) checks =
+      → IsSureNamed edition (bytes_of name) (asked_text beside text_of name) name outcome
+  sure old new outcome (no_line ends same is) checks = sure_unnamed ends is
+  sure old new outcome (cannot_open plain cause opens same) checks = absurd (subst IsChecked same checks)
+  sure old new outcome (cannot_open_waivers plain opened asked source opens asks_is cause none leaves same) checks = absurd (subst IsChecked same checks)
+  sure old new outcome (without_waivers plain opened asked source source' waivers waivers' opens none leaves few found) checks =
+      sure_named plain
+      (found_so (bytes_of name) (asked_text beside text_of name) false source source' waivers waivers' opens.1
+      (λ waived is. ap waived_by (none_asked (asks beside name) opened asked none) ∙ is) opens.0 outcome found checks)
+  sure old new outcome (with_waivers plain opened asked left source source' waivers waivers' opens asks_is some leaves leaves' few few' found) checks =
       let text_is : asked_text beside text_of name ≡ Some some.0 = rw asks_is some.1 in
-      found_so (bytes_of name) (asked_text beside text_of name) true source source' waivers waivers' opens.1
-      (λ waived is. ap waived_by text_is ∙ (rw some.2 at is)) opens.0 outcome found checks
+      sure_named plain
+      (found_so (bytes_of name) (asked_text beside text_of name) true source source' waivers waivers' opens.1
+      (λ waived is. ap waived_by text_is ∙ (rw some.2 at is)) opens.0 outcome found checks)
 
 -- ---- the same is found again
 
@@ -131,9 +142,9 @@ module _ (edition : Edition) (bytes : List ℕ) (text : Option (List ℕ)) (name
       dated dated' is is'
       ∙ sym at'
   same_outcome a b (sure_refused why font at) (sure_refused why' font' at') =
-      at ∙ ap (λ (w : Reason). failed (failure_of w)) (err_same why why' (font_of bytes) font font') ∙ sym at'
+      at ∙ ap (λ (w : Reason). failed (error_of (failure_of w))) (err_same why why' (font_of bytes) font font') ∙ sym at'
   same_outcome a b (sure_waivers f why font waived at) (sure_waivers f' why' font' waived' at') =
-      at ∙ ap (λ (w : Reason). failed (failure_of w)) (err_same why why' (waived_by text) waived waived') ∙ sym at'
+      at ∙ ap (λ (w : Reason). failed (error_of (failure_of w))) (err_same why why' (waived_by text) waived waived') ∙ sym at'
   same_outcome a b (sure_report r font waived dated is named at) (sure_refused why font' at') = absurd (either r.font why (font_of bytes) font font')
   same_outcome a b (sure_report r font waived dated is named at) (sure_waivers f why font' waived' at') =
       absurd (either r.waivers why (waived_by text) waived waived')
@@ -142,6 +153,12 @@ module _ (edition : Edition) (bytes : List ℕ) (text : Option (List ℕ)) (name
   same_outcome a b (sure_waivers f why font waived at) (sure_report r font' waived' dated is named at') =
       absurd (either r.waivers why (waived_by text) waived' waived)
   same_outcome a b (sure_waivers f why font waived at) (sure_refused why' font' at') = absurd (either f why' (font_of bytes) font font')
+
+  same_named : (a b : Outcome) → IsSureNamed edition bytes text name a → IsSureNamed edition bytes text name b → a ≡ b
+  same_named a b (sure_unnamed ends is) (sure_unnamed ends' is') = is ∙ sym is'
+  same_named a b (sure_unnamed ends is) (sure_named plain found) = absurd (true≢false (sym ends ∙ plain))
+  same_named a b (sure_named plain found) (sure_unnamed ends is) = absurd (true≢false (sym ends ∙ plain))
+  same_named a b (sure_named plain found) (sure_named plain' found') = same_outcome a b found found'
 
 module _ (bytes_of : List ℕ → List ℕ) (text_of : List ℕ → Option (List ℕ)) (beside : WaiverFiles) (edition : Edition) where
   abbrev IsFoundSo : Entry → Type 0
@@ -153,14 +170,14 @@ module _ (bytes_of : List ℕ → List ℕ) (text_of : List ℕ → Option (List
   each_found (entry ∷ entries) old new (next, one, others) = ((old, next, one), each_found entries next new others)
 
   sure_of : (entry : Entry) → IsFoundSo entry → IsChecked entry.outcome
-      → IsSure edition (bytes_of entry.name) (asked_text beside text_of entry.name) entry.name entry.outcome
+      → IsSureNamed edition (bytes_of entry.name) (asked_text beside text_of entry.name) entry.name entry.outcome
   sure_of entry (old, new, found) checks = sure bytes_of text_of beside edition entry.name old new entry.outcome found checks
 
   same_entry : (a b : Entry) → a.name ≡ b.name → IsFoundSo a → IsChecked a.outcome → IsFoundSo b → IsChecked b.outcome → a ≡ b
   same_entry a b names found_a checks_a found_b checks_b =
-      let sure_a : IsSure edition (bytes_of b.name) (asked_text beside text_of b.name) b.name a.outcome =
-      subst (λ (n : List ℕ). IsSure edition (bytes_of n) (asked_text beside text_of n) n a.outcome) names (sure_of a found_a checks_a) in
-      let outcomes = same_outcome edition (bytes_of b.name) (asked_text beside text_of b.name) b.name a.outcome b.outcome sure_a (sure_of b found_b checks_b) in
+      let sure_a : IsSureNamed edition (bytes_of b.name) (asked_text beside text_of b.name) b.name a.outcome =
+      subst (λ (n : List ℕ). IsSureNamed edition (bytes_of n) (asked_text beside text_of n) n a.outcome) names (sure_of a found_a checks_a) in
+      let outcomes = same_named edition (bytes_of b.name) (asked_text beside text_of b.name) b.name a.outcome b.outcome sure_a (sure_of b found_b checks_b) in
       ap₂ (λ (n : List ℕ) (o : Outcome). record { name = n; outcome = o }) names outcomes
 
   same_entries : (xs ys : List Entry) → map (λ (e : Entry). e.name) xs ≡ map (λ (e : Entry). e.name) ys
@@ -239,53 +256,34 @@ readable_outcome rules edition bytes text name outcome in_line (sure_refused rea
 readable_outcome rules edition bytes text name outcome in_line (sure_waivers f reason font waived same) =
     subst (λ o. AllByRecursion IsReadable (outcome_readings rules name o)) (sym same) tt
 
-no_line_end : (name : List ℕ) → not (has_line_end name) ≡ true → has_no_line_end name ≡ true
+no_line_end : (name : List ℕ) → has_line_end name ≡ false → has_no_line_end name ≡ true
 no_line_end [] none = refl
 no_line_end (byte ∷ name) none = elim (cases_Bool (byte == 10)) [
-  | inl is ↦ (let bad : not true ≡ true = rw is at none in cc)
-  | inr other ↦ (let more : not (has_line_end name) ≡ true = rw other at none in rw other (no_line_end name more))
+  | inl is ↦ (let bad : true ≡ false = rw is at none in cc)
+  | inr other ↦ (let more : has_line_end name ≡ false = rw other at none in rw other (no_line_end name more))
 ]
 
-kept_in_line : (names : List (List ℕ)) → AllByRecursion (λ n. has_no_line_end n ≡ true) (one_line_names names)
-kept_in_line [] = tt
-kept_in_line (name ∷ names) = elim (cases_Bool (not (has_line_end name))) [
-  | inl is ↦ rw is (no_line_end name is, kept_in_line names)
-  | inr not ↦ rw not (kept_in_line names)
-]
-
-apart_kept : (test : List ℕ → Bool) (name : List ℕ) (names : List (List ℕ)) → AllByRecursion (λ y. bytes_eq name y ≡ false) names
-    → AllByRecursion (λ y. bytes_eq name y ≡ false) (filter test names)
-apart_kept test name [] apart = tt
-apart_kept test name (first ∷ names) apart = elim (cases_Bool (test first)) [
-  | inl is ↦ rw is (apart.0, apart_kept test name names apart.1)
-  | inr not ↦ rw not (apart_kept test name names apart.1)
-]
-
-distinct_kept : (test : List ℕ → Bool) (names : List (List ℕ)) → IsDistinct bytes_eq names → IsDistinct bytes_eq (filter test names)
-unfolding IsDistinct
-distinct_kept test [] once = tt
-distinct_kept test (name ∷ names) once = elim (cases_Bool (test name)) [
-  | inl is ↦ rw is (apart_kept test name names once.0, distinct_kept test names once.1)
-  | inr not ↦ rw not (distinct_kept test names once.1)
-]
+readable_named : (rules : Mask) (edition : Edition) (bytes : List ℕ) (text : Option (List ℕ)) (name : List ℕ) (outcome : Outcome)
+    → IsSureNamed edition bytes text name outcome → AllByRecursion IsReadable (outcome_readings rules name outcome)
+readable_named rules edition bytes text name outcome (sure_unnamed ends same) =
+    subst (λ o. AllByRecursion IsReadable (outcome_readings rules name o)) (sym same) tt
+readable_named rules edition bytes text name outcome (sure_named plain found) =
+    readable_outcome rules edition bytes text name outcome (no_line_end name plain) found
 
 module _ (bytes_of : List ℕ → List ℕ) (text_of : List ℕ → Option (List ℕ)) (beside : WaiverFiles) (edition : Edition) (rules : Mask) where
-  readable_entries : (entries : List Entry) → AllByRecursion (λ n. has_no_line_end n ≡ true) (map (λ (e : Entry). e.name) entries)
-      → AllByRecursion (IsFoundSo bytes_of text_of beside edition) entries → AllByRecursion (λ e. IsChecked e.outcome) entries
-      → AllByRecursion IsReadable (flat_map (entry_readings rules) entries)
-  readable_entries [] in_line found checks = tt
-  readable_entries (e ∷ es) in_line found checks =
+  readable_entries : (entries : List Entry) → AllByRecursion (IsFoundSo bytes_of text_of beside edition) entries
+      → AllByRecursion (λ e. IsChecked e.outcome) entries → AllByRecursion IsReadable (flat_map (entry_readings rules) entries)
+  readable_entries [] found checks = tt
+  readable_entries (e ∷ es) found checks =
       all-append IsReadable (entry_readings rules e) (flat_map (entry_readings rules) es)
-      (readable_outcome rules edition (bytes_of e.name) (asked_text beside text_of e.name) e.name e.outcome in_line.0
+      (readable_named rules edition (bytes_of e.name) (asked_text beside text_of e.name) e.name e.outcome
       (sure_of bytes_of text_of beside edition e found.0 checks.0))
-      (readable_entries es in_line.1 found.1 checks.1)
+      (readable_entries es found.1 checks.1)
 
   can_be_known : (listed : List (List ℕ)) (entries : List Entry) → AreCheckedIn bytes_of text_of beside edition listed entries → CanBeKnown rules entries
   can_be_known listed entries are = record {
-    once = subst (IsDistinct bytes_eq) (sym are.named) (distinct_kept (λ name. not (has_line_end name)) (each_once listed) (none_is_twice listed));
-    readable = readable_entries entries
-        (subst (λ (ns : List (List ℕ)). AllByRecursion (λ n. has_no_line_end n ≡ true) ns) (sym are.named) (kept_in_line (each_once listed)))
-        (each_found bytes_of text_of beside edition entries tt tt are.found) are.checked;
+    once = subst (IsDistinct bytes_eq) (sym are.named) (none_is_twice listed);
+    readable = readable_entries entries (each_found bytes_of text_of beside edition entries tt tt are.found) are.checked;
   }
 
 pub files_quiet_again : UpdatesAreReached → KindsNameTheirRules → AnUpdateOfFilesIsQuietNextTime

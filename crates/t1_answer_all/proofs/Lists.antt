@@ -41,18 +41,17 @@ pub named_by : (given : ListsGiven) (options : Options) (paths files excluded : 
     → (words : Words) → AreWordsOf given.texts paths files words
     → (globs : List GlobValue) → AllZip IsGlobOf excluded (map glob_of globs)
     → (looked : List (List ℕ)) → looked ≡ map string_bytes words.words.items → (left : List GlobValue) → left ≡ globs
-    → (names unsearched : List (List ℕ)) (passed_over : ℕ)
-    → AreNamed given.IsFolder given.Lists looked (map glob_of left) names unsearched passed_over
-    → AreNamedBy given options (record { names = names; unsearched = unsearched; undecoded = words.undecoded; passed_over = passed_over })
+    → (names unsearched : List (List ℕ)) → AreNamed given.IsFolder given.Lists looked (map glob_of left) names unsearched
+    → AreNamedBy given options (record { names = names; unsearched = unsearched; undecoded = words.undecoded })
 named_by given options paths files excluded paths_are files_are excluded_are words are globs globs_are looked looked_is left left_is names unsearched
-    passed_over named = record {
+    named = record {
       texts = are.texts;
       read = subst (λ (fs : List (List ℕ)). AllZip given.texts.Has fs are.texts) files_are are.read;
       globs = map glob_of globs;
       globs_are = subst (λ (es : List (List ℕ)). AllZip IsGlobOf es (map glob_of globs)) excluded_are globs_are;
       named =
-          subst (λ (ws : List (List ℕ)). AreNamed given.IsFolder given.Lists ws (map glob_of globs) names unsearched passed_over)
+          subst (λ (ws : List (List ℕ)). AreNamed given.IsFolder given.Lists ws (map glob_of globs) names unsearched)
           (looked_is ∙ are.words_are ∙ ap (λ ps. words_of ps are.texts) paths_are)
-          (subst (λ (gs : List GlobValue). AreNamed given.IsFolder given.Lists looked (map glob_of gs) names unsearched passed_over) left_is named);
+          (subst (λ (gs : List GlobValue). AreNamed given.IsFolder given.Lists looked (map glob_of gs) names unsearched) left_is named);
       undecoded_is = are.undecoded_is ∙ ap (λ ps. undecoded_of ps are.texts) paths_are;
     }

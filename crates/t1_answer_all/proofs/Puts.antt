@@ -1,10 +1,11 @@
 -- Files that are put one after another.
-use Rattle.std.proofs.Common.{◌≡◌, ◌++◌, ◌&&◌, ℕ, Bool, true, false, List, [], ◌∷◌, ap, inr, refl, subst, ◌∙◌}
+use Rattle.std.proofs.Common.{◌≡◌, ◌++◌, ◌&&◌, ℕ, Bool, true, false, List, [], ◌∷◌, Option, ap, inr, refl, subst, ◌∙◌}
 use Rattle.t1_answer_all.specs.Replacing.{IsKeptBack, PutsEach, PutsWaiversOf}
 use Rattle.t1_io.specs.Devices.{SinkState}
+use Rattle.t1_names.specs.declared.causes.Cause.{Cause}
 use Rattle.t1_waiving.specs.FontTexts.{FontText}
 
-module _ {F : Type 0} (Puts : F → F → List ℕ → List ℕ → Bool → Type 0) (Has : F → List ℕ → Bool → Type 0) (overwrites : Bool) where
+module _ {F : Type 0} (Puts : F → F → List ℕ → List ℕ → Option Cause → Type 0) (Has : F → List ℕ → Bool → Type 0) (overwrites : Bool) where
   -- the waivers of one font more
   pub each-push : (fonts : List FontText) (font : FontText) (f g h : F) (a b c : SinkState) (done one : Bool)
       → PutsEach Puts Has overwrites fonts f g a b done → PutsWaiversOf Puts Has overwrites font g h b c one

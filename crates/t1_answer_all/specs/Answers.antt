@@ -18,6 +18,7 @@ use Rattle.t1_answer_all.specs.Checking.{ChecksBy}
 use Rattle.t1_answer_all.specs.Places.{ListsGiven, Texts}
 use Rattle.t1_answer_all.specs.Replacing.{NewFileValue, ReplacementsValue, Replaces}
 use Rattle.t1_settings.specs.Finding.{Files as SettingsFiles}
+use Rattle.t1_names.specs.declared.causes.Cause.{Cause}
 
 -- ---- what is left
 
@@ -49,7 +50,7 @@ to_replace options left = record {
 pub record Store (F : Type 0) : Type 1 where
   pub calls : Calls F
   pub Expects : F → F → ℕ → Type 0
-  pub Puts : F → F → List ℕ → List ℕ → Bool → Type 0
+  pub Puts : F → F → List ℕ → List ℕ → Option Cause → Type 0
   pub Has : F → List ℕ → Bool → Type 0
 
 -- Why words request nothing is printed, or help is given.

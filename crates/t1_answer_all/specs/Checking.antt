@@ -74,7 +74,7 @@ ExpectsIf Expects false count old new = new ≡ old
 abbrev pub TellsAndChecks : {F : Type 0} → Calls F → (F → F → ℕ → Type 0) → Options → List RowValue → FontsValue → F → F → Devices → Devices
     → LeftValue → Type 0
 TellsAndChecks {F} calls Expects options rows fonts files files' old new left =
-    (behind : SinkState) × IsTold (unlisted_text fonts.undecoded fonts.passed_over fonts.unsearched) old.errors behind
+    (behind : SinkState) × IsTold (unlisted_text fonts.undecoded fonts.unsearched) old.errors behind
     × (begun : F) × ExpectsIf Expects (not (is_quiet options fonts)) (length fonts.names) files begun
     × ChecksOver (files_by calls (beside_of options.waivers) begun files') options rows fonts (record { out = old.out; errors = behind }) new left
 

@@ -1,12 +1,12 @@
 -- The file of known faults, as the options name it.
 use Rattle.std.specs.Prelude.{◌≡◌, ◌⊎◌, ℕ, List, [], string_bytes}
-use Rattle.std.specs.declared.io.ErrorKind.{ErrorKind}
-use Rattle.std.specs.declared.io.ErrorKind.TheVariants.{NotFound}
 use Rattle.t1_known.specs.Reads.{HasKeyTwice, HasNoRow}
 use Rattle.t1_options.specs.declared.asked.KnownFaults.{KnownFaults}
 use Rattle.t1_options.specs.declared.asked.KnownFaults.TheVariants.{Anew, Beyond, Unnamed}
 use Rattle.t1_answer_all.specs.Places.{Texts}
 use Rattle.t1_answer_all.specs.Usage.{no_row_text, two_rows_text, unreadable_text}
+use Rattle.t1_names.specs.declared.causes.Cause.{Cause}
+use Rattle.t1_names.specs.declared.causes.Cause.TheVariants.{NoFile}
 
 -- Its text: empty where none is named, or where one is made that isn't there yet.
 abbrev pub IsKnownText : Texts → KnownFaults → List ℕ → Type 0
@@ -18,10 +18,10 @@ IsKnownText texts (Anew file) text = texts.Has (string_bytes file) text ⊎ (tex
 abbrev pub IsNotKnownText : Texts → KnownFaults → List ℕ → Type 0
 IsNotKnownText texts Unnamed told = ⊥
 IsNotKnownText texts (Beyond file) told =
-    (cause : ErrorKind) × (texts.CannotRead (string_bytes file) cause ⊎ (texts.HasNone (string_bytes file) × (cause ≡ NotFound)))
+    (cause : Cause) × (texts.CannotRead (string_bytes file) cause ⊎ (texts.HasNone (string_bytes file) × (cause ≡ NoFile)))
     × (told ≡ unreadable_text (string_bytes file) cause)
 IsNotKnownText texts (Anew file) told =
-    (cause : ErrorKind) × texts.CannotRead (string_bytes file) cause × (told ≡ unreadable_text (string_bytes file) cause)
+    (cause : Cause) × texts.CannotRead (string_bytes file) cause × (told ≡ unreadable_text (string_bytes file) cause)
 
 -- The name of the file: empty where none is named.
 abbrev pub file_of : KnownFaults → List ℕ
@@ -31,5 +31,5 @@ file_of (Anew file) = string_bytes file
 
 -- The text of a file has no known faults, and this is printed of the first line that is wrong.
 pub data IsWrong (file text told : List ℕ) : Type 0 where
-  no_row : (line : List ℕ) → HasNoRow text line → told ≡ no_row_text file line → IsWrong file text told
-  two_rows : (line : List ℕ) → HasKeyTwice text line → told ≡ two_rows_text file line → IsWrong file text told
+  no_row : (number : ℕ) → (line : List ℕ) → HasNoRow text number line → told ≡ no_row_text file number line → IsWrong file text told
+  two_rows : (number : ℕ) → (line : List ℕ) → HasKeyTwice text number line → told ≡ two_rows_text file number line → IsWrong file text told

@@ -1,5 +1,5 @@
 -- The statements of laws.
-use Rattle.std.specs.Prelude.{◌≡◌, ◌⊎◌, ◌<◌, ℕ, List, [], length, map, Option, None, Some, Ok}
+use Rattle.std.specs.Prelude.{◌≡◌, ◌⊎◌, ◌<◌, ℕ, List, [], length, map, Option, None, Some, Result, Ok, Err}
 use Rattle.std.specs.List.{AllByRecursion, IsDistinct}
 use Rattle.std.specs.Str.{bytes_eq}
 use Rattle.t1_batch.specs.Endings.{mismatches_text}
@@ -14,16 +14,17 @@ use Rattle.t1_many.specs.Calls.{Calls}
 use Rattle.t1_many.specs.Ends.{AreChecked}
 use Rattle.t1_many.specs.Handing.{found_of}
 use Rattle.t1_many.specs.KnownFaults.{RowValue, file_text, updated}
-use Rattle.t1_many.specs.Outcomes.{Entry, Outcome, failed, found_of_failure, reported}
+use Rattle.t1_many.specs.Outcomes.{Entry, Outcome, failed, found_of_error, reported}
 use Rattle.t1_many.specs.Told.{all_handed}
 use Rattle.t1_many.specs.declared.font_files.WaiverFiles.{WaiverFiles}
-use Rattle.t1_names.specs.Named.{one_line_names}
 use Rattle.t1_names.specs.Once.{each_once}
 use Rattle.t1_rules.specs.Book.{code_of, number_of}
 use Rattle.t1_rules.specs.Mask.{has}
 use Rattle.t1_rules.specs.declared.mask.Mask.{Mask}
 use Rattle.t1_rules.specs.declared.rule.Rule.{Rule}
-use Rattle.t1_run.specs.declared.failure.Failure.TheVariants.{Broken, Memory, Refused}
+use Rattle.t1_many.specs.declared.font_error.FontError.TheVariants.{Refused, Unchecked}
+use Rattle.t1_many.specs.declared.font_error.Obstacle.TheVariants.{LineEnd, Memory, Unread, WaiversUnread}
+use Rattle.t1_names.specs.declared.causes.Cause.{Cause}
 use Rattle.t1_summary.specs.declared.found.Found.{Found}
 use Rattle.t1_summary.specs.declared.found.Found.TheVariants.{Clean, Known}
 
@@ -39,7 +40,7 @@ pub record CanBeKnown (rules : Mask) (entries : List Entry) : Type 0 where
 -- A font is clean or has known faults alone; of one without a report it is said why there is none.
 abbrev pub IsQuietFont : Outcome → Found → Type 0
 IsQuietFont (reported report) found = (found ≡ Clean) ⊎ (found ≡ Known)
-IsQuietFont (failed reason) found = found ≡ found_of_failure reason
+IsQuietFont (failed reason) found = found ≡ found_of_error reason
 
 -- No line of a report is handed on, no row is reported as another number, and no font is reported as one with faults.
 pub record IsQuiet (choice : Choice) (rules : Mask) (known : List RowValue) (entries : List Entry) : Type 0 where
@@ -58,15 +59,15 @@ AnUpdateIsQuietNextTime =
 -- ---- over files
 
 -- The file of a font of this name holds these bytes, if it can be opened. No file has the empty name.
-abbrev pub HoldsFont : List ℕ → List ℕ → Option SourceState → Type 0
-HoldsFont bytes name None = Unit {0}
-HoldsFont bytes name (Some source) = (0 < length name) × (source.left ≡ Some bytes)
+abbrev pub HoldsFont : List ℕ → List ℕ → Result SourceState Cause → Type 0
+HoldsFont bytes name (Err cause) = Unit {0}
+HoldsFont bytes name (Ok source) = (0 < length name) × (source.left ≡ Some bytes)
 
 -- A font has this text of waivers, or none.
-abbrev pub HoldsWaivers : Option (List ℕ) → Option (Option SourceState) → Type 0
+abbrev pub HoldsWaivers : Option (List ℕ) → Option (Result SourceState Cause) → Type 0
 HoldsWaivers held None = held ≡ None
-HoldsWaivers held (Some None) = Unit {0}
-HoldsWaivers held (Some (Some waivers)) = (text : List ℕ) × (held ≡ Some text) × (waivers.left ≡ Some text)
+HoldsWaivers held (Some (Err cause)) = Unit {0}
+HoldsWaivers held (Some (Ok waivers)) = (text : List ℕ) × (held ≡ Some text) × (waivers.left ≡ Some text)
 
 -- Files that hold these bytes by their names, and some of whose fonts have these texts of waivers. No call changes them.
 abbrev pub holding : (List ℕ → List ℕ) → (List ℕ → Option (List ℕ)) → Calls (Unit {0})
@@ -77,17 +78,19 @@ holding bytes_of text_of = record {
   LeavesWaivers = λ old new name waivers. Unit {0};
 }
 
--- A font was read or refused. Else a read or an allocation failed, and the status is 3.
+-- A font was read or refused, or its name has a line end. Else a read or an allocation failed, which another check may not meet.
 abbrev pub IsChecked : Outcome → Type 0
 IsChecked (reported report) = Unit {0}
 IsChecked (failed (Refused code)) = Unit {0}
-IsChecked (failed Broken) = ⊥
-IsChecked (failed Memory) = ⊥
+IsChecked (failed (Unchecked LineEnd)) = Unit {0}
+IsChecked (failed (Unchecked (Unread cause))) = ⊥
+IsChecked (failed (Unchecked (WaiversUnread cause))) = ⊥
+IsChecked (failed (Unchecked Memory)) = ⊥
 
 -- The fonts of a list were checked in such files.
 pub record AreCheckedIn (bytes_of : List ℕ → List ℕ) (text_of : List ℕ → Option (List ℕ)) (beside : WaiverFiles) (edition : Edition)
     (listed : List (List ℕ)) (entries : List Entry) : Type 0 where
-  pub named : map (λ entry. entry.name) entries ≡ one_line_names (each_once listed)
+  pub named : map (λ entry. entry.name) entries ≡ each_once listed
   pub found : AreChecked (holding bytes_of text_of) beside edition tt tt entries
   pub checked : AllByRecursion (λ entry. IsChecked entry.outcome) entries
 

@@ -19,19 +19,17 @@ pub record FontsValue : Type 0 where
   pub names : List (List ℕ)
   pub unsearched : List (List ℕ)
   pub undecoded : ℕ
-  pub passed_over : ℕ
 
 abbrev pub fonts_value : Fonts → FontsValue
 fonts_value fonts = record {
   names = map string_bytes fonts.names.items;
   unsearched = map string_bytes fonts.unsearched.items;
   undecoded = fonts.undecoded;
-  passed_over = fonts.passed_over;
 }
 
 -- What is reported of it.
 abbrev pub unlisted_of : FontsValue → List ToldValue
-unlisted_of fonts = unlisted_told fonts.undecoded fonts.passed_over fonts.unsearched
+unlisted_of fonts = unlisted_told fonts.undecoded fonts.unsearched
 
 -- The glob that a text is.
 abbrev pub IsGlobOf : List ℕ → Glob → Type 0
@@ -44,7 +42,7 @@ pub record AreNamedBy (given : ListsGiven) (options : Options) (fonts : FontsVal
   pub globs : List Glob
   pub globs_are : AllZip IsGlobOf (map string_bytes options.exclude.items) globs
   pub named :
-      AreNamed given.IsFolder given.Lists (words_of (map string_bytes options.paths.items) texts) globs fonts.names fonts.unsearched fonts.passed_over
+      AreNamed given.IsFolder given.Lists (words_of (map string_bytes options.paths.items) texts) globs fonts.names fonts.unsearched
   pub undecoded_is : fonts.undecoded ≡ undecoded_of (map string_bytes options.paths.items) texts
 
 -- The part of a list that is checked. A shard of options is one of its parts.

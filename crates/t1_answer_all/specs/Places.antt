@@ -4,8 +4,9 @@ use Rattle.std.specs.Global.{Global}
 use Rattle.std.specs.declared.alloc.AllocError.{AllocError}
 use Rattle.std.specs.IoError.{error_kind}
 use Rattle.std.specs.declared.io.Error.{Error}
-use Rattle.std.specs.declared.io.ErrorKind.{ErrorKind}
 use Rattle.std.specs.declared.vec.Vec.{Vec}
+use Rattle.t1_names.specs.Causes.{cause_of}
+use Rattle.t1_names.specs.declared.causes.Cause.{Cause}
 use Rattle.t1_names.specs.declared.folders.Listing.{Listing}
 
 -- Files with a text, by their names.
@@ -13,7 +14,7 @@ pub record Texts : Type 1 where
   -- A file has this text.
   pub Has : List ℕ → List ℕ → Type 0
   -- It can't be read, for this cause.
-  pub CannotRead : List ℕ → ErrorKind → Type 0
+  pub CannotRead : List ℕ → Cause → Type 0
   -- There is no such file.
   pub HasNone : List ℕ → Type 0
 
@@ -27,7 +28,7 @@ pub record ListsGiven : Type 1 where
 abbrev pub texts_by : (List ℕ → Result (Vec ℕ Global) Error → Type 0) → Texts
 texts_by Gives = record {
   Has = λ name text. (bytes : Vec ℕ Global) × Gives name (Ok bytes) × (bytes.items ≡ text);
-  CannotRead = λ name cause. (error : Error) × Gives name (Err error) × (error_kind error ≡ cause);
+  CannotRead = λ name cause. (error : Error) × Gives name (Err error) × (cause_of (error_kind error) ≡ cause);
   HasNone = λ name. ⊥;
 }
 
@@ -35,7 +36,7 @@ texts_by Gives = record {
 abbrev pub known_by : (List ℕ → Option (Result (Vec ℕ Global) Error) → Type 0) → Texts
 known_by Gives = record {
   Has = λ name text. (bytes : Vec ℕ Global) × Gives name (Some (Ok bytes)) × (bytes.items ≡ text);
-  CannotRead = λ name cause. (error : Error) × Gives name (Some (Err error)) × (error_kind error ≡ cause);
+  CannotRead = λ name cause. (error : Error) × Gives name (Some (Err error)) × (cause_of (error_kind error) ≡ cause);
   HasNone = λ name. Gives name None;
 }
 

@@ -1,5 +1,5 @@
 -- Files that are replaced once all was printed.
-use Rattle.std.specs.Prelude.{◌≡◌, ◌⊎◌, ◌++◌, ◌&&◌, ℕ, Bool, true, false, List, [], ◌∷◌, codes, Option, None, Some, option_map, string_bytes, if◌then◌else◌}
+use Rattle.std.specs.Prelude.{◌≡◌, ◌⊎◌, ◌++◌, ◌&&◌, ℕ, Bool, true, false, List, [], ◌∷◌, codes, Option, None, Some, option_map, Result, Ok, Err, string_bytes, if◌then◌else◌}
 use Rattle.std.specs.List.{concat}
 use Rattle.t1_answer_all.specs.declared.replacing.NewFile.{NewFile}
 use Rattle.t1_answer_all.specs.declared.replacing.Replacements.{Replacements}
@@ -10,6 +10,10 @@ use Rattle.t1_run.specs.Telling.{Tells}
 use Rattle.t1_run.specs.declared.status.Status.{Status}
 use Rattle.t1_run.specs.declared.status.Status.TheVariants.{Failed}
 use Rattle.t1_waiving.specs.FontTexts.{FontText}
+use Rattle.t1_names.specs.Causes.{cause_of, cause_text}
+use Rattle.t1_names.specs.declared.causes.Cause.{Cause}
+use Rattle.std.specs.IoError.{error_kind}
+use Rattle.std.specs.declared.io.Error.{Error}
 
 -- A file that is to be replaced.
 pub record NewFileValue : Type 0 where
@@ -34,10 +38,18 @@ replacements_value left = record {
   overwrites = left.overwrites;
 }
 
+-- Why a text couldn't be put in the place of a file, if it couldn't.
+abbrev pub put_failure : Result (Unit {0}) Error → Option Cause
+put_failure (Ok done) = None
+put_failure (Err error) = Some (cause_of (error_kind error))
+
 -- ---- what is printed
 
-abbrev pub unwritten_line : List ℕ → List ℕ
-unwritten_line name = concat (program ∷ codes ": " ∷ name ∷ codes " can't be written\n" ∷ [])
+abbrev pub unwritten_text : List ℕ → List ℕ → List ℕ
+unwritten_text name cause = concat (program ∷ codes ": " ∷ name ∷ codes " can't be written" ∷ cause ∷ codes "\n" ∷ [])
+
+abbrev pub unwritten_line : List ℕ → Cause → List ℕ
+unwritten_line name cause = unwritten_text name (cause_text cause)
 
 abbrev pub there_line : List ℕ → List ℕ
 there_line font = concat (font ∷ codes ": waivers are there already; --force overwrites them\n" ∷ [])
@@ -48,16 +60,16 @@ TellsFailure text errors errors' = (status : Status) × Tells text Failed errors
 
 -- ---- one file
 
--- A text was put in the place of a file; or that failed, which is printed.
-pub data PutsFile {F : Type 0} (Puts : F → F → List ℕ → List ℕ → Bool → Type 0) (name text : List ℕ) (old new : F) (errors errors' : SinkState)
+-- A text was put in the place of a file; or that failed, which is printed with the cause.
+pub data PutsFile {F : Type 0} (Puts : F → F → List ℕ → List ℕ → Option Cause → Type 0) (name text : List ℕ) (old new : F) (errors errors' : SinkState)
     (done : Bool) : Type 0 where
-  put : Puts old new name text true → errors' ≡ errors → done ≡ true → PutsFile Puts name text old new errors errors' done
+  put : Puts old new name text None → errors' ≡ errors → done ≡ true → PutsFile Puts name text old new errors errors' done
   unwritten :
-      Puts old new name text false → TellsFailure (unwritten_line name) errors errors' → done ≡ false
+      (cause : Cause) → Puts old new name text (Some cause) → TellsFailure (unwritten_line name cause) errors errors' → done ≡ false
       → PutsFile Puts name text old new errors errors' done
 
 -- The file of known faults, if it is to be replaced.
-abbrev pub PutsKnownFaults : {F : Type 0} → (F → F → List ℕ → List ℕ → Bool → Type 0) → Option NewFileValue → F → F → SinkState → SinkState → Bool
+abbrev pub PutsKnownFaults : {F : Type 0} → (F → F → List ℕ → List ℕ → Option Cause → Type 0) → Option NewFileValue → F → F → SinkState → SinkState → Bool
     → Type 0
 PutsKnownFaults Puts None old new errors errors' done = (new ≡ old) × (errors' ≡ errors) × (done ≡ true)
 PutsKnownFaults Puts (Some file) old new errors errors' done = PutsFile Puts file.name file.text old new errors errors' done
@@ -74,7 +86,7 @@ IsKeptBack Has overwrites files name true = (overwrites ≡ false) × Has files 
 IsKeptBack Has overwrites files name false = (overwrites ≡ true) ⊎ Has files name false
 
 -- The waivers of a font are put into their file; or they are kept back, or memory runs out, and that is printed.
-pub data TriesToPut {F : Type 0} (Puts : F → F → List ℕ → List ℕ → Bool → Type 0) (Has : F → List ℕ → Bool → Type 0) (overwrites : Bool)
+pub data TriesToPut {F : Type 0} (Puts : F → F → List ℕ → List ℕ → Option Cause → Type 0) (Has : F → List ℕ → Bool → Type 0) (overwrites : Bool)
     (font text : List ℕ) (old new : F) (errors errors' : SinkState) (done : Bool) : Type 0 where
   tried :
       IsKeptBack Has overwrites old (waivers_name font) false → PutsFile Puts (waivers_name font) text old new errors errors' done
@@ -87,24 +99,24 @@ pub data TriesToPut {F : Type 0} (Puts : F → F → List ℕ → List ℕ → B
       → TriesToPut Puts Has overwrites font text old new errors errors' done
 
 -- Of a font with too many waivers none is written.
-abbrev pub PutsText : {F : Type 0} → (F → F → List ℕ → List ℕ → Bool → Type 0) → (F → List ℕ → Bool → Type 0) → Bool → List ℕ → Option (List ℕ)
+abbrev pub PutsText : {F : Type 0} → (F → F → List ℕ → List ℕ → Option Cause → Type 0) → (F → List ℕ → Bool → Type 0) → Bool → List ℕ → Option (List ℕ)
     → F → F → SinkState → SinkState → Bool → Type 0
 PutsText Puts Has overwrites font None old new errors errors' done = (new ≡ old) × (errors' ≡ errors) × (done ≡ true)
 PutsText Puts Has overwrites font (Some text) old new errors errors' done = TriesToPut Puts Has overwrites font text old new errors errors' done
 
-abbrev pub PutsWaiversOf : {F : Type 0} → (F → F → List ℕ → List ℕ → Bool → Type 0) → (F → List ℕ → Bool → Type 0) → Bool → FontText → F → F
+abbrev pub PutsWaiversOf : {F : Type 0} → (F → F → List ℕ → List ℕ → Option Cause → Type 0) → (F → List ℕ → Bool → Type 0) → Bool → FontText → F → F
     → SinkState → SinkState → Bool → Type 0
 PutsWaiversOf Puts Has overwrites font old new errors errors' done = PutsText Puts Has overwrites font.name font.text old new errors errors' done
 
 -- Those of fonts, one after another, whatever failed before.
-abbrev pub PutsEach : {F : Type 0} → (F → F → List ℕ → List ℕ → Bool → Type 0) → (F → List ℕ → Bool → Type 0) → Bool → List FontText → F → F
+abbrev pub PutsEach : {F : Type 0} → (F → F → List ℕ → List ℕ → Option Cause → Type 0) → (F → List ℕ → Bool → Type 0) → Bool → List FontText → F → F
     → SinkState → SinkState → Bool → Type 0
 PutsEach Puts Has overwrites [] old new errors errors' done = (new ≡ old) × (errors' ≡ errors) × (done ≡ true)
 PutsEach {F} Puts Has overwrites (font ∷ fonts) old new errors errors' done =
     (next : F) × (behind : SinkState) × (one others : Bool) × PutsWaiversOf Puts Has overwrites font old next errors behind one
     × PutsEach Puts Has overwrites fonts next new behind errors' others × (done ≡ (one && others))
 
-abbrev pub PutsWaivers : {F : Type 0} → (F → F → List ℕ → List ℕ → Bool → Type 0) → (F → List ℕ → Bool → Type 0) → Bool → Option (List FontText)
+abbrev pub PutsWaivers : {F : Type 0} → (F → F → List ℕ → List ℕ → Option Cause → Type 0) → (F → List ℕ → Bool → Type 0) → Bool → Option (List FontText)
     → F → F → SinkState → SinkState → Bool → Type 0
 PutsWaivers Puts Has overwrites None old new errors errors' done = (new ≡ old) × (errors' ≡ errors) × (done ≡ true)
 PutsWaivers Puts Has overwrites (Some fonts) old new errors errors' done = PutsEach Puts Has overwrites fonts old new errors errors' done
@@ -116,7 +128,7 @@ status_if done status = if done then status else Failed
 
 -- The file of known faults is replaced, if it is left to be, and the waivers are written that are left to be: no other file is touched. Where
 -- something failed, that is printed, and the status is that of a failure.
-pub record Replaces {F : Type 0} (Puts : F → F → List ℕ → List ℕ → Bool → Type 0) (Has : F → List ℕ → Bool → Type 0) (left : ReplacementsValue)
+pub record Replaces {F : Type 0} (Puts : F → F → List ℕ → List ℕ → Option Cause → Type 0) (Has : F → List ℕ → Bool → Type 0) (left : ReplacementsValue)
     (old new : F) (errors errors' : SinkState) (status : Status) : Type 0 where
   pub between : F
   pub behind : SinkState

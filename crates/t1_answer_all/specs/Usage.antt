@@ -1,23 +1,14 @@
 -- What is wrong with the use of the program, as it is printed.
-use Rattle.std.specs.Prelude.{◌++◌, ℕ, List, [], codes, string_bytes}
+use Rattle.std.specs.Prelude.{◌++◌, ℕ, List, codes, string_bytes}
+use Rattle.std.specs.Fmt.{decimal}
 use Rattle.std.specs.Str.Lossy.{utf8_lossy}
-use Rattle.std.specs.declared.io.ErrorKind.{ErrorKind}
-use Rattle.std.specs.declared.io.ErrorKind.TheVariants as kinds
+use Rattle.t1_names.specs.Causes.{cause_text}
+use Rattle.t1_names.specs.declared.causes.Cause.{Cause}
 use Rattle.t1_run.specs.declared.usage.UsageError.{UsageError}
 use Rattle.t1_run.specs.declared.usage.UsageError.TheVariants.{Help, Memory, Usage}
 
--- What is said of a cause: nothing where its name says no more.
-abbrev pub cause_text : ErrorKind → List ℕ
-cause_text kinds.NotFound = codes ": no such file is found"
-cause_text kinds.PermissionDenied = codes ": permission is denied"
-cause_text kinds.IsADirectory = codes ": it is a folder"
-cause_text kinds.NotADirectory = codes ": a part of its name is no folder"
-cause_text kinds.InvalidInput = codes ": it is no regular file"
-cause_text kinds.OutOfMemory = codes ": out of memory"
-cause_text _ = []
-
 -- A file can't be read, for this cause.
-abbrev pub unreadable_text : List ℕ → ErrorKind → List ℕ
+abbrev pub unreadable_text : List ℕ → Cause → List ℕ
 unreadable_text file cause =
     codes "t1check-all: "
     ++ (file ++ (codes " can't be read" ++ (cause_text cause ++ codes "\nt1check-all: 't1check-all --help' says how it is used\n")))
@@ -26,16 +17,17 @@ unreadable_text file cause =
 abbrev pub no_font_text : List ℕ
 no_font_text = codes "t1check-all: there is no font to check\nt1check-all: 't1check-all --help' says how it is used\n"
 
--- What is wrong with a line of a file. What isn't UTF-8 in it is printed as U+FFFD.
-abbrev pub line_text : List ℕ → List ℕ → List ℕ → List ℕ
-line_text file wrong line = codes "t1check-all: " ++ (file ++ (wrong ++ (utf8_lossy line ++ codes "\n")))
+-- What is wrong with the line of this number, from 1, in a file. What isn't UTF-8 in it is printed as U+FFFD.
+abbrev pub line_text : List ℕ → ℕ → List ℕ → List ℕ → List ℕ
+line_text file number wrong line =
+    codes "t1check-all: " ++ (file ++ (codes ": line " ++ (decimal number ++ (wrong ++ (utf8_lossy line ++ codes "\n")))))
 
 -- A line of a file of known faults is no row, or one that is there already.
-abbrev pub no_row_text : List ℕ → List ℕ → List ℕ
-no_row_text file line = line_text file (codes ": no row of known faults: ") line
+abbrev pub no_row_text : List ℕ → ℕ → List ℕ → List ℕ
+no_row_text file number line = line_text file number (codes ": no row of known faults: ") line
 
-abbrev pub two_rows_text : List ℕ → List ℕ → List ℕ
-two_rows_text file line = line_text file (codes ": two rows of known faults: ") line
+abbrev pub two_rows_text : List ℕ → ℕ → List ℕ → List ℕ
+two_rows_text file number line = line_text file number (codes ": two rows of known faults: ") line
 
 -- A text of which this is so is printed; or memory ran out.
 abbrev pub IsToldSo : (List ℕ → Type 0) → UsageError → Type 0

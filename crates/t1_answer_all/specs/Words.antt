@@ -1,11 +1,11 @@
 -- The words that name fonts and folders.
 use Rattle.std.specs.Prelude.{◌≡◌, ◌+◌, ◌-◌, ◌^◌, ◌++◌, ◌∷◌, ℕ, not, List, count_by, filter, min}
 use Rattle.std.specs.List.{AllZip, flat_map, sum_by}
-use Rattle.std.specs.declared.io.ErrorKind.{ErrorKind}
 use Rattle.t1_names.specs.Lists.{unreadable_in, words_in}
 use Rattle.t1_options.specs.Values.{is_marked}
 use Rattle.t1_answer_all.specs.Places.{Texts}
 use Rattle.t1_answer_all.specs.Usage.{unreadable_text}
+use Rattle.t1_names.specs.declared.causes.Cause.{Cause}
 
 -- The words of the command line that are UTF-8, and how many aren't.
 abbrev pub given_words : List (List ℕ) → List (List ℕ)
@@ -30,6 +30,6 @@ pub record CannotReadOne (lists : Texts) (files : List (List ℕ)) (told : List 
   pub split : files ≡ before ++ file ∷ after
   pub texts : List (List ℕ)
   pub read : AllZip lists.Has before texts
-  pub cause : ErrorKind
+  pub cause : Cause
   pub unread : lists.CannotRead file cause
   pub told_is : told ≡ unreadable_text file cause

@@ -8,9 +8,8 @@ ghost use Rattle.t1_known.specs.Reads.{IsReadAs};
 
 use crate::usage::{no_row, two_rows, unreadable};
 use std::alloc::Global;
-use std::io::ErrorKind;
 use t1_known::{KnownFaults, NotKnown};
-use t1_names::FileSystem;
+use t1_names::{Cause, FileSystem};
 use t1_options::KnownFaults as File;
 use t1_run::UsageError;
 
@@ -27,12 +26,12 @@ pub(crate) fn text_of_known<F: FileSystem>(
         File::Unnamed => Ok(Vec::new(alloc)),
         File::Beyond(name) => match files.text(name.as_str()) {
             Some(Ok(text)) => Ok(text),
-            Some(Err(error)) => Err(unreadable(alloc, name.as_str(), error.kind())),
-            None => Err(unreadable(alloc, name.as_str(), ErrorKind::NotFound)),
+            Some(Err(error)) => Err(unreadable(alloc, name.as_str(), Cause::of(&error))),
+            None => Err(unreadable(alloc, name.as_str(), Cause::NoFile)),
         },
         File::Anew(name) => match files.text(name.as_str()) {
             Some(Ok(text)) => Ok(text),
-            Some(Err(error)) => Err(unreadable(alloc, name.as_str(), error.kind())),
+            Some(Err(error)) => Err(unreadable(alloc, name.as_str(), Cause::of(&error))),
             None => Ok(Vec::new(alloc)),
         },
     }

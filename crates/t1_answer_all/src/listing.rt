@@ -24,20 +24,16 @@ pub(crate) struct Fonts {
     pub(crate) unsearched: Vec<String>,
     /// How many names aren't UTF-8; 2^64 - 1 where there are more.
     pub(crate) undecoded: usize,
-    /// How many names have a line end, and so can't be in a line.
-    pub(crate) passed_over: usize,
 }
 
 impl Fonts {
     /// What couldn't be listed.
     pub(crate) fn unlisted(&self) -> Unlisted<'_>
         ensures undecoded { result.undecoded ≡ self.now.undecoded }
-        ensures passed_over { result.passed_over ≡ self.now.passed_over }
         ensures unsearched { map string_bytes result.unsearched.now ≡ map string_bytes self.now.unsearched.items }
     {
         Unlisted {
             undecoded: self.undecoded,
-            passed_over: self.passed_over,
             unsearched: self.unsearched.as_slice(),
         }
     }
@@ -68,7 +64,6 @@ pub(crate) fn fonts_of<F: FileSystem>(
         names: part_of(alloc, named.names, options.shard)?,
         unsearched: named.unsearched,
         undecoded: words.undecoded,
-        passed_over: named.passed_over,
     })
 }
 

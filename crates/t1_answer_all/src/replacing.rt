@@ -1,14 +1,16 @@
 //! Files that are replaced once all was printed.
 
-ghost use Rattle.std.specs.Prelude.{◌≡◌, ℕ, IfOk, List, Bool, map, option_map, string_bytes};
-ghost use Rattle.std.specs.Result.{is_ok};
-ghost use Rattle.t1_answer_all.specs.Replacing.{IsKeptBack, PutsEach, PutsFile, PutsKnownFaults, PutsWaivers, PutsWaiversOf, Replaces, TriesToPut, new_file_value, replacements_value, status_if, waivers_name};
+ghost use Rattle.std.specs.Prelude.{◌≡◌, ℕ, IfOk, List, Bool, Option, map, option_map, string_bytes};
+ghost use Rattle.t1_answer_all.specs.Replacing.{IsKeptBack, PutsEach, PutsFile, PutsKnownFaults, PutsWaivers, PutsWaiversOf, Replaces, TriesToPut, new_file_value, put_failure, replacements_value, status_if, unwritten_text, waivers_name};
+ghost use Rattle.t1_names.specs.declared.causes.Cause.{Cause};
+ghost use Rattle.t1_run.specs.Telling.{Tells};
 ghost use Rattle.t1_waiving.specs.FontTexts.{font_text};
 
 use std::alloc::{AllocError, Global};
 use std::io;
 use t1_batch::PROGRAM;
 use t1_io::Sink;
+use t1_names::Cause;
 use t1_run::{Failure, Status, tell_failure, tell_parts};
 use t1_waiving::{FontWaivers, Kept};
 
@@ -17,8 +19,8 @@ pub trait FileStore {
     // So many fonts are checked from now on.
     ghost expects: { Self → Self → ℕ → Type 0 };
 
-    // A text was put in the place of a file, or that failed.
-    ghost puts: { Self → Self → List ℕ → List ℕ → Bool → Type 0 };
+    // A text was put in the place of a file, or that failed for a cause.
+    ghost puts: { Self → Self → List ℕ → List ℕ → Option Cause → Type 0 };
 
     // There is a file of this name, or there is none.
     ghost has: { Self → List ℕ → Bool → Type 0 };
@@ -29,7 +31,7 @@ pub trait FileStore {
 
     /// Puts a text in the place of a file.
     fn replace(&mut self, name: &str, text: &[u8]) -> io::Result<()>
-        ensures { puts self.old self.new name.now text.now (is_ok result) };
+        ensures { puts self.old self.new name.now text.now (put_failure result) };
 
     /// Whether there is a file of this name.
     fn is_there(&self, name: &str) -> bool
@@ -205,15 +207,27 @@ fn put_file<F: FileStore, E: Sink>(name: &str, text: &[u8], files: &mut F, error
 {
     match files.replace(name, text) {
         Ok(()) => true,
-        Err(_) => {
-            let parts = [
-                PROGRAM.as_bytes(),
-                b": ",
-                name.as_bytes(),
-                b" can't be written\n",
-            ];
-            tell_parts(errors, &parts, Status::Failed);
+        Err(error) => {
+            tell_unwritten(name, Cause::of(&error).text(), errors);
             false
         }
     }
+}
+
+/// Prints that a file can't be written, and why.
+fn tell_unwritten<'a, E: Sink>(name: &'a str, cause: &'a str, errors: &mut E) -> Status
+    ensures { Tells (unwritten_text name.now cause.now) Status.Failed (E.state errors.old) (E.state errors.new) result }
+{
+    tell_parts(
+        errors,
+        &[
+            PROGRAM.as_bytes(),
+            b": ",
+            name.as_bytes(),
+            b" can't be written",
+            cause.as_bytes(),
+            b"\n",
+        ],
+        Status::Failed,
+    )
 }

@@ -2,14 +2,15 @@
 
 ghost use Rattle.std.specs.Prelude.{◌≡◌, IfOk, string_bytes};
 ghost use Rattle.t1_answer_all.specs.Private.Usage.{IsToldOrMemory, IsUsageOf};
-ghost use Rattle.t1_answer_all.specs.Usage.{cause_text, line_text, no_font_text, no_row_text, two_rows_text, unreadable_text};
+ghost use Rattle.t1_answer_all.specs.Usage.{line_text, no_font_text, no_row_text, two_rows_text, unreadable_text};
 
 use std::alloc::{AllocError, Global};
-use std::io::ErrorKind;
+use t1_known::Line;
+use t1_names::Cause;
 use t1_run::UsageError;
 
 /// A file can't be read, for this cause.
-pub(crate) fn unreadable(alloc: Global, file: &str, cause: ErrorKind) -> UsageError
+pub(crate) fn unreadable(alloc: Global, file: &str, cause: Cause) -> UsageError
     ensures { IsToldOrMemory (unreadable_text file.now cause) result }
 {
     usage_of(unreadable_text(alloc, file, cause))
@@ -23,17 +24,17 @@ pub(crate) fn no_font(alloc: Global) -> UsageError
 }
 
 /// A line of a file of known faults is no row.
-pub(crate) fn no_row(alloc: Global, file: &str, line: &[u8]) -> UsageError
-    ensures { IsToldOrMemory (no_row_text file.now line.now) result }
+pub(crate) fn no_row(alloc: Global, file: &str, line: Line<'_>) -> UsageError
+    ensures { IsToldOrMemory (no_row_text file.now line.entry.number line.entry.text.now) result }
 {
-    usage_of(line_text(alloc, file, ": no row of known faults: ", line))
+    usage_of(line_text(alloc, file, line, ": no row of known faults: "))
 }
 
 /// A row of a file of known faults is there already.
-pub(crate) fn two_rows(alloc: Global, file: &str, line: &[u8]) -> UsageError
-    ensures { IsToldOrMemory (two_rows_text file.now line.now) result }
+pub(crate) fn two_rows(alloc: Global, file: &str, line: Line<'_>) -> UsageError
+    ensures { IsToldOrMemory (two_rows_text file.now line.entry.number line.entry.text.now) result }
 {
-    usage_of(line_text(alloc, file, ": two rows of known faults: ", line))
+    usage_of(line_text(alloc, file, line, ": two rows of known faults: "))
 }
 
 /// A text that is printed, if memory didn't run out.
@@ -46,30 +47,15 @@ fn usage_of(text: Result<String, AllocError>) -> UsageError
     }
 }
 
-fn unreadable_text(alloc: Global, file: &str, cause: ErrorKind) -> Result<String, AllocError>
+fn unreadable_text(alloc: Global, file: &str, cause: Cause) -> Result<String, AllocError>
     ensures { IfOk result (λ text. string_bytes text ≡ unreadable_text file.now cause) }
 {
     let mut text = String::from_str(alloc, "t1check-all: ")?;
     text.push_str(file)?;
     text.push_str(" can't be read")?;
-    text.push_str(cause_text(cause))?;
+    text.push_str(cause.text())?;
     text.push_str("\nt1check-all: 't1check-all --help' says how it is used\n")?;
     Ok(text)
-}
-
-/// What is said of a cause: nothing where its name says no more.
-fn cause_text(cause: ErrorKind) -> &'static str
-    ensures { result.now ≡ cause_text cause }
-{
-    match cause {
-        ErrorKind::NotFound => ": no such file is found",
-        ErrorKind::PermissionDenied => ": permission is denied",
-        ErrorKind::IsADirectory => ": it is a folder",
-        ErrorKind::NotADirectory => ": a part of its name is no folder",
-        ErrorKind::InvalidInput => ": it is no regular file",
-        ErrorKind::OutOfMemory => ": out of memory",
-        _ => "",
-    }
 }
 
 fn no_font_text(alloc: Global) -> Result<String, AllocError>
@@ -82,14 +68,17 @@ fn no_font_text(alloc: Global) -> Result<String, AllocError>
 }
 
 /// What is wrong with a line of a file. What isn't UTF-8 in it is printed as U+FFFD.
-fn line_text(alloc: Global, file: &str, wrong: &str, line: &[u8]) -> Result<String, AllocError>
-    ensures { IfOk result (λ text. string_bytes text ≡ line_text file.now wrong.now line.now) }
+fn line_text(alloc: Global, file: &str, line: Line<'_>, wrong: &str) -> Result<String, AllocError>
+    ensures { IfOk result (λ text. string_bytes text ≡ line_text file.now line.entry.number wrong.now line.entry.text.now) }
 {
-    let line = String::from_utf8_lossy(alloc, line)?;
+    let number = line.number.to_string(alloc)?;
+    let shown = String::from_utf8_lossy(alloc, line.text)?;
     let mut text = String::from_str(alloc, "t1check-all: ")?;
     text.push_str(file)?;
+    text.push_str(": line ")?;
+    text.push_str(number.as_str())?;
     text.push_str(wrong)?;
-    text.push_str(line.as_str())?;
+    text.push_str(shown.as_str())?;
     text.push_str("\n")?;
     Ok(text)
 }

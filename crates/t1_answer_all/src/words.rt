@@ -8,7 +8,7 @@ ghost use Rattle.t1_answer_all.specs.Words.{CannotReadOne, given_words, undecode
 
 use crate::usage::unreadable;
 use std::alloc::{AllocError, Global};
-use t1_names::{FileSystem, words_in};
+use t1_names::{Cause, FileSystem, words_in};
 use t1_options::is_marked;
 use t1_run::UsageError;
 
@@ -70,7 +70,7 @@ fn text_of<F: FileSystem>(alloc: Global, list: &str, files: &F) -> Result<Vec<u8
 {
     match files.list_text(list) {
         Ok(text) => Ok(text),
-        Err(error) => Err(unreadable(alloc, list, error.kind())),
+        Err(error) => Err(unreadable(alloc, list, Cause::of(&error))),
     }
 }
 

@@ -1,7 +1,6 @@
 //! Words of the command line, and what they give.
 
 use std::alloc::Global;
-use std::process::Abort;
 use std::test::Fail;
 use t1_answer::options;
 use t1_char::Edition;
@@ -69,14 +68,7 @@ fn parses_to(alloc: Global, words: &[&str], (after, max, trace, file): Given<'_>
         && text(&taken.file) == file
 }
 
-/// The words give the options beside them.
-fn assert_given(rt: &impl Abort, alloc: Global, cases: &[(&[&str], Given<'_>)]) {
-    for (words, given) in cases {
-        assert!(rt; parses_to(alloc, words, *given), "of {words:?}");
-    }
-}
-
-/// The number of lines that are omitted, and the file's name, which may be empty.
+/// The numbers of lines that are omitted and written, the name of a glyph, and the file's; names may be empty.
 const WORDS: &[(&[&str], Given<'static>)] = &[
     (&["t1check"], (0, None, None, None)),
     (&[], (0, None, None, None)),
@@ -99,15 +91,6 @@ const WORDS: &[(&[&str], Given<'static>)] = &[
         &["t1check", "--after", "16", ""],
         (16, None, None, Some("")),
     ),
-];
-
-#[test]
-fn takes_words(rt: HostRuntime) {
-    assert_given(&rt, rt.alloc(), WORDS);
-}
-
-/// The name of a glyph, which may be empty, and the greatest number of lines.
-const NAMES_AND_NUMBERS: &[(&[&str], Given<'static>)] = &[
     (
         &["t1check", "--trace", "A", "font.pfb"],
         (0, None, Some("A"), Some("font.pfb")),
@@ -140,8 +123,10 @@ const NAMES_AND_NUMBERS: &[(&[&str], Given<'static>)] = &[
 ];
 
 #[test]
-fn takes_names_of_glyphs_and_greatest_numbers(rt: HostRuntime) {
-    assert_given(&rt, rt.alloc(), NAMES_AND_NUMBERS);
+fn takes_words(rt: HostRuntime) {
+    for (words, given) in WORDS {
+        assert!(rt; parses_to(rt.alloc(), words, *given), "of {words:?}");
+    }
 }
 
 /// Whether words request this edition and this file of waivers.

@@ -1,8 +1,8 @@
 //! Each prefix of two sound files, the shortest first. The numbers come from the places of the segments,
 //! the word `eexec`, the digits and the tokens, counted by hand and by another program.
 
-use crate::fonts::hexadecimal;
-use crate::shared::{NO_END_REPORT, answer_to, ended_by};
+use crate::files::{Made, file_of};
+use crate::shared::{NO_END_REPORT, answer_to};
 use std::alloc::Global;
 use std::process::Abort;
 use std::test::Fail;
@@ -76,14 +76,6 @@ const PFB: &[(usize, Cut)] = &[
     (1, Cut::Clean),
 ];
 
-/// Wherever a PFB file is cut, the cut is reported.
-#[test]
-fn reports_where_a_pfb_file_is_cut(rt: HostRuntime) -> Result<(), Fail> {
-    let file = ended_by(rt.alloc(), END_SEGMENT)?;
-    assert_cuts(&rt, rt.alloc(), file.as_slice(), PFB);
-    Ok(())
-}
-
 /// The prefixes of the PFA file, whose section is hexadecimal. In all: E01 2, E04 101, E06 10, E07 15, E08 19,
 /// E09 385, E10 5. The last 538 have the last `end` of the private text.
 const PFA: &[(usize, Cut)] = &[
@@ -105,10 +97,17 @@ const PFA: &[(usize, Cut)] = &[
     (538, Cut::Clean),
 ];
 
-/// No private text is read that breaks off before its last `end`.
+/// Wherever a PFB file is cut, the cut is reported, and no private text is read that breaks off before its last `end`.
+const FILES: &[(Made, &[(usize, Cut)])] = &[
+    (Made::Ended(END_SEGMENT), PFB),
+    (Made::Hexadecimal, PFA),
+];
+
 #[test]
-fn reports_where_a_pfa_file_is_cut(rt: HostRuntime) -> Result<(), Fail> {
-    let file = hexadecimal(rt.alloc())?;
-    assert_cuts(&rt, rt.alloc(), file.as_slice(), PFA);
+fn reports_where_files_are_cut(rt: HostRuntime) -> Result<(), Fail> {
+    for (made, rows) in FILES {
+        let file = file_of(rt.alloc(), *made)?;
+        assert_cuts(&rt, rt.alloc(), file.as_slice(), rows);
+    }
     Ok(())
 }

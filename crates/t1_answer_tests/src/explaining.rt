@@ -6,7 +6,7 @@ ghost use Rattle.t1_io.specs.Limits.{lets_some_through};
 use crate::command_line::{HELP, help_of};
 use crate::devices::FAR;
 use crate::shared::Answer;
-use std::alloc::{AllocError, Global};
+use std::alloc::Global;
 use std::test::Fail;
 use t1_answer::explain;
 use t1_io::{Fuse, Limit, Out};
@@ -30,23 +30,46 @@ fn explained(alloc: Global, error: &UsageError, output: Limit) -> Answer
     }
 }
 
-/// What is printed for a usage fault.
-fn usage(alloc: Global) -> Result<Answer, AllocError> {
-    let usage = UsageError::Usage(String::from_str(alloc, "usage\n")?);
-    Ok(explained(alloc, &usage, FAR))
+/// Words that parse to no options, by their kind.
+#[derive(Clone, Copy)]
+enum Kind {
+    Usage,
+    Memory,
+    Help,
 }
 
+fn error_of(alloc: Global, kind: Kind) -> Result<UsageError, Fail> {
+    match kind {
+        Kind::Usage => Ok(UsageError::Usage(String::from_str(alloc, "usage\n")?)),
+        Kind::Memory => Ok(UsageError::Memory),
+        Kind::Help => help(alloc),
+    }
+}
+
+fn help(alloc: Global) -> Result<UsageError, Fail> {
+    Ok(UsageError::Help(help_of(alloc, &["t1check", "--help"])?))
+}
+
+/// The kind, the status, the output, and standard error.
+const ROWS: &[(Kind, Status, &str, &str)] = &[
+    (Kind::Usage, Status::Failed, "", "usage\n"),
+    (Kind::Memory, Status::Failed, "", "t1check: out of memory\n"),
+    (Kind::Help, Status::Clean, HELP, ""),
+];
+
+/// The same is printed a byte a write.
 #[test]
 fn explains_on_the_right_device(rt: HostRuntime) -> Result<(), Fail> {
-    let answer = usage(rt.alloc())?;
-    assert!(rt; answer.is(Status::Failed, b"", b"usage\n"));
-    let answer = explained(rt.alloc(), &UsageError::Memory, FAR);
-    assert!(rt; answer.is(Status::Failed, b"", b"t1check: out of memory\n"));
-    let help = UsageError::Help(help_of(rt.alloc(), &["t1check", "--help"])?);
-    let answer = explained(rt.alloc(), &help, FAR);
-    assert!(rt; answer.is(Status::Clean, HELP.as_bytes(), b""));
-    let answer = explained(rt.alloc(), &help, Limit::BytesPerCall(1));
-    assert!(rt; answer.is(Status::Clean, HELP.as_bytes(), b""));
+    for (kind, status, output, told) in ROWS {
+        let error = error_of(rt.alloc(), *kind)?;
+        for limit in [FAR, Limit::BytesPerCall(1)] {
+            let answer = explained(rt.alloc(), &error, limit);
+            assert!(rt;
+                answer.is(*status, output.as_bytes(), told.as_bytes()),
+                "{output}{told}"
+            );
+        }
+    }
     Ok(())
 }
 
@@ -62,7 +85,7 @@ fn reports_failed_help(alloc: Global, help: &UsageError, room: usize) -> bool {
 /// The output fails after each count of bytes of the help, the last time at the flush.
 #[test]
 fn reports_help_that_fails(rt: HostRuntime) -> Result<(), Fail> {
-    let help = UsageError::Help(help_of(rt.alloc(), &["t1check", "--help"])?);
+    let help = help(rt.alloc())?;
     for room in 0..HELP.len() + 1 {
         assert!(rt; reports_failed_help(rt.alloc(), &help, room), "{room}");
     }

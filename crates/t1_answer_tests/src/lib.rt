@@ -15,7 +15,7 @@ mod devices;
 #[cfg(test)]
 mod explaining;
 #[cfg(test)]
-mod fonts;
+mod files;
 #[cfg(test)]
 mod passing_failures;
 #[cfg(test)]
@@ -24,8 +24,6 @@ mod refusals;
 mod runs;
 #[cfg(test)]
 mod scale;
-#[cfg(test)]
-mod segments;
 #[cfg(test)]
 mod shared;
 #[cfg(test)]

@@ -1,6 +1,6 @@
 //! Readers and writers of std of which one call fails, and each later one works again.
 
-use crate::runs::{Run, runs};
+use crate::runs::{RUNS, Run, run_of};
 use crate::shared::{ALL, answer_over, run_over};
 use std::alloc::Global;
 use std::io;
@@ -135,15 +135,6 @@ fn assert_failed_reads(rt: &impl Abort, alloc: Global, run: &Run) {
     }
 }
 
-#[test]
-fn a_read_that_fails_once_ends_the_run(rt: HostRuntime) -> Result<(), Fail> {
-    let runs = runs(rt.alloc())?;
-    for run in &runs {
-        assert_failed_reads(&rt, rt.alloc(), run);
-    }
-    Ok(())
-}
-
 /// How many writes a run makes, if it writes its whole text.
 fn count_writes(alloc: Global, run: &Run) -> Option<u64> {
     let mut output = writer(alloc, Failing::None);
@@ -176,17 +167,6 @@ fn assert_failed_writes(rt: &impl Abort, alloc: Global, run: &Run, writes: u64) 
     }
 }
 
-/// Each write fails in turn: what was written before it reached the writer.
-#[test]
-fn a_write_that_fails_once_ends_the_run(rt: HostRuntime) -> Result<(), Fail> {
-    let runs = runs(rt.alloc())?;
-    for run in &runs {
-        let writes = count_writes(rt.alloc(), run).ok_or("the whole text")?;
-        assert_failed_writes(&rt, rt.alloc(), run, writes);
-    }
-    Ok(())
-}
-
 /// Whether the whole text is written and flushed once, and a first flush that fails is reported.
 fn is_flushed_once(alloc: Global, run: &Run, place: u64) -> bool {
     let mut output = writer(alloc, Failing::Flush(place));
@@ -201,17 +181,30 @@ fn is_flushed_once(alloc: Global, run: &Run, place: u64) -> bool {
 }
 
 /// The flush reaches the writer, once; where it fails the whole text was written, and the failure is reported.
+fn assert_flushed_once(rt: &impl Abort, alloc: Global, run: &Run) {
+    for place in 0..3u64 {
+        assert!(rt;
+            is_flushed_once(alloc, run, place),
+            "at {place} for {:?}",
+            run.text
+        );
+    }
+}
+
+/// Each read and each write fails in turn, and a flush: what was written before it reached the writer.
+fn assert_ended(rt: &impl Abort, alloc: Global, run: &Run) -> Result<(), Fail> {
+    assert_failed_reads(rt, alloc, run);
+    let writes = count_writes(alloc, run).ok_or("the whole text")?;
+    assert_failed_writes(rt, alloc, run, writes);
+    assert_flushed_once(rt, alloc, run);
+    Ok(())
+}
+
 #[test]
-fn a_text_is_flushed_once(rt: HostRuntime) -> Result<(), Fail> {
-    let runs = runs(rt.alloc())?;
-    for run in &runs {
-        for place in 0..3u64 {
-            assert!(rt;
-                is_flushed_once(rt.alloc(), run, place),
-                "at {place} for {:?}",
-                run.text
-            );
-        }
+fn a_call_that_fails_once_ends_the_run(rt: HostRuntime) -> Result<(), Fail> {
+    for row in RUNS {
+        let run = run_of(rt.alloc(), row)?;
+        assert_ended(&rt, rt.alloc(), &run)?;
     }
     Ok(())
 }

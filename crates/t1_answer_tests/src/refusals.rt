@@ -1,138 +1,192 @@
-//! Texts that are refused, each with its line.
+//! Files that are refused, each with its line alone, and files in each form that is read.
 
-use crate::shared::{assert_refusals, is_refused};
+use crate::files::{Made, file_of};
+use crate::shared::{is_clean, is_refused};
 use std::alloc::{AllocError, Global};
 use std::process::Abort;
 use std::test::Fail;
-use t1_samples::{CLEAR, END_SEGMENT, FontFile, Sample};
+use t1_samples::END_SEGMENT;
 
-/// PFA files, and the line of each.
-const CLEAR_TEXTS: &[(&[u8], &str)] = &[
-    (b"%!\n/FontType 1 def\n", "refused: E04 no eexec\n"),
+/// Whether the program refuses a file that is made so with this line alone.
+fn is_refused_so(alloc: Global, made: Made, line: &str) -> Result<bool, AllocError> {
+    let file = file_of(alloc, made)?;
+    Ok(is_refused(alloc, file.as_slice(), line))
+}
+
+/// The program refuses each file with the line beside it alone.
+fn assert_refusals(rt: &impl Abort, alloc: Global, rows: &[(Made, &str)]) -> Result<(), Fail> {
+    for (made, line) in rows {
+        assert!(rt; is_refused_so(alloc, *made, line)?, "{line}");
+    }
+    Ok(())
+}
+
+/// Broken rows of segments.
+const SEGMENTS: &[(Made, &str)] = &[
+    (Made::Bytes(&[0x25, 0x21]), "refused: E04 no eexec\n"),
     (
-        b"%!\n/FontType /WeightVector eexec",
+        Made::Bytes(&[0x80, 1, 3, 0, 0, 0, 0x25, 0x21, 0x0a]),
+        "refused: E04 no eexec\n",
+    ),
+    (
+        Made::Bytes(&[0x80, 1, 3, 0, 0, 0, 0x25, 0x21, 0x0a, 0x80, 3]),
+        "refused: E04 no eexec\n",
+    ),
+    (Made::Bytes(&[0x80, 3, 0]), "refused: E04 no eexec\n"),
+    (
+        Made::Bytes(&[0x80, 1, 0, 0, 0, 0, 0x80, 2, 1, 0, 0, 0, 0x41]),
+        "refused: E04 no eexec\n",
+    ),
+    (Made::Bytes(&[]), "refused: E01 not a PFA or PFB\n"),
+    (Made::Bytes(&[0x25]), "refused: E01 not a PFA or PFB\n"),
+    (
+        Made::Bytes(&[0x25, 0x20]),
+        "refused: E01 not a PFA or PFB\n",
+    ),
+    (Made::Bytes(&[0x80]), "refused: E03 segment cut short\n"),
+    (
+        Made::Bytes(&[0x80, 1, 0, 0]),
+        "refused: E03 segment cut short\n",
+    ),
+    (
+        Made::Bytes(&[0x80, 1, 5, 0, 0, 0, 0x25, 0x21, 0x0a, 0x0a]),
+        "refused: E03 segment cut short\n",
+    ),
+    (Made::Bytes(&[0x80, 4]), "refused: E02 bad segment header\n"),
+    (
+        Made::Bytes(&[0x80, 0, 1, 0, 0, 0, 0x25]),
+        "refused: E02 bad segment header\n",
+    ),
+    (
+        Made::Bytes(&[0x80, 1, 0, 0, 0, 0, 0x41]),
+        "refused: E02 bad segment header\n",
+    ),
+    (
+        Made::Bytes(&[0x80, 1, 0, 1, 0, 0, 0x41]),
+        "refused: E03 segment cut short\n",
+    ),
+];
+
+#[test]
+fn refuses_broken_segments(rt: HostRuntime) -> Result<(), Fail> {
+    assert_refusals(&rt, rt.alloc(), SEGMENTS)
+}
+
+/// Great files: the greatest is read, and one byte more is refused before anything else.
+const GREAT: &[(Made, &str)] = &[
+    (Made::Zeros(b"%!"), "refused: E04 no eexec\n"),
+    (Made::Zeros(b"%!\n"), "refused: E05 file too large\n"),
+    (Made::Zeros(b"\0\0"), "refused: E01 not a PFA or PFB\n"),
+    (Made::Zeros(b"\0\0\0"), "refused: E05 file too large\n"),
+    (Made::Zeros(b"\x80\x03\0"), "refused: E05 file too large\n"),
+];
+
+#[test]
+fn reads_sixteen_megabytes(rt: HostRuntime) -> Result<(), Fail> {
+    assert_refusals(&rt, rt.alloc(), GREAT)
+}
+
+/// Clear texts, private texts, and lines added to a sound font. Nothing is written of a font without an end segment where
+/// its private text is refused or cut.
+const TEXTS: &[(Made, &str)] = &[
+    (
+        Made::Bytes(b"%!\n/FontType 1 def\n"),
+        "refused: E04 no eexec\n",
+    ),
+    (
+        Made::Bytes(b"%!\n/FontType /WeightVector eexec"),
         "refused: E06 encrypted part too short\n",
     ),
     (
-        b"%!\neexec\n\0\0\0",
+        Made::Bytes(b"%!\neexec\n\0\0\0"),
         "refused: E06 encrypted part too short\n",
     ),
     (
-        b"%!\n(",
+        Made::Bytes(b"%!\n("),
         "refused: E07 unclosed or too deeply nested token\n",
     ),
     (
-        b"%!\n/WeightVector [1 0] def eexec",
+        Made::Bytes(b"%!\n/WeightVector [1 0] def eexec"),
         "refused: E13 multiple master font\n",
     ),
-];
-
-#[test]
-fn refuses_clear_texts(rt: HostRuntime) {
-    assert_refusals(&rt, rt.alloc(), CLEAR_TEXTS);
-}
-
-/// Whether a PFB file with this private text and this end is refused with this line.
-fn is_text_refused(alloc: Global, text: &[u8], end: &[u8], line: &str) -> Result<bool, AllocError> {
-    let file = FontFile {
-        end,
-        ..FontFile::of(CLEAR, text)
-    }
-    .pfb(alloc)?;
-    Ok(is_refused(alloc, file.as_slice(), line))
-}
-
-/// PFB files with these private texts and this end are refused with the lines beside them.
-fn assert_text_refusals(
-    rt: &impl Abort,
-    alloc: Global,
-    end: &[u8],
-    cases: &[(&[u8], &str)],
-) -> Result<(), Fail> {
-    for (text, line) in cases {
-        assert!(rt;
-            is_text_refused(alloc, text, end, line)?,
-            "{line} of {text:?}"
-        );
-    }
-    Ok(())
-}
-
-/// Private texts, and the line of each.
-const PRIVATE_TEXTS: &[(&[u8], &str)] = &[
-    (b"(", "refused: E07 unclosed or too deeply nested token\n"),
-    (b"/Subrs x array", "refused: E08 Subrs malformed\n"),
-    (b"/Subrs [<0B>]", "refused: E08 Subrs malformed\n"),
     (
-        b"/CharStrings -1",
+        Made::Private(b"(", END_SEGMENT),
+        "refused: E07 unclosed or too deeply nested token\n",
+    ),
+    (
+        Made::Private(b"/Subrs x array", END_SEGMENT),
+        "refused: E08 Subrs malformed\n",
+    ),
+    (
+        Made::Private(b"/Subrs [<0B>]", END_SEGMENT),
+        "refused: E08 Subrs malformed\n",
+    ),
+    (
+        Made::Private(b"/CharStrings -1", END_SEGMENT),
         "refused: E09 CharStrings malformed or absent\n",
     ),
-    (b"", "refused: E09 CharStrings malformed or absent\n"),
-    (b"/lenIV", "refused: E10 lenIV out of range\n"),
-    (b"/Subrs 65536 array", "refused: E11 count past its limit\n"),
     (
-        b"/Subrs 9 array dup 65535 0 RD  NP",
+        Made::Private(b"", END_SEGMENT),
+        "refused: E09 CharStrings malformed or absent\n",
+    ),
+    (
+        Made::Private(b"/lenIV", END_SEGMENT),
+        "refused: E10 lenIV out of range\n",
+    ),
+    (
+        Made::Private(b"/Subrs 65536 array", END_SEGMENT),
         "refused: E11 count past its limit\n",
     ),
-];
-
-#[test]
-fn refuses_private_texts(rt: HostRuntime) -> Result<(), Fail> {
-    assert_text_refusals(&rt, rt.alloc(), END_SEGMENT, PRIVATE_TEXTS)
-}
-
-/// Whether a sound font with this line added is refused with that line.
-fn is_key_refused(alloc: Global, key: &[u8], line: &str) -> Result<bool, AllocError> {
-    let file = Sample::new(alloc)?.key(key)?.pfb()?;
-    Ok(is_refused(alloc, file.as_slice(), line))
-}
-
-/// Lines added to a sound font, and the line of each refusal.
-const KEYS: &[(&[u8], &str)] = &[
-    (b"/lenIV 65 def", "refused: E10 lenIV out of range\n"),
-    (b"/Subrs 0 array", "refused: E12 second Subrs\n"),
     (
-        b"/CharStrings 1 dict dup begin 1",
+        Made::Private(b"/Subrs 9 array dup 65535 0 RD  NP", END_SEGMENT),
+        "refused: E11 count past its limit\n",
+    ),
+    (
+        Made::Key(b"/lenIV 65 def"),
+        "refused: E10 lenIV out of range\n",
+    ),
+    (Made::Key(b"/Subrs 0 array"), "refused: E12 second Subrs\n"),
+    (
+        Made::Key(b"/CharStrings 1 dict dup begin 1"),
+        "refused: E09 CharStrings malformed or absent\n",
+    ),
+    (
+        Made::Private(b"/CharStrings x", b""),
+        "refused: E09 CharStrings malformed or absent\n",
+    ),
+    (
+        Made::Private(b"/lenIV 65", b""),
+        "refused: E10 lenIV out of range\n",
+    ),
+    (
+        Made::Private(b"/Subrs [] /Subrs 0 array", b""),
+        "refused: E12 second Subrs\n",
+    ),
+    (
+        Made::Cut(b""),
         "refused: E09 CharStrings malformed or absent\n",
     ),
 ];
 
 #[test]
-fn refuses_what_a_line_breaks(rt: HostRuntime) -> Result<(), Fail> {
-    for (key, line) in KEYS {
-        assert!(rt; is_key_refused(rt.alloc(), key, line)?, "{line}");
+fn refuses_texts(rt: HostRuntime) -> Result<(), Fail> {
+    assert_refusals(&rt, rt.alloc(), TEXTS)
+}
+
+/// Sound files. An empty array of Subrs counts as none.
+const SOUND: &[Made] = &[
+    Made::Ended(b"\x80\x03"),
+    Made::Hexadecimal,
+    Made::Binary,
+    Made::DigitInFront,
+    Made::Subrs(b"/Subrs [] def\n"),
+];
+
+#[test]
+fn sound_files_are_clean(rt: HostRuntime) -> Result<(), Fail> {
+    for (row, made) in SOUND.iter().enumerate() {
+        let file = file_of(rt.alloc(), *made)?;
+        assert!(rt; is_clean(rt.alloc(), file.as_slice()), "row {row}");
     }
-    Ok(())
-}
-
-/// Private texts of a font without an end segment, and the line of each.
-const WITHOUT_AN_END: &[(&[u8], &str)] = &[
-    (
-        b"/CharStrings x",
-        "refused: E09 CharStrings malformed or absent\n",
-    ),
-    (b"/lenIV 65", "refused: E10 lenIV out of range\n"),
-    (b"/Subrs [] /Subrs 0 array", "refused: E12 second Subrs\n"),
-];
-
-/// Nothing is written of a font without an end segment where its private text is refused.
-#[test]
-fn refuses_private_texts_without_an_end_segment(rt: HostRuntime) -> Result<(), Fail> {
-    assert_text_refusals(&rt, rt.alloc(), b"", WITHOUT_AN_END)
-}
-
-/// Nothing is written of a font without an end segment where its private text is cut.
-#[test]
-fn refuses_a_cut_private_text(rt: HostRuntime) -> Result<(), Fail> {
-    let text = Sample::new(rt.alloc())?.private()?;
-    let front = text.as_slice().strip_suffix(b"end\n").ok_or("the end")?;
-    assert!(rt;
-        is_text_refused(
-            rt.alloc(),
-            front,
-            b"",
-            "refused: E09 CharStrings malformed or absent\n"
-        )?
-    );
     Ok(())
 }

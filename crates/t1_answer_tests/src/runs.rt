@@ -1,11 +1,11 @@
 //! Runs of the program over devices that don't fail: tests run them again over devices that do.
 
-use crate::shared::{NO_END_REPORT, ended_by};
+use crate::files::{Made, file_of};
+use crate::shared::{ALL, NO_END_REPORT};
 use std::alloc::{AllocError, Global};
 use t1_answer::Options;
-use t1_char::Edition;
 use t1_run::Status;
-use t1_samples::{NOTDEF, Sample};
+use t1_samples::NOTDEF;
 
 /// The program's input, and what it returns.
 #[derive(Drop)]
@@ -36,68 +36,51 @@ const GLYPH_REPORT: &str = "\
 /// The trace of `0 500 hsbw endchar`.
 const TRACE: &str = "1 - 0\n2 - 500\n3 - hsbw\n4 - endchar\n";
 
-/// The whole report, or the trace of a glyph.
-fn options(trace: Option<String>) -> Options {
-    Options {
-        after: 0,
-        max: None,
-        trace,
-        waive: None,
-        edition: Edition::One,
-        file: None,
+/// A file, whether glyph A is traced, the status, and all that is written.
+pub(crate) type Row = (Made, bool, Status, &'static str);
+
+/// Reports of a file without an end segment, of `5 callsubr 5 callsubr`, where Subr 5 is `5 0 rlineto closepath`, and of
+/// `32001 0 hmoveto closepath endchar`; and a trace.
+pub(crate) const RUNS: &[Row] = &[
+    (Made::Ended(b""), false, Status::Faults, NO_END_REPORT),
+    (
+        Made::Calling(b"\x90\x8b\x05\x09", b"\x8b\xf8\x88\x0d\x90\x0a\x90\x0a\x0e"),
+        false,
+        Status::Faults,
+        SUBR_REPORT,
+    ),
+    (
+        Made::Glyph(b"\xff\x00\x00\x7d\x01\x8b\x16\x09\x0e"),
+        false,
+        Status::Faults,
+        GLYPH_REPORT,
+    ),
+    (Made::Glyph(NOTDEF), true, Status::Clean, TRACE),
+];
+
+/// The trace of glyph A, or the whole report; with waivers or without.
+pub(crate) fn options_of(alloc: Global, traced: bool, waived: bool) -> Result<Options, AllocError> {
+    Ok(Options {
+        trace: word(alloc, "A", traced)?,
+        waive: word(alloc, "waivers", waived)?,
+        ..ALL
+    })
+}
+
+fn word(alloc: Global, word: &str, there: bool) -> Result<Option<String>, AllocError> {
+    match there {
+        true => Ok(Some(String::from_str(alloc, word)?)),
+        false => Ok(None),
     }
 }
 
-/// A run that reports the faults of a font.
-fn report(sample: Sample, text: &'static str) -> Result<Run, AllocError> {
+/// The run of a row.
+pub(crate) fn run_of(alloc: Global, row: &Row) -> Result<Run, AllocError> {
+    let (made, traced, status, text) = *row;
     Ok(Run {
-        file: sample.pfb()?,
-        options: options(None),
-        status: Status::Faults,
+        options: options_of(alloc, traced, false)?,
+        file: file_of(alloc, made)?,
+        status,
         text,
     })
-}
-
-/// The report of a file without an end segment.
-pub(crate) fn without_an_end(alloc: Global) -> Result<Run, AllocError> {
-    Ok(Run {
-        file: ended_by(alloc, b"")?,
-        options: options(None),
-        status: Status::Faults,
-        text: NO_END_REPORT,
-    })
-}
-
-/// The report of `5 callsubr 5 callsubr`, where Subr 5 is `5 0 rlineto closepath`.
-fn calls_a_subr_twice(alloc: Global) -> Result<Run, AllocError> {
-    let sample = Sample::new(alloc)?
-        .subr(5, b"\x90\x8b\x05\x09")?
-        .glyph(b"A", b"\x8b\xf8\x88\x0d\x90\x0a\x90\x0a\x0e")?;
-    report(sample, SUBR_REPORT)
-}
-
-/// The report of `32001 0 hmoveto closepath endchar`.
-fn breaks_rules_at_a_step(alloc: Global) -> Result<Run, AllocError> {
-    let sample = Sample::new(alloc)?.glyph(b"A", b"\xff\x00\x00\x7d\x01\x8b\x16\x09\x0e")?;
-    report(sample, GLYPH_REPORT)
-}
-
-/// The trace of a glyph.
-fn traces_a_glyph(alloc: Global) -> Result<Run, AllocError> {
-    Ok(Run {
-        file: Sample::new(alloc)?.glyph(b"A", NOTDEF)?.pfb()?,
-        options: options(Some(String::from_str(alloc, "A")?)),
-        status: Status::Clean,
-        text: TRACE,
-    })
-}
-
-/// Reports of a font and of glyphs, and a trace.
-pub(crate) fn runs(alloc: Global) -> Result<[Run; 4], AllocError> {
-    Ok([
-        without_an_end(alloc)?,
-        calls_a_subr_twice(alloc)?,
-        breaks_rules_at_a_step(alloc)?,
-        traces_a_glyph(alloc)?,
-    ])
 }

@@ -29,38 +29,48 @@ fn padded(alloc: Global, blanks: usize) -> Result<Vec<u8>, AllocError> {
 fn subrs(alloc: Global, size: u32) -> Result<Vec<u8>, AllocError> {
     let mut lines = format!(in alloc; "/Subrs {size} array\n")?.into_bytes();
     for number in 0..SUBRS {
-        let line = format!(in alloc; "dup {number} 0 RD  NP\n")?;
-        lines.extend_from_slice(line.as_bytes())?;
+        add_subr(alloc, &mut lines, number)?;
     }
     lines.extend_from_slice(b"ND\n")?;
     Ok(lines)
 }
 
-/// A sound private text that makes a file of the greatest size, where it would have `short` bytes
-/// without blanks.
-fn filling(alloc: Global, short: usize) -> Result<Vec<u8>, AllocError> {
-    padded(alloc, GREATEST.saturating_sub(short))
+fn add_subr(alloc: Global, lines: &mut Vec<u8>, number: u32) -> Result<(), AllocError> {
+    lines.extend_from_slice(b"dup ")?;
+    add_number(alloc, lines, number)?;
+    lines.extend_from_slice(b" 0 RD  NP\n")
+}
+
+/// A file with this private text, PFB or PFA.
+fn written(alloc: Global, text: &[u8], is_pfb: bool) -> Result<Vec<u8>, AllocError> {
+    let file = FontFile::of(CLEAR, text);
+    match is_pfb {
+        true => file.pfb(alloc),
+        false => file.pfa(alloc),
+    }
+}
+
+/// The same of a sound private text after so many blanks.
+fn padded_file(alloc: Global, blanks: usize, is_pfb: bool) -> Result<Vec<u8>, AllocError> {
+    let text = padded(alloc, blanks)?;
+    written(alloc, text.as_slice(), is_pfb)
+}
+
+/// A sound file of the greatest size.
+fn greatest(alloc: Global, is_pfb: bool) -> Result<Vec<u8>, AllocError> {
+    let short = padded_file(alloc, 0, is_pfb)?.len();
+    padded_file(alloc, GREATEST.saturating_sub(short), is_pfb)
 }
 
 #[test]
-fn reads_sixteen_megabytes_of_a_pfa_file(rt: HostRuntime) -> Result<(), Fail> {
-    let short = padded(rt.alloc(), 0)?;
-    let short = FontFile::of(CLEAR, short.as_slice()).pfa(rt.alloc())?;
-    let text = filling(rt.alloc(), short.len())?;
-    let file = FontFile::of(CLEAR, text.as_slice()).pfa(rt.alloc())?;
-    assert_eq!(rt; file.len(), GREATEST);
-    assert!(rt; is_clean(rt.alloc(), file.as_slice()));
-    Ok(())
-}
-
-#[test]
-fn reads_sixteen_megabytes_of_a_pfb_file(rt: HostRuntime) -> Result<(), Fail> {
-    let short = padded(rt.alloc(), 0)?;
-    let short = FontFile::of(CLEAR, short.as_slice()).pfb(rt.alloc())?;
-    let text = filling(rt.alloc(), short.len())?;
-    let file = FontFile::of(CLEAR, text.as_slice()).pfb(rt.alloc())?;
-    assert_eq!(rt; file.len(), GREATEST);
-    assert!(rt; is_clean(rt.alloc(), file.as_slice()));
+fn reads_sixteen_megabytes(rt: HostRuntime) -> Result<(), Fail> {
+    for is_pfb in [false, true] {
+        let file = greatest(rt.alloc(), is_pfb)?;
+        assert!(rt;
+            file.len() == GREATEST && is_clean(rt.alloc(), file.as_slice()),
+            "{is_pfb}"
+        );
+    }
     Ok(())
 }
 
@@ -92,12 +102,17 @@ fn faulty(alloc: Global) -> Result<Vec<u8>, AllocError> {
     let lines = subrs(alloc, 0)?;
     let mut sample = Sample::new(alloc)?.subrs(lines.as_slice())?;
     for number in 0..DOUBLED {
-        let name = format!(in alloc; "g{number}")?;
-        sample = sample
-            .glyph(name.as_bytes(), NOTDEF)?
-            .glyph(name.as_bytes(), NOTDEF)?;
+        sample = with_two(alloc, sample, number)?;
     }
     sample.pfb()
+}
+
+/// The sample with one more glyph, which is given twice.
+fn with_two(alloc: Global, sample: Sample, number: u32) -> Result<Sample, AllocError> {
+    let name = format!(in alloc; "g{number}")?;
+    sample
+        .glyph(name.as_bytes(), NOTDEF)?
+        .glyph(name.as_bytes(), NOTDEF)
 }
 
 #[test]
@@ -129,13 +144,21 @@ fn of_empty_glyphs(alloc: Global, count: u32) -> Result<Vec<u8>, AllocError> {
     FontFile::of(CLEAR, private.as_slice()).pfb(alloc)
 }
 
+/// Adds a number in digits.
+fn add_number(alloc: Global, text: &mut Vec<u8>, number: u32) -> Result<(), AllocError> {
+    let digits = format!(in alloc; "{number}")?;
+    text.extend_from_slice(digits.as_bytes())
+}
+
 /// The lines of the font of the most empty glyphs.
 fn lines_of_empty_glyphs(alloc: Global) -> Result<Vec<u8>, AllocError> {
     let mut lines = Vec::from_slice(alloc, b"1: font CharStrings 0 F09 no .notdef\n")?;
     for number in 0..GLYPHS {
         let place = number + 2;
-        let line = format!(in alloc; "{place}: glyph g{number} - 1 GE01 no endchar\n")?;
-        lines.extend_from_slice(line.as_bytes())?;
+        add_number(alloc, &mut lines, place)?;
+        lines.extend_from_slice(b": glyph g")?;
+        add_number(alloc, &mut lines, number)?;
+        lines.extend_from_slice(b" - 1 GE01 no endchar\n")?;
     }
     Ok(lines)
 }

@@ -1,15 +1,13 @@
-//! What the tests share: files, runs over devices in memory, and their answers.
+//! What the tests share: runs over devices in memory, and their answers.
 
 ghost use Rattle.std.specs.Prelude.{◌≡◌, false};
 
-use std::alloc::{AllocError, Global};
+use std::alloc::Global;
 use std::io;
-use std::process::Abort;
 use t1_answer::{Options, run};
 use t1_char::Edition;
 use t1_io::{In, Out, Sink, Source};
 use t1_run::Status;
-use t1_samples::{Charstrings, FontFile, Sample, TRAILER};
 
 /// What the program returns and prints.
 #[derive(Drop)]
@@ -38,19 +36,6 @@ pub(crate) const ALL: Options = Options {
     edition: Edition::One,
     file: None,
 };
-
-/// A sound PFB file but for its end, with encrypted charstrings and the zeros after its section.
-pub(crate) fn ended_by(alloc: Global, end: &[u8]) -> Result<Vec<u8>, AllocError> {
-    let sample = Sample::with_charstrings(alloc, Charstrings::Encrypted(4))?;
-    let clear = sample.clear()?;
-    let private = sample.private()?;
-    FontFile {
-        trailer: TRAILER,
-        end,
-        ..FontFile::of(clear.as_slice(), private.as_slice())
-    }
-    .pfb(alloc)
-}
 
 /// Runs the program on a font and on waivers, over a standard error that doesn't fail, and returns the status and what
 /// was printed there.
@@ -106,11 +91,4 @@ pub(crate) fn is_clean(alloc: Global, file: &[u8]) -> bool {
 /// Whether the program refuses a file with this line alone.
 pub(crate) fn is_refused(alloc: Global, file: &[u8], line: &str) -> bool {
     answer_to(alloc, file).is(Status::Refused, b"", line.as_bytes())
-}
-
-/// The program refuses each file with the line beside it alone.
-pub(crate) fn assert_refusals(rt: &impl Abort, alloc: Global, cases: &[(&[u8], &str)]) {
-    for (file, line) in cases {
-        assert!(rt; is_refused(alloc, file, line), "{line} of {file:?}");
-    }
 }

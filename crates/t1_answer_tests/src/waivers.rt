@@ -4,152 +4,191 @@ ghost use Rattle.std.specs.Prelude.{◌≡◌, true};
 ghost use Rattle.t1_io.specs.Limits.{lets_some_through};
 
 use crate::devices::FAR;
-use crate::shared::{ALL, Answer, answer_over};
+use crate::files::{Made, file_of};
+use crate::runs::options_of;
+use crate::shared::{Answer, answer_over};
 use std::alloc::{AllocError, Global};
 use std::test::Fail;
-use t1_answer::Options;
 use t1_io::{Fuse, In, Limit};
 use t1_run::Status;
-use t1_samples::{NOTDEF, Sample};
+use t1_samples::NOTDEF;
 
-/// Runs the program on a file, with the waivers of a reader within a limit.
+/// How the waivers are read.
+#[derive(Clone, Copy, Debug)]
+enum Pace {
+    /// Whole.
+    Whole,
+    /// A byte a read.
+    ByteARead,
+    /// The read after so many fails.
+    Fails(usize),
+}
+
+fn limit_of(pace: Pace) -> Limit
+    ensures { lets_some_through result ≡ true }
+{
+    match pace {
+        Pace::Whole => FAR,
+        Pace::ByteARead => Limit::BytesPerCall(1),
+        Pace::Fails(calls) => Limit::Calls(calls),
+    }
+}
+
+/// What the program returns for a file and waivers, of the whole report or of the trace of glyph A.
 fn answer_with(
     alloc: Global,
     file: &[u8],
-    options: &Options,
+    traced: bool,
     waivers: &[u8],
-    limit: Limit,
-) -> Answer
-    requires { lets_some_through limit ≡ true }
-{
-    let mut reader = Fuse::source(In::new(waivers), limit);
-    answer_over(alloc, &mut In::new(file), &mut reader, options)
+    pace: Pace,
+) -> Result<Answer, AllocError> {
+    let options = options_of(alloc, traced, true)?;
+    let mut reader = Fuse::source(In::new(waivers), limit_of(pace));
+    Ok(answer_over(alloc, &mut In::new(file), &mut reader, &options))
 }
 
-/// The options that request waivers, and the trace of a glyph if that is named.
-fn waived(alloc: Global, trace: Option<String>) -> Result<Options, AllocError> {
-    Ok(Options {
-        trace,
-        waive: Some(String::from_str(alloc, "waivers")?),
-        ..ALL
-    })
+/// A file, whether glyph A is traced, waivers, how they are read, the status, the output, and standard error.
+struct Row {
+    made: Made,
+    traced: bool,
+    waivers: &'static [u8],
+    pace: Pace,
+    status: Status,
+    output: &'static str,
+    told: &'static str,
 }
 
-/// A font with this glyph A.
-fn with_glyph(alloc: Global, glyph: &[u8]) -> Result<Vec<u8>, AllocError> {
-    Sample::new(alloc)?.glyph(b"A", glyph)?.pfb()
-}
+/// A row of a report.
+const REPORT: Row = Row {
+    made: Made::Glyph(b""),
+    traced: false,
+    waivers: b"",
+    pace: Pace::Whole,
+    status: Status::Clean,
+    output: "",
+    told: "",
+};
 
-/// The glyph of the number 32001, 0, hmoveto, closepath, endchar.
-const FOUR_FAULTS: &[u8] = b"\xff\x00\x00\x7d\x01\x8b\x16\x09\x0e";
-
-/// The charstring of glyph A, waivers, the status, the output, and standard error.
-const ANSWERS: &[(&[u8], &[u8], Status, &str, &str)] = &[
-    (b"", b"A GE01\n", Status::Clean, "", ""),
-    (
-        b"",
-        b"A GE01\nA C05\nB C05\nA C05\n",
-        Status::Faults,
-        "1: waiver A C05 U01 waiver not used\n2: waiver B C05 U01 waiver not used\n",
-        "",
-    ),
-    (
-        FOUR_FAULTS,
-        b"A C05",
-        Status::Faults,
-        "1: glyph A - 3 C07 number out of range\n\
+const ROWS: &[Row] = &[
+    Row {
+        waivers: b"A GE01\n",
+        ..REPORT
+    },
+    Row {
+        waivers: b"A GE01\n",
+        pace: Pace::ByteARead,
+        ..REPORT
+    },
+    Row {
+        waivers: b"A GE01\nA C05\nB C05\nA C05\n",
+        status: Status::Faults,
+        output: "1: waiver A C05 U01 waiver not used\n2: waiver B C05 U01 waiver not used\n",
+        ..REPORT
+    },
+    Row {
+        waivers: b"A GE01\nA C05\nB C05\nA C05\n",
+        pace: Pace::ByteARead,
+        status: Status::Faults,
+        output: "1: waiver A C05 U01 waiver not used\n2: waiver B C05 U01 waiver not used\n",
+        ..REPORT
+    },
+    Row {
+        made: Made::Glyph(b"\xff\x00\x00\x7d\x01\x8b\x16\x09\x0e"),
+        waivers: b"A C05",
+        status: Status::Faults,
+        output: "1: glyph A - 3 C07 number out of range\n\
 2: glyph A - 3 W01 hsbw or sbw not first\n\
 3: glyph A - 4 P03 closepath without a path\n",
-        "",
-    ),
-    (
-        b"",
-        b"A",
-        Status::Refused,
-        "",
-        "refused: E14 waivers malformed\n",
-    ),
-    (
-        b"",
-        b"A F01",
-        Status::Refused,
-        "",
-        "refused: E14 waivers malformed\n",
-    ),
+        ..REPORT
+    },
+    Row {
+        made: Made::Glyph(b"\xff\x00\x00\x7d\x01\x8b\x16\x09\x0e"),
+        waivers: b"A C05",
+        pace: Pace::ByteARead,
+        status: Status::Faults,
+        output: "1: glyph A - 3 C07 number out of range\n\
+2: glyph A - 3 W01 hsbw or sbw not first\n\
+3: glyph A - 4 P03 closepath without a path\n",
+        ..REPORT
+    },
+    Row {
+        waivers: b"A",
+        status: Status::Refused,
+        told: "refused: E14 waivers malformed\n",
+        ..REPORT
+    },
+    Row {
+        waivers: b"A",
+        pace: Pace::ByteARead,
+        status: Status::Refused,
+        told: "refused: E14 waivers malformed\n",
+        ..REPORT
+    },
+    Row {
+        waivers: b"A F01",
+        status: Status::Refused,
+        told: "refused: E14 waivers malformed\n",
+        ..REPORT
+    },
+    Row {
+        waivers: b"A F01",
+        pace: Pace::ByteARead,
+        status: Status::Refused,
+        told: "refused: E14 waivers malformed\n",
+        ..REPORT
+    },
+    // The first read fails, and the one that would have found their end.
+    Row {
+        waivers: b"A GE01",
+        pace: Pace::Fails(0),
+        status: Status::Failed,
+        told: "t1check: read failed\n",
+        ..REPORT
+    },
+    Row {
+        waivers: b"A GE01",
+        pace: Pace::Fails(1),
+        status: Status::Failed,
+        told: "t1check: read failed\n",
+        ..REPORT
+    },
+    // They are left alone where the font is refused, and where a trace is requested.
+    Row {
+        made: Made::Bytes(&[0x80, 1, 5, 0, 0, 0, 0x25, 0x21, 0x0a, 0x0a]),
+        waivers: b"A",
+        pace: Pace::Fails(0),
+        status: Status::Refused,
+        told: "refused: E03 segment cut short\n",
+        ..REPORT
+    },
+    Row {
+        made: Made::Glyph(NOTDEF),
+        traced: true,
+        waivers: b"A",
+        pace: Pace::Fails(0),
+        output: "1 - 0\n2 - 500\n3 - hsbw\n4 - endchar\n",
+        ..REPORT
+    },
 ];
 
-/// The same is returned where a read returns one byte.
-#[test]
-fn reports_with_waivers(rt: HostRuntime) -> Result<(), Fail> {
-    let options = waived(rt.alloc(), None)?;
-    for (glyph, text, status, output, told) in ANSWERS {
-        let file = with_glyph(rt.alloc(), glyph)?;
-        for limit in [FAR, Limit::BytesPerCall(1)] {
-            let answer = answer_with(rt.alloc(), file.as_slice(), &options, text, limit);
-            assert!(rt;
-                answer.is(*status, output.as_bytes(), told.as_bytes()),
-                "{text:?}"
-            );
-        }
-    }
-    Ok(())
+/// Whether a row's answer is returned.
+fn is_answered(alloc: Global, row: &Row) -> Result<bool, AllocError> {
+    let file = file_of(alloc, row.made)?;
+    let answer = answer_with(alloc, file.as_slice(), row.traced, row.waivers, row.pace)?;
+    Ok(answer.is(row.status, row.output.as_bytes(), row.told.as_bytes()))
 }
 
-/// A read of the waivers fails: the first, and the one that would have found their end.
 #[test]
-fn reports_a_failed_read_of_waivers(rt: HostRuntime) -> Result<(), Fail> {
-    let options = waived(rt.alloc(), None)?;
-    let file = with_glyph(rt.alloc(), b"")?;
-    for calls in 0..2usize {
-        let limit = Limit::Calls(calls);
-        let answer = answer_with(rt.alloc(), file.as_slice(), &options, b"A GE01", limit);
+fn reports_with_waivers(rt: HostRuntime) -> Result<(), Fail> {
+    for row in ROWS {
         assert!(rt;
-            answer.is(Status::Failed, b"", b"t1check: read failed\n"),
-            "{calls}"
+            is_answered(rt.alloc(), row)?,
+            "{:?}, {:?}",
+            row.waivers,
+            row.pace
         );
     }
     Ok(())
-}
-
-/// What the program returns for a file with waivers whose first read fails.
-fn answer_without(alloc: Global, file: &[u8], trace: Option<String>) -> Result<Answer, AllocError> {
-    let options = waived(alloc, trace)?;
-    Ok(answer_with(alloc, file, &options, b"A", Limit::Calls(0)))
-}
-
-/// Waivers are left alone where the font is refused.
-#[test]
-fn leaves_waivers_alone_at_a_refusal(rt: HostRuntime) -> Result<(), Fail> {
-    let cut: &[u8] = &[0x80, 1, 5, 0, 0, 0, 0x25, 0x21, 0x0a, 0x0a];
-    let answer = answer_without(rt.alloc(), cut, None)?;
-    assert!(rt; answer.is(Status::Refused, b"", b"refused: E03 segment cut short\n"));
-    Ok(())
-}
-
-/// And where a trace is requested.
-#[test]
-fn leaves_waivers_alone_at_a_trace(rt: HostRuntime) -> Result<(), Fail> {
-    let file = with_glyph(rt.alloc(), NOTDEF)?;
-    let name = String::from_str(rt.alloc(), "A")?;
-    let answer = answer_without(rt.alloc(), file.as_slice(), Some(name))?;
-    assert!(rt;
-        answer.is(
-            Status::Clean,
-            b"1 - 0\n2 - 500\n3 - hsbw\n4 - endchar\n",
-            b""
-        )
-    );
-    Ok(())
-}
-
-/// What the program returns for so many empty lines of waivers, within a limit, where glyph A is empty.
-fn answer_to_lines(alloc: Global, count: usize, limit: Limit) -> Result<Answer, AllocError>
-    requires { lets_some_through limit ≡ true }
-{
-    let options = waived(alloc, None)?;
-    let file = with_glyph(alloc, b"")?;
-    let text = vec![in alloc; b'\n'; count]?;
-    Ok(answer_with(alloc, file.as_slice(), &options, text.as_slice(), limit))
 }
 
 /// How many empty lines, the status, the output, and standard error.
@@ -168,12 +207,19 @@ const AT_THE_LIMIT: &[(usize, Status, &str, &str)] = &[
     ),
 ];
 
+/// What the program returns for so many empty lines of waivers, where glyph A is empty.
+fn answer_to_lines(alloc: Global, count: usize, pace: Pace) -> Result<Answer, AllocError> {
+    let file = file_of(alloc, Made::Glyph(b""))?;
+    let text = vec![in alloc; b'\n'; count]?;
+    answer_with(alloc, file.as_slice(), false, text.as_slice(), pace)
+}
+
 /// Empty lines to the limit, and one more, a byte a read too.
 #[test]
 fn takes_waivers_to_their_limit(rt: HostRuntime) -> Result<(), Fail> {
     for (count, status, output, told) in AT_THE_LIMIT {
-        for limit in [FAR, Limit::BytesPerCall(1)] {
-            let answer = answer_to_lines(rt.alloc(), *count, limit)?;
+        for pace in [Pace::Whole, Pace::ByteARead] {
+            let answer = answer_to_lines(rt.alloc(), *count, pace)?;
             assert!(rt;
                 answer.is(*status, output.as_bytes(), told.as_bytes()),
                 "{count}"

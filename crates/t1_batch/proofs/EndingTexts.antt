@@ -1,51 +1,19 @@
 -- What is printed once all fonts were checked, step by step.
 use Rattle.std.proofs.Common.{◌≡◌, ℕ, Bool, true, false, List, [], ◌∷◌, Option, Result, Ok, Err, if◌then◌else◌, refl, sym, subst, ◌∙◌}
-use Rattle.std.specs.List.{AllZip}
 use Rattle.std.specs.Result.{IsErrAnd}
-use Rattle.t1_batch.specs.Endings.{AreFoundBy, CountsRows, Ends, IsFoundIn, WantedValue, mismatches_text, rest_text}
-use Rattle.t1_batch.specs.Modes.{ModeValue, anew, beyond, told, waived}
-use Rattle.t1_batch.specs.Private.Updates.{AreReadBy, IsBorrowed}
+use Rattle.t1_batch.specs.Endings.{CountsRows, Ends, WantedValue, mismatches_text, rest_text}
+use Rattle.t1_batch.specs.Modes.{ModeValue}
 use Rattle.t1_batch.specs.declared.ending.Ended.{Ended}
 use Rattle.t1_io.proofs.SinkLemmas.{PutFailed-first, PutFailed-second}
 use Rattle.t1_io.specs.Devices.{PutFailed, SinkState, Wrote}
-use Rattle.t1_known.specs.Readings.{AreReadingsOf, AreTextsOf}
 use Rattle.t1_known.specs.Writes.{WritesAll}
-use Rattle.t1_known.specs.declared.readings.Reading.{Reading as Text}
 use Rattle.t1_many.specs.KnownFaults.{Reading}
-use Rattle.t1_many.specs.declared.readings.Reading.{Reading as Kept}
 use Rattle.t1_many.specs.declared.recipient.Lost.{Lost}
 use Rattle.t1_many.specs.declared.recipient.Lost.TheVariants.{Device, Memory}
 use Rattle.t1_run.specs.declared.status.Status.{Status}
 use Rattle.t1_run.specs.declared.status.Status.TheVariants.{Clean, Failed}
 use Rattle.t1_summary.specs.declared.tally.Tally.{Tally}
 use Rattle.t1_waiving.specs.FontTexts.{FontText}
-
--- ---- texts of what was found
-
-pub texts_are : (texts : List Text) (all : List Reading) → AreReadingsOf texts all → AreTextsOf texts all
-texts_are [] [] are = tt
-texts_are [] (reading ∷ all) are = absurd are
-texts_are (text ∷ texts) [] are = absurd are
-texts_are (text ∷ texts) (reading ∷ all) (first, rest) = (first.0, texts_are texts all rest)
-
-readings_are : (kept : List Kept) (texts : List Text) (all : List Reading) → AllZip IsBorrowed kept texts → AllZip IsFoundIn kept all
-    → AreReadingsOf texts all
-readings_are [] [] [] lent found = tt
-readings_are [] [] (reading ∷ all) lent found = absurd found
-readings_are [] (text ∷ texts) all lent found = absurd lent
-readings_are (k ∷ kept) [] all lent found = absurd lent
-readings_are (k ∷ kept) (text ∷ texts) [] lent found = absurd found
-readings_are (k ∷ kept) (text ∷ texts) (reading ∷ all) (lent, more_lent) (found, more) = (
-  (record { font = lent.font ∙ found.0.font; rows = lent.rows ∙ found.0.rows }, found.1),
-  readings_are kept texts all more_lent more,
-)
-
-pub read_by : (mode : ModeValue) (kept : List Kept) (texts : List Text) (all : List Reading) → AllZip IsBorrowed kept texts
-    → AreFoundBy mode kept all → AreReadBy mode texts all
-read_by told kept texts all lent found = tt
-read_by (beyond rows) kept texts all lent found = readings_are kept texts all lent found
-read_by (anew rows) kept texts all lent found = readings_are kept texts all lent found
-read_by waived kept texts all lent found = tt
 
 -- ---- statuses
 

@@ -2,7 +2,7 @@
 use Rattle.std.proofs.Common.{◌≡◌, ◌⊎◌, List, [], ◌∷◌, ◌++◌, ℕ, Option, None, Some, Result, Ok, Err, inl, inr, refl, sym, ap, ap₂, subst, ◌∙◌, append-nil, append_assoc}
 use Rattle.std.proofs.lemmas.Grind.{flat_map-append}
 use Rattle.std.specs.List.{AllZip, flat_map}
-use Rattle.t1_batch.specs.Checks.{ChecksFonts, IsTextOf}
+use Rattle.t1_batch.specs.Checks.{ChecksFonts}
 use Rattle.t1_many.specs.Told.{all_handed, founds_of}
 use Rattle.t1_batch.specs.Checks.ChecksFonts.{cut_short, whole}
 use Rattle.t1_batch.specs.Modes.{entry_readings, outcome_readings}
@@ -13,7 +13,7 @@ use Rattle.t1_many.specs.Ends.Ends.{all, stopped}
 use Rattle.t1_many.specs.Files.{Files}
 use Rattle.t1_many.specs.Handing.{Handed, HandsOn, found_of, handed_of}
 use Rattle.t1_many.specs.Outcomes.{Entry, Outcome, Report, failed, reported}
-use Rattle.t1_many.specs.Readings.{TakesOutcome}
+use Rattle.t1_many.specs.Readings.{IsReadingOf, TakesOutcome}
 use Rattle.t1_many.specs.declared.readings.Reading.{Reading as Kept}
 use Rattle.t1_many.specs.declared.recipient.Lost.{Lost}
 use Rattle.t1_many.specs.declared.recipient.Lost.TheVariants.{Memory}
@@ -44,7 +44,7 @@ module _ {T F : Type 0} (takes : F → F → Handed → Option Lost → Type 0) 
     pub found_is : found ≡ found_of judge outcome
     pub added : List Kept
     pub kept_is : new ≡ old ++ added
-    pub texts : AllZip IsTextOf added (outcome_readings mask name outcome)
+    pub texts : AllZip IsReadingOf added (outcome_readings mask name outcome)
 
   has_taken : (judge : Report → FaultValue → Verdict) (mask : Mask) (a b : F) (old new : List Kept) (name : List ℕ) (outcome : Outcome)
       (found : Found) → TakesOutcome takes judge mask a b old new name outcome (Ok found)
@@ -54,7 +54,7 @@ module _ {T F : Type 0} (takes : F → F → Handed → Option Lost → Type 0) 
     found_is = hands.1;
     added = reading ∷ [];
     kept_is = keeps;
-    texts = (record { font = is.font_is; rows = is.rows_are }, tt);
+    texts = (is, tt);
   }
   has_taken judge mask a b old new name (failed reason) found (hands, same) = record {
     handed = hands.0;
@@ -85,7 +85,7 @@ module _ {T F : Type 0} (takes : F → F → Handed → Option Lost → Type 0) 
     pub founds_are : founds ≡ founds_of (judges old) entries
     pub added : List Kept
     pub kept_is : kept new ≡ kept old ++ added
-    pub texts : AllZip IsTextOf added (flat_map (entry_readings (rules old)) entries)
+    pub texts : AllZip IsReadingOf added (flat_map (entry_readings (rules old)) entries)
 
   have_taken : (old new : T) (entries : List Entry) (founds : List Found) → AreTaken TakesFont old new entries founds
       → HaveTaken old new entries founds
@@ -113,8 +113,8 @@ module _ {T F : Type 0} (takes : F → F → Handed → Option Lost → Type 0) 
             (more.founds_are ∙ ap (λ (j : List ℕ → Report → FaultValue → Verdict). founds_of j entries) took.judges_stay);
         added = one.added ++ more.added;
         kept_is = more.kept_is ∙ ap (λ ks. ks ++ more.added) one.kept_is ∙ append_assoc (kept old) one.added more.added;
-        texts = zip-append IsTextOf one.added more.added (entry_readings (rules old) entry) _ one.texts
-            (subst (λ (r : Mask). AllZip IsTextOf more.added (flat_map (entry_readings r) entries)) took.rules_stay more.texts);
+        texts = zip-append IsReadingOf one.added more.added (entry_readings (rules old) entry) _ one.texts
+            (subst (λ (r : Mask). AllZip IsReadingOf more.added (flat_map (entry_readings r) entries)) took.rules_stay more.texts);
       }
 
   handed-push : (judge : List ℕ → Report → FaultValue → Verdict) (entries : List Entry) (last : Entry)
@@ -125,15 +125,15 @@ module _ {T F : Type 0} (takes : F → F → Handed → Option Lost → Type 0) 
 
   pub checks_fonts : (judge : List ℕ → Report → FaultValue → Verdict) (mask : Mask) (files : Files) (edition : Edition) (names : List (List ℕ))
       (old new : T) (result : Result Status Lost) (Keeps : List Entry → Type 0) → judges old ≡ judge → rules old ≡ mask → kept old ≡ []
-      → ((entries : List Entry) → AllZip IsTextOf (kept new) (flat_map (entry_readings mask) entries) → Keeps entries)
+      → ((entries : List Entry) → AllZip IsReadingOf (kept new) (flat_map (entry_readings mask) entries) → Keeps entries)
       → Ends TakesFont files edition names old new result
       → ChecksFonts takes judge files edition names (form old) (form new) Keeps result
   checks_fonts judge mask files edition names old new result Keeps judge_is mask_is none keeps (all entries founds are taken is) =
       let so = have_taken old new entries founds taken in
       whole entries are
       (subst (λ (j : List ℕ → Report → FaultValue → Verdict). HandsOn takes (form old) (form new) (all_handed j entries) None) judge_is so.handed)
-      (keeps entries (subst (λ (m : Mask). AllZip IsTextOf (kept new) (flat_map (entry_readings m) entries)) mask_is
-      (subst (λ (ks : List Kept). AllZip IsTextOf ks (flat_map (entry_readings (rules old)) entries))
+      (keeps entries (subst (λ (m : Mask). AllZip IsReadingOf (kept new) (flat_map (entry_readings m) entries)) mask_is
+      (subst (λ (ks : List Kept). AllZip IsReadingOf ks (flat_map (entry_readings (rules old)) entries))
       (sym (so.kept_is ∙ ap (λ ks. ks ++ so.added) none)) so.texts)))
       (is ∙ ap (λ fs. Ok (status_of_all fs))
       (so.founds_are ∙ ap (λ (j : List ℕ → Report → FaultValue → Verdict). founds_of j entries) judge_is))

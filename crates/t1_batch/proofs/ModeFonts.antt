@@ -2,7 +2,7 @@
 use Rattle.std.proofs.Common.{◌≡◌, ℕ, List, [], ◌∷◌, ◌++◌, Option, Some, Result, inl, refl, sym, ap, ap₂, subst, ◌∙◌}
 use Rattle.std.specs.List.{AllZip}
 use Rattle.t1_batch.proofs.FontsTaken.{TakesFont, checks_fonts}
-use Rattle.t1_batch.specs.Checks.{ChecksFonts, IsKept, IsTextOf}
+use Rattle.t1_batch.specs.Checks.{ChecksFonts, IsKept}
 use Rattle.t1_batch.specs.Checks.ChecksFonts.{cut_short as cut_short', whole as whole'}
 use Rattle.t1_batch.specs.Modes.{anew, beyond, counts_in, judges_of, told, waived}
 use Rattle.t1_char.specs.declared.edition.Edition.{Edition}
@@ -12,7 +12,7 @@ use Rattle.t1_many.specs.Files.{Files}
 use Rattle.t1_many.specs.Handing.{Handed}
 use Rattle.t1_many.specs.KnownFaults.{RowValue}
 use Rattle.t1_many.specs.Outcomes.{Entry, Report}
-use Rattle.t1_many.specs.Readings.{TakesKnown, as_known, by_known}
+use Rattle.t1_many.specs.Readings.{IsReadingOf, TakesKnown, as_known, by_known}
 use Rattle.t1_many.specs.Told.{TellsAll}
 use Rattle.t1_many.specs.Told.TellsAll.{cut_short, whole}
 use Rattle.t1_many.specs.Verdicts.{of_rules}
@@ -27,8 +27,8 @@ use Rattle.t1_waiving.specs.FontTexts.{FontText, all_texts}
 use Rattle.t1_waiving.specs.Waived.{WaivesAll}
 use Rattle.t1_waiving.specs.Waived.WaivesAll.{cut_short as waived_short, whole as waived_whole}
 
-none_kept : (readings : List Kept) → readings ≡ [] → AllZip IsTextOf readings []
-none_kept readings none = subst (λ (rs : List Kept). AllZip IsTextOf rs []) (sym none) tt
+none_kept : (readings : List Kept) → readings ≡ [] → AllZip IsReadingOf readings []
+none_kept readings none = subst (λ (rs : List Kept). AllZip IsReadingOf rs []) (sym none) tt
 
 module _ {F : Type 0} (takes : F → F → Handed → Option Lost → Type 0) (mask : Mask) (files : Files) (edition : Edition) (names : List (List ℕ))
     (old new : F) (result : Result Status Lost) (readings : List Kept) (waivers : List FontText) where

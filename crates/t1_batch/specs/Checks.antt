@@ -1,13 +1,13 @@
 -- How a check of fonts ends, and what is kept of them.
-use Rattle.std.specs.Prelude.{◌≡◌, ◌⊎◌, ℕ, List, string_bytes, take, Option, None, Some, Result, Ok, Err}
-use Rattle.std.specs.List.{AllZip, flat_map}
+use Rattle.std.specs.Prelude.{◌≡◌, ◌⊎◌, ℕ, List, take, Option, None, Some, Result, Ok, Err}
+use Rattle.std.specs.List.{AllZip}
 use Rattle.t1_char.specs.declared.edition.Edition.{Edition}
 use Rattle.t1_many.specs.Counting.{all_lines}
 use Rattle.t1_many.specs.Ends.{AreEntries, status_of_all}
 use Rattle.t1_many.specs.Files.{Files}
 use Rattle.t1_many.specs.Handing.{Handed, HandsOn}
-use Rattle.t1_many.specs.KnownFaults.{Reading, row_text, rows_of}
 use Rattle.t1_many.specs.Outcomes.{Entry, Report}
+use Rattle.t1_many.specs.Readings.{IsReadingOf}
 use Rattle.t1_many.specs.Told.{all_handed, founds_of}
 use Rattle.t1_many.specs.declared.readings.Reading.{Reading as Kept}
 use Rattle.t1_many.specs.declared.recipient.Lost.{Lost}
@@ -36,14 +36,9 @@ pub data ChecksFonts {F : Type 0} (takes : F → F → Handed → Option Lost �
 
 -- ---- what is kept
 
--- The text of a font's rows is kept.
-pub record IsTextOf (kept : Kept) (reading : Reading) : Type 0 where
-  pub font : string_bytes kept.font ≡ reading.font
-  pub rows : kept.rows.items ≡ flat_map row_text (rows_of reading.font reading.kinds)
-
--- The rows and the waivers of fonts are kept, as the mode needs it.
+-- What was found in fonts, and their waivers, are kept, as the mode needs it.
 pub record IsKept (mode : ModeValue) (rules : Mask) (readings : List Kept) (waivers : List FontText) (entries : List Entry) : Type 0 where
-  pub readings_are : AllZip IsTextOf readings (readings_of mode rules entries)
+  pub readings_are : AllZip IsReadingOf readings (readings_of mode rules entries)
   pub waivers_are : waivers ≡ waivers_of mode rules entries
 
 -- What was found in fonts: so many fonts were found so, and so many lines of each rule were handed on; what is kept of them is kept.

@@ -1,8 +1,8 @@
 -- What is printed once all fonts were checked, and what is left to do.
 use Rattle.std.specs.Prelude.{◌≡◌, ◌++◌, ℕ, ◌&&◌, nat_lt, Bool, true, false, List, [], codes, length, Option, None, Some, option_map, Result, Ok, Err, if◌then◌else◌}
-use Rattle.std.specs.List.{AllZip, flat_map, list_any}
+use Rattle.std.specs.List.{flat_map, list_any}
 use Rattle.t1_io.specs.Devices.{PutFailed, SinkState, Wrote}
-use Rattle.t1_known.specs.Readings.{IsReadable, choice_of as choice_by}
+use Rattle.t1_known.specs.Readings.{AreReadingsOf, choice_of as choice_by}
 use Rattle.t1_known.specs.Reads.{IsReadAs}
 use Rattle.t1_many.specs.Choice.{Choice}
 use Rattle.t1_many.specs.KnownFaults.{Reading, RowValue, file_text, mismatch, updated}
@@ -21,7 +21,6 @@ use Rattle.t1_summary.specs.declared.found.Found.TheVariants as founds
 use Rattle.t1_summary.specs.declared.tally.Tally.{Tally}
 use Rattle.t1_waiving.specs.FontTexts.{FontText}
 use Rattle.t1_waiving.specs.TooMany.{has_too_many, too_many_line}
-use Rattle.t1_batch.specs.Checks.{IsTextOf}
 use Rattle.t1_batch.specs.Modes.{ModeValue, anew, beyond, told, waived}
 use Rattle.t1_batch.specs.declared.ending.Wanted.{Wanted}
 use Rattle.t1_batch.specs.declared.ending.Ended.{Ended}
@@ -34,16 +33,11 @@ pub record WantedValue : Type 0 where
 abbrev pub wanted_value : Wanted → WantedValue
 wanted_value wanted = record { choice = choice_by wanted.only.now wanted.except.now; failing = wanted.failing }
 
--- What was found in a font, where its rows can be read.
-abbrev pub IsFoundIn : Kept → Reading → Type 0
-IsFoundIn kept reading = IsTextOf kept reading × IsReadable reading
-
--- What was found in fonts, where it is compared with known faults or becomes known: each is kept, and its rows can be read. Elsewhere nothing is
--- asked of it.
+-- What was found in fonts is kept, where it is compared with known faults or becomes known.
 abbrev pub AreFoundBy : ModeValue → List Kept → List Reading → Type 0
 AreFoundBy told kept readings = Unit {0}
-AreFoundBy (beyond rows) kept readings = AllZip IsFoundIn kept readings
-AreFoundBy (anew rows) kept readings = AllZip IsFoundIn kept readings
+AreFoundBy (beyond rows) kept readings = AreReadingsOf kept readings
+AreFoundBy (anew rows) kept readings = AreReadingsOf kept readings
 AreFoundBy waived kept readings = Unit {0}
 
 -- ---- what is printed

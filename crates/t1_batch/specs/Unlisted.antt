@@ -17,21 +17,17 @@ GivesEach {T} writes old new out out' (told ∷ more) lost =
 abbrev pub undecoded : ToldValue
 undecoded = record { font = None; what = of_unchecked (codes "a name that is not UTF-8 is passed over"); reason = None }
 
--- A name with a line end can't be in a line, so none is given.
-abbrev pub passed_over : ToldValue
-passed_over = record { font = None; what = of_unchecked (codes "a name with a line end is passed over"); reason = None }
-
 -- A folder that wasn't searched whole.
 abbrev pub unsearched : List ℕ → ToldValue
 unsearched folder = record { font = Some folder; what = of_unchecked (codes "search failed"); reason = None }
 
--- Names that aren't UTF-8, names with a line end, and the folders.
-abbrev pub unlisted_told : ℕ → ℕ → List (List ℕ) → List ToldValue
-unlisted_told nameless count folders = replicate nameless undecoded ++ (replicate count passed_over ++ map unsearched folders)
+-- Names that aren't UTF-8, and the folders.
+abbrev pub unlisted_told : ℕ → List (List ℕ) → List ToldValue
+unlisted_told nameless folders = replicate nameless undecoded ++ map unsearched folders
 
 -- The same of a value of the program.
 abbrev pub unlisted_in : Unlisted → List ToldValue
-unlisted_in unlisted = unlisted_told unlisted.undecoded unlisted.passed_over (map string_bytes unlisted.unsearched.now)
+unlisted_in unlisted = unlisted_told unlisted.undecoded (map string_bytes unlisted.unsearched.now)
 
 -- All could be listed.
 abbrev pub is_whole : List ToldValue → Bool

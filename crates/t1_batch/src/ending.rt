@@ -1,21 +1,20 @@
 //! What is printed once all fonts were checked, and what is left to do.
 
 ghost use Rattle.std.specs.Prelude.{◌≡◌, IfOk, IfSome, List, option_map};
-ghost use Rattle.std.specs.List.{AllZip};
 ghost use Rattle.t1_batch.specs.Endings.{AreFoundBy, Ends, any_failing, has_failing, has_known, mismatches_text, rest_text, status_in, status_of, summary_text, unwaived_text, wanted_value};
 ghost use Rattle.t1_batch.specs.Modes.{mode_value};
-ghost use Rattle.t1_batch.specs.Private.Updates.{AreReadBy, IsBorrowed, IsUpdated};
+ghost use Rattle.t1_batch.specs.Private.Updates.{IsUpdated};
 ghost use Rattle.t1_io.specs.Devices.{Writes};
-ghost use Rattle.t1_known.specs.Readings.{AreTextsOf};
+ghost use Rattle.t1_known.specs.Readings.{AreReadingsOf};
 ghost use Rattle.t1_known.specs.Writes.{WritesAll};
 ghost use Rattle.t1_many.specs.KnownFaults.{Reading as ReadingValue, file_text, updated};
 
 use crate::checking::Findings;
 use crate::mode::Mode;
-use std::alloc::{AllocError, Global};
+use std::alloc::Global;
 use t1_io::{Broken, Sink, put_all};
-use t1_known::{KnownFaults, Reading, write_mismatches, write_updated};
-use t1_many::{Lost, Reading as Kept};
+use t1_known::{KnownFaults, write_mismatches, write_updated};
+use t1_many::{Lost, Reading};
 use t1_rules::{Mask, Rule, all_rules};
 use t1_run::Status;
 use t1_summary::{Found, Tally, summary};
@@ -68,12 +67,9 @@ pub fn end<E: Sink>(
     ensures { (all : List ReadingValue) → AreFoundBy (mode_value mode.entry) found.now.readings.items all
         → Ends (mode_value mode.entry) (wanted_value wanted.entry) quiet found.now.tally all found.now.kept (E.state errors.old) (E.state errors.new) result }
 {
-    let Ok(readings) = borrowed(alloc, found.readings.as_slice()) else {
-        return Err(Lost::Memory);
-    };
-    let texts = readings.as_slice();
-    let remade = known_faults_anew(alloc, mode, texts, wanted)?;
-    tell_mismatches(alloc, mode, texts, wanted, errors)?;
+    let readings = found.readings.as_slice();
+    let remade = known_faults_anew(alloc, mode, readings, wanted)?;
+    tell_mismatches(alloc, mode, readings, wanted, errors)?;
     let rows = rows_in(&remade);
     let status = tell_rest(
         mode,
@@ -110,26 +106,11 @@ fn text_in(remade: Option<Remade>) -> Option<Vec<u8>>
     }
 }
 
-/// The texts of what was found, borrowed.
-fn borrowed(alloc: Global, kept: &[Kept]) -> Result<Vec<Reading<'_>>, AllocError>
-    ensures { IfOk result (λ texts. AllZip IsBorrowed kept.now texts.items) }
-{
-    let mut texts = Vec::new(alloc);
-    for reading in kept {
-        let text = Reading {
-            font: reading.font.as_str(),
-            rows: reading.rows.as_slice(),
-        };
-        texts.push(text)?;
-    }
-    Ok(texts)
-}
-
 /// The file of known faults from now on, where it is made anew. It is read back, which shows how many rows it has.
 fn known_faults_anew(
     alloc: Global,
     mode: Mode<'_>,
-    readings: &[Reading<'_>],
+    readings: &[Reading],
     wanted: Wanted<'_>,
 ) -> Result<Option<Remade>, Lost>
     ensures { IsUpdated (mode_value mode.entry) (wanted_value wanted.entry).choice readings.now result }
@@ -151,10 +132,10 @@ fn known_faults_anew(
 fn text_anew(
     alloc: Global,
     known: &KnownFaults<'_>,
-    readings: &[Reading<'_>],
+    readings: &[Reading],
     wanted: Wanted<'_>,
 ) -> Option<Vec<u8>>
-    ensures { IfSome result (λ text. (all : List ReadingValue) → AreTextsOf readings.now all
+    ensures { IfSome result (λ text. (all : List ReadingValue) → AreReadingsOf readings.now all
         → text.items ≡ file_text (updated (wanted_value wanted.entry).choice all known.now)) }
 {
     let mut text = Text::new(alloc);
@@ -177,11 +158,11 @@ fn text_anew(
 fn tell_mismatches<E: Sink>(
     alloc: Global,
     mode: Mode<'_>,
-    readings: &[Reading<'_>],
+    readings: &[Reading],
     wanted: Wanted<'_>,
     errors: &mut E,
 ) -> Result<(), Lost>
-    ensures { (all : List ReadingValue) → AreReadBy (mode_value mode.entry) readings.now all → WritesAll (E.state errors.old) (E.state errors.new)
+    ensures { (all : List ReadingValue) → AreFoundBy (mode_value mode.entry) readings.now all → WritesAll (E.state errors.old) (E.state errors.new)
         (mismatches_text (mode_value mode.entry) (wanted_value wanted.entry).choice all) result }
 {
     match mode {

@@ -1,7 +1,7 @@
 //! What of a list of fonts couldn't be listed, in the forms that other programs read.
 
 ghost use Rattle.std.specs.Prelude.{◌≡◌, map, replicate, string_bytes};
-ghost use Rattle.t1_batch.specs.Unlisted.{GivesEach, is_whole, passed_over, undecoded, unlisted_in, unsearched};
+ghost use Rattle.t1_batch.specs.Unlisted.{GivesEach, is_whole, undecoded, unlisted_in, unsearched};
 ghost use Rattle.t1_forms.specs.Tellings.{told_value};
 ghost use Rattle.t1_many.specs.Handing.{lost_of};
 ghost use Rattle.t1_many_forms.specs.Formatting.{HasItsLine};
@@ -17,8 +17,6 @@ use t1_many_forms::{Formatter, give};
 pub struct Unlisted<'a> {
     /// How many names aren't UTF-8, and so are no names of files here.
     pub undecoded: usize,
-    /// How many names have a line end, and so can't be in a line.
-    pub passed_over: usize,
     /// The folders that weren't searched whole.
     pub unsearched: &'a [String],
 }
@@ -28,11 +26,11 @@ impl<'a> Unlisted<'a> {
     pub fn is_empty(&self) -> bool
         ensures { result ≡ is_whole (unlisted_in self.now) }
     {
-        self.undecoded == 0 && self.passed_over == 0 && self.unsearched.is_empty()
+        self.undecoded == 0 && self.unsearched.is_empty()
     }
 }
 
-/// Gives a formatter what couldn't be listed: that each name that isn't UTF-8 was skipped, that each with a line end was, then the folders.
+/// Gives a formatter what couldn't be listed: that each name that isn't UTF-8 was skipped, then the folders.
 pub fn give_unlisted<T: Formatter, W: Sink>(
     alloc: Global,
     unlisted: Unlisted<'_>,
@@ -43,7 +41,6 @@ pub fn give_unlisted<T: Formatter, W: Sink>(
         (unlisted_in unlisted.entry) (lost_of result) }
 {
     give_undecoded(alloc, unlisted.undecoded, formatter, out)?;
-    give_passed_over(alloc, unlisted.passed_over, formatter, out)?;
     give_unsearched(alloc, unlisted.unsearched, formatter, out)
 }
 
@@ -61,25 +58,6 @@ fn give_undecoded<T: Formatter, W: Sink>(
         font: None,
         what: What::Unchecked(b"a name that is not UTF-8 is passed over"),
         line: b"t1check: a name that is not UTF-8 is passed over",
-        reason: None,
-    };
-    give_times(alloc, count, &told, formatter, out)
-}
-
-/// Gives a formatter so often that a name has a line end.
-fn give_passed_over<T: Formatter, W: Sink>(
-    alloc: Global,
-    count: usize,
-    formatter: &mut T,
-    out: &mut W,
-) -> Result<(), Lost>
-    ensures { GivesEach T.writes formatter.old formatter.new (W.state out.old) (W.state out.new)
-        (replicate count passed_over) (lost_of result) }
-{
-    let told = Told {
-        font: None,
-        what: What::Unchecked(b"a name with a line end is passed over"),
-        line: b"t1check: a name with a line end is passed over",
         reason: None,
     };
     give_times(alloc, count, &told, formatter, out)

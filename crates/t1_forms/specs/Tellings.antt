@@ -1,6 +1,5 @@
 -- What is reported of fonts in a line, and how it is spelled.
-use Rattle.std.specs.Prelude.{ℕ, List, [], ◌∷◌, ◌++◌, codes, Option, option_map}
-use Rattle.std.specs.List.{concat}
+use Rattle.std.specs.Prelude.{ℕ, List, ◌++◌, codes, Option, option_map}
 use Rattle.serde_json.specs.Data.{Members}
 use Rattle.serde_json.specs.View.{members_view}
 use Rattle.t1_lines.specs.Lines.{LineValue, IsLine, line_value, spelled}
@@ -43,10 +42,6 @@ told_value t = record {
 abbrev pub what_spelled : WhatValue → List ℕ
 what_spelled (of_line l) = spelled l
 what_spelled (of_unchecked reason) = codes "t1check: " ++ reason
-
--- `NAME: t1check: REASON`, with its end.
-abbrev pub unchecked_line : List ℕ → List ℕ → List ℕ
-unchecked_line name reason = concat (name ∷ codes ": " ∷ []) ++ concat (codes "t1check: " ∷ reason ∷ codes "\n" ∷ [])
 
 -- A line of a report is one.
 abbrev pub IsWhat : WhatValue → Type 0

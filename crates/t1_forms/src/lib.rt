@@ -52,5 +52,5 @@ pub use sarif::{RESULT_COUNTS, Sarif};
 pub use sarif_laws::{
     all_is_told_in_documents, documents_are_of_their_runs, fingerprints_stay, results_are_read_back,
 };
-pub use told::{Told, What, tell_unchecked};
+pub use told::{Told, What};
 pub use version::VERSION;

@@ -1,14 +1,7 @@
 //! What is reported of fonts.
 
-ghost use Rattle.t1_io.specs.Devices.{Writes};
-ghost use Rattle.t1_forms.specs.Tellings.{unchecked_line};
-
 use crate::ToldReason;
-use t1_io::{Broken, Sink, put_parts};
 use t1_lines::Line;
-
-/// The prefix of the reason why a font wasn't checked.
-const UNCHECKED: &[u8] = b"t1check: ";
 
 /// What is reported, with its line.
 #[derive(Debug, PartialEq, Drop)]
@@ -30,14 +23,4 @@ pub enum What<'a> {
     Line(Line<'a>),
     /// Why the font wasn't checked.
     Unchecked(&'a [u8]),
-}
-
-/// Prints that what has this name wasn't checked, as `NAME: t1check: REASON`.
-pub fn tell_unchecked<W: Sink>(sink: &mut W, name: &str, reason: &str) -> Result<(), Broken>
-    ensures { Writes (W.state sink.old) (W.state sink.new) (unchecked_line name.now reason.now) result }
-{
-    put_parts(
-        sink,
-        &[name.as_bytes(), b": ", UNCHECKED, reason.as_bytes(), b"\n"],
-    )
 }

@@ -3,7 +3,6 @@ use Rattle.std.proofs.Common.{◌≡◌, ◌-◌, ℕ, true, Bool, List, [], ◌
 use Rattle.std.proofs.KnownBytes.{Appends-nil, Appends-trans}
 use Rattle.std.proofs.lemmas.Option.{none-some}
 use Rattle.std.specs.Io.KnownBytes.{Appends}
-use Rattle.t1_forms.specs.Tellings.{unchecked_line}
 use Rattle.t1_grouped.proofs.GroupTails.{IsGroup, tail_is}
 use Rattle.t1_grouped.proofs.HeldGroups.{AreGroups, line_held, lines_are_held, none_held}
 use Rattle.t1_grouped.specs.Commands.{command_writing, group_command, group_message, message_room}
@@ -23,8 +22,10 @@ use Rattle.t1_many.specs.Plain.{failure_told, tellings, told_of}
 use Rattle.t1_many.specs.declared.recipient.Lost.{Lost}
 use Rattle.t1_many.specs.declared.recipient.Lost.TheVariants.{Device, Memory}
 use Rattle.t1_rules.specs.declared.rule.Rule.{Rule}
-use Rattle.t1_run.specs.declared.failure.Failure.{Failure}
-use Rattle.t1_run.specs.declared.failure.Failure.TheVariants as failures
+use Rattle.t1_many.specs.FontErrors.{reason_of}
+use Rattle.t1_many.specs.Unchecked.{unchecked_line}
+use Rattle.t1_many.specs.declared.font_error.FontError.{FontError}
+use Rattle.t1_many.specs.declared.font_error.FontError.TheVariants.{Refused, Unchecked}
 use Rattle.t1_summary.specs.declared.found.Found.{Found}
 
 -- A form writes of groups what is worded of their lines.
@@ -128,11 +129,10 @@ module _ (writing : Writing) (wording : Wording) (is : IsWorded writing wording)
       text-half old new (wording.refusal name code) [] lost
       (subst (λ t. IsTextPut old.out new.out t (Some lost)) (is.refusal name code) put) (none-same old.errors new.errors same)
 
-  failure-out : (old new : Grouping) (name : List ℕ) (reason : Failure) (lost : Option Lost) → TellsFailure writing old new name reason lost
+  failure-out : (old new : Grouping) (name : List ℕ) (reason : FontError) (lost : Option Lost) → TellsFailure writing old new name reason lost
       → IsWritten old new (failure_words wording name reason) (failure_told name reason) lost
-  failure-out old new name (failures.Refused code) lost (put, same) = refusal-out old new name code lost put same
-  failure-out old new name failures.Broken lost tells = unchecked-out old new name (codes "read failed") lost tells
-  failure-out old new name failures.Memory lost tells = unchecked-out old new name (codes "out of memory") lost tells
+  failure-out old new name (Refused code) lost (put, same) = refusal-out old new name code lost put same
+  failure-out old new name (Unchecked why) lost tells = unchecked-out old new name (reason_of why) lost tells
 
   lines-are : (name : List ℕ) (held : List HeldLine) (groups : List GroupValue) → AreGroups writing.room held groups
       → group_lines (writing.line name) groups ≡ held_text (wording.line name) held

@@ -1,6 +1,5 @@
 -- What is taken of things that are handed on: lines are kept in groups until their font is done.
-use Rattle.std.specs.Prelude.{◌≡◌, ℕ, List, Option, None, Some, codes}
-use Rattle.t1_forms.specs.Tellings.{unchecked_line}
+use Rattle.std.specs.Prelude.{◌≡◌, ℕ, List, Option, None, Some}
 use Rattle.t1_grouped.specs.GroupLines.{Writing, group_lines}
 use Rattle.t1_grouped.specs.Groups.{GroupValue}
 use Rattle.t1_grouped.specs.Held.{held_line}
@@ -9,8 +8,10 @@ use Rattle.t1_io.specs.Devices.{Delivered, DeliveryFailed, PutFailed, SinkState,
 use Rattle.t1_many.specs.Handing.{Handed, done, failure, line}
 use Rattle.t1_many.specs.declared.recipient.Lost.{Lost}
 use Rattle.t1_many.specs.declared.recipient.Lost.TheVariants.{Device, Memory}
-use Rattle.t1_run.specs.declared.failure.Failure.{Failure}
-use Rattle.t1_run.specs.declared.failure.Failure.TheVariants as failures
+use Rattle.t1_many.specs.FontErrors.{reason_of}
+use Rattle.t1_many.specs.declared.font_error.FontError.{FontError}
+use Rattle.t1_many.specs.declared.font_error.FontError.TheVariants.{Refused, Unchecked}
+use Rattle.t1_many.specs.Unchecked.{unchecked_line}
 
 -- The devices, and the groups of the font whose lines are handed on.
 pub record Grouping : Type 0 where
@@ -45,11 +46,10 @@ pub data TellsUnchecked (writing : Writing) (old new : Grouping) (name reason : 
       → TellsUnchecked writing old new name reason lost
 
 -- Why there is no report of a font was put.
-abbrev pub TellsFailure : Writing → Grouping → Grouping → List ℕ → Failure → Option Lost → Type 0
-TellsFailure writing old new name (failures.Refused code) lost =
+abbrev pub TellsFailure : Writing → Grouping → Grouping → List ℕ → FontError → Option Lost → Type 0
+TellsFailure writing old new name (Refused code) lost =
     IsTextPut old.out new.out (writing.refusal name code) lost × (new.errors ≡ old.errors)
-TellsFailure writing old new name failures.Broken lost = TellsUnchecked writing old new name (codes "read failed") lost
-TellsFailure writing old new name failures.Memory lost = TellsUnchecked writing old new name (codes "out of memory") lost
+TellsFailure writing old new name (Unchecked why) lost = TellsUnchecked writing old new name (reason_of why) lost
 
 -- The lines of a font's groups were written and flushed, and no group has lines any more; or a device failed; or memory ran out before.
 abbrev pub WritesGroups : Writing → Grouping → Grouping → List ℕ → Option Lost → Type 0

@@ -1,5 +1,5 @@
 -- What is written of things that are handed on, in a form of groups.
-use Rattle.std.specs.Prelude.{◌≡◌, ◌⊎◌, ℕ, true, List, [], ◌∷◌, ◌++◌, Bool, Option, None, Some, codes}
+use Rattle.std.specs.Prelude.{◌≡◌, ◌⊎◌, ℕ, true, List, [], ◌∷◌, ◌++◌, Bool, Option, None, Some}
 use Rattle.std.specs.Io.KnownBytes.{Appends}
 use Rattle.t1_grouped.specs.Commands.{command_line_of, refusal_command, unchecked_command}
 use Rattle.t1_grouped.specs.Grouping.{Grouping}
@@ -12,8 +12,9 @@ use Rattle.t1_many.specs.Plain.{tellings}
 use Rattle.t1_many.specs.declared.recipient.Lost.{Lost}
 use Rattle.t1_many.specs.declared.recipient.Lost.TheVariants.{Memory}
 use Rattle.t1_rules.specs.declared.rule.Rule.{Rule}
-use Rattle.t1_run.specs.declared.failure.Failure.{Failure}
-use Rattle.t1_run.specs.declared.failure.Failure.TheVariants as failures
+use Rattle.t1_many.specs.FontErrors.{reason_of}
+use Rattle.t1_many.specs.declared.font_error.FontError.{FontError}
+use Rattle.t1_many.specs.declared.font_error.FontError.TheVariants.{Refused, Unchecked}
 
 -- Whether reasons are written; the line of a font's name and a rule, of how many lines there are, the names of their units, and the reason
 -- of the first; a refusal; and what is written of a font that wasn't checked for a reason.
@@ -41,10 +42,9 @@ command_wording reasons = record {
 }
 
 -- Why there is no report of a font.
-abbrev pub failure_words : Wording → List ℕ → Failure → List ℕ
-failure_words wording name (failures.Refused code) = wording.refusal name code
-failure_words wording name failures.Broken = wording.unchecked name (codes "read failed")
-failure_words wording name failures.Memory = wording.unchecked name (codes "out of memory")
+abbrev pub failure_words : Wording → List ℕ → FontError → List ℕ
+failure_words wording name (Refused code) = wording.refusal name code
+failure_words wording name (Unchecked why) = wording.unchecked name (reason_of why)
 
 -- What is written of a thing that is handed on after lines of a font that isn't done; and the lines that are held then.
 abbrev pub text_of_one : Wording → List HeldLine → Handed → List ℕ

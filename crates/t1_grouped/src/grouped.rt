@@ -14,13 +14,11 @@ use crate::groups::Groups;
 use crate::lines::group_lines;
 use std::alloc::{AllocError, Global};
 use t1_font::Font;
-use t1_forms::tell_unchecked;
 use t1_io::{Sink, deliver};
-use t1_many::{Form, Lost, told_text};
+use t1_many::{FontError, Form, Lost, tell_unchecked, told_text};
 use t1_reasons::ReportReasons;
 use t1_report::{Fault, Waivers};
 use t1_rules::Rule;
-use t1_run::Failure;
 use t1_summary::Found;
 
 /// Keeps the lines of a font in groups, and writes these once the font is done. A refusal is written, and why a font wasn't checked is also
@@ -122,13 +120,12 @@ impl<T: GroupForm, W: Sink, E: Sink> Form for Grouped<T, W, E> {
         }
     }
 
-    fn failure(&mut self, name: &str, reason: Failure) -> Result<(), Lost> {
+    fn failure(&mut self, name: &str, reason: FontError) -> Result<(), Lost> {
         match reason {
-            Failure::Refused(code) => {
+            FontError::Refused(code) => {
                 self.form.put_refusal(self.alloc, &mut self.out, name, code)
             }
-            Failure::Broken => self.unchecked(name, "read failed"),
-            Failure::Memory => self.unchecked(name, "out of memory"),
+            FontError::Unchecked(why) => self.unchecked(name, why.text()),
         }
     }
 

@@ -1,21 +1,21 @@
 -- The rows of what was found in a font.
-use Rattle.std.proofs.Common.{◌≡◌, ◌<◌, ◌^◌, ◌||◌, ◌&&◌, ℕ, Bool, true, false, true≢false, not, List, [], ◌∷◌, codes, length, map, cond, inl, inr, refl, sym, ap, ap₂, subst, ◌∙◌, arith}
+use Rattle.std.proofs.Common.{◌≡◌, ◌<◌, ◌^◌, ◌||◌, ◌&&◌, ℕ, Bool, true, false, true≢false, not, List, [], ◌∷◌, length, map, inl, inr, refl, sym, ap, ap₂, subst, ◌∙◌, arith}
 use Rattle.std.proofs.lemmas.Bool.{cases_Bool}
 use Rattle.std.proofs.lemmas.Bool.Decides.{nat_tests}
-use Rattle.std.proofs.lemmas.Fmt.{decimal_digit, decimal_is_IsNumeral}
+use Rattle.std.proofs.lemmas.Fmt.{decimal_is_IsNumeral}
 use Rattle.std.proofs.lemmas.List.{append_cancel_right}
 use Rattle.std.proofs.lemmas.List.Sums.{count_by-le-length}
 use Rattle.std.proofs.lemmas.Str.Parse.{tells_digits}
 use Rattle.std.specs.Fmt.{decimal}
 use Rattle.std.specs.List.{AllByRecursion, IsDistinct, filter, list_all}
 use Rattle.std.specs.Str.{bytes_eq}
-use Rattle.std.specs.Str.Parse.{AllDigits, digits_value}
+use Rattle.std.specs.Str.Parse.{AllDigits}
+use Rattle.t1_many.proofs.DistinctKinds.{kinds_once}
 use Rattle.t1_many.proofs.Texts.{equal, itself}
 use Rattle.t1_many.specs.KnownFaults.{Reading, RowValue, distinct, found_count, is_among, rows_of}
 use Rattle.t1_known.specs.Keys.{key_of, key_text}
 use Rattle.t1_known.specs.Laws.{IsInOneLine}
 use Rattle.t1_known.specs.Lines.{has_no_line_end}
-use Rattle.t1_known.specs.Private.Mismatches.{count_text}
 use Rattle.t1_known.specs.Readings.{IsPlainKind, IsReadable}
 use Rattle.t1_scan.specs.Bytes.{is_decimal_digit}
 
@@ -32,35 +32,6 @@ few_found : (kinds : List (List ℕ)) (kind : List ℕ) → length kinds < 2 ^ 6
 few_found kinds kind few = let most = count_by-le-length (bytes_eq kind) kinds in omega (arith, most, few)
 
 -- ---- each kind once
-
-unlike-filter : (p : List ℕ → Bool) (a : List ℕ) (kinds : List (List ℕ)) → AllByRecursion (λ b. bytes_eq a b ≡ false) kinds
-    → AllByRecursion (λ b. bytes_eq a b ≡ false) (filter p kinds)
-unlike-filter p a [] all = tt
-unlike-filter p a (kind ∷ kinds) all = elim (cases_Bool (p kind)) [
-  | inl kept ↦ rw kept (all.0, unlike-filter p a kinds all.1)
-  | inr out ↦ rw out (unlike-filter p a kinds all.1)
-]
-
-distinct-filter : (p : List ℕ → Bool) (kinds : List (List ℕ)) → IsDistinct bytes_eq kinds → IsDistinct bytes_eq (filter p kinds)
-unfolding IsDistinct
-distinct-filter p [] once = tt
-distinct-filter p (kind ∷ kinds) once = elim (cases_Bool (p kind)) [
-  | inl kept ↦ rw kept (unlike-filter p kind kinds once.0, distinct-filter p kinds once.1)
-  | inr out ↦ rw out (distinct-filter p kinds once.1)
-]
-
-filtered_out : (a : List ℕ) (kinds : List (List ℕ)) → AllByRecursion (λ b. bytes_eq a b ≡ false) (filter (λ other. not (bytes_eq a other)) kinds)
-filtered_out a [] = tt
-filtered_out a (kind ∷ kinds) = elim (cases_Bool (bytes_eq a kind)) [
-  | inl same ↦ rw same (filtered_out a kinds)
-  | inr other ↦ rw other (other, filtered_out a kinds)
-]
-
-kinds_once : (kinds : List (List ℕ)) → IsDistinct bytes_eq (distinct kinds)
-unfolding IsDistinct
-kinds_once [] = tt
-kinds_once (kind ∷ kinds) =
-    (filtered_out kind (distinct kinds), distinct-filter (λ other. not (bytes_eq kind other)) (distinct kinds) (kinds_once kinds))
 
 pub all-filter : (P : List ℕ → Type 0) (p : List ℕ → Bool) (kinds : List (List ℕ)) → AllByRecursion P kinds → AllByRecursion P (filter p kinds)
 all-filter P p [] all = tt
@@ -85,7 +56,7 @@ among-filter kind a (k ∷ kinds) apart = elim (cases_Bool (bytes_eq a k)) [
   | inr kept ↦ rw kept (ap (λ b. bytes_eq kind k || b) (among-filter kind a kinds apart))
 ]
 
-among-distinct : (kind : List ℕ) (kinds : List (List ℕ)) → is_among (distinct kinds) kind ≡ is_among kinds kind
+pub among-distinct : (kind : List ℕ) (kinds : List (List ℕ)) → is_among (distinct kinds) kind ≡ is_among kinds kind
 among-distinct kind [] = refl
 among-distinct kind (k ∷ kinds) = elim (cases_Bool (bytes_eq kind k)) [
   | inl same ↦ rw same refl
@@ -138,39 +109,12 @@ keys_once font f (kind ∷ kinds) once = (keys_unlike font f kind kinds once.0, 
 
 -- ---- how often
 
-text_at : (font : List ℕ) (f : List ℕ → ℕ) (kinds : List (List ℕ)) (kind : List ℕ)
-    → count_text (counted font f kinds) (key_text kind font) ≡ cond (is_among kinds kind) (decimal (f kind)) (codes "0")
-text_at font f [] kind = refl
-text_at font f (k ∷ kinds) kind = elim (cases_Bool (bytes_eq kind k)) [
-  | inl same ↦
-      let is : kind ≡ k = equal kind k same in
-      let keys : bytes_eq (key_text kind font) (key_text k font) ≡ true = keys_differ font kind k ∙ same in
-      rw (keys, same) (ap (λ t. decimal (f t)) (sym is))
-  | inr other ↦
-      let keys : bytes_eq (key_text kind font) (key_text k font) ≡ false = keys_differ font kind k ∙ other in
-      rw (keys, other) (text_at font f kinds kind)
-]
-
-none_counted : (kind : List ℕ) (kinds : List (List ℕ)) → is_among kinds kind ≡ false → found_count kinds kind ≡ 0
+pub none_counted : (kind : List ℕ) (kinds : List (List ℕ)) → is_among kinds kind ≡ false → found_count kinds kind ≡ 0
 none_counted kind [] out = refl
 none_counted kind (k ∷ kinds) out = elim (cases_Bool (bytes_eq kind k)) [
   | inl same ↦ (let there : true ≡ false = rw same at out in absurd (true≢false there))
   | inr other ↦ (let later : is_among kinds kind ≡ false = rw other at out in rw other (none_counted kind kinds later))
 ]
-
-zero_text : decimal 0 ≡ codes "0"
-zero_text = decimal_digit 0 (omega arith)
-
--- the count of a kind, as its row says, and 0 where it has none
-pub found_text : (font : List ℕ) (kinds : List (List ℕ)) (kind : List ℕ)
-    → count_text (rows_of font kinds) (key_text kind font) ≡ decimal (found_count kinds kind)
-found_text font kinds kind =
-    text_at font (found_count kinds) (distinct kinds) kind
-    ∙ ap (λ b. cond b (decimal (found_count kinds kind)) (codes "0")) (among-distinct kind kinds)
-    ∙ elim (cases_Bool (is_among kinds kind)) [
-      | inl there ↦ rw there refl
-      | inr out ↦ (let none = none_counted kind kinds out in rw out (sym (ap decimal none ∙ zero_text)))
-    ]
 
 module _ (reading : Reading) (is : IsReadable reading) where
   pub rows_in_one_line : AllByRecursion IsInOneLine (rows_of reading.font reading.kinds)
@@ -180,9 +124,3 @@ module _ (reading : Reading) (is : IsReadable reading) where
 
   pub row_keys_once : IsDistinct bytes_eq (map key_of (rows_of reading.font reading.kinds))
   row_keys_once = keys_once reading.font (found_count reading.kinds) (distinct reading.kinds) (kinds_once reading.kinds)
-
-  pub found_few : (kind : List ℕ) → found_count reading.kinds kind < 2 ^ 64
-  found_few kind = few_found reading.kinds kind is.few
-
-  pub found_value : (kind : List ℕ) → digits_value 10 (decimal (found_count reading.kinds kind)) ≡ found_count reading.kinds kind
-  found_value kind = (decimal_is_IsNumeral (found_count reading.kinds kind) (found_few kind)).1

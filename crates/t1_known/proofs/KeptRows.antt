@@ -1,5 +1,5 @@
 -- Rows that are found by their keys.
-use Rattle.std.proofs.Common.{◌≡◌, ◌<◌, ◌+◌, ◌-◌, ◌^◌, ◌&&◌, ℕ, suc, Bool, min, drop, ◌≤◌, length-drop, slice_range, ap₂, append_assoc, length-append, unwrap_or, true, false, true≢false, List, [], ◌∷◌, ◌++◌, codes, length, Option, None, Some, cond, is_some, inl, inr, refl, sym, ap, subst, ◌∙◌, arith}
+use Rattle.std.proofs.Common.{◌≡◌, ◌<◌, ◌+◌, ◌-◌, ◌^◌, ◌&&◌, ℕ, suc, Bool, min, drop, ◌≤◌, length-drop, slice_range, ap₂, append_assoc, length-append, unwrap_or, true, false, true≢false, List, [], ◌∷◌, ◌++◌, length, Option, None, Some, cond, is_some, inl, inr, refl, sym, ap, subst, ◌∙◌, arith}
 use Rattle.std.proofs.lemmas.Bool.{and_parts, cases_Bool}
 use Rattle.std.proofs.lemmas.List.{append_cancel_right, take_all}
 use Rattle.std.specs.Borrow.{Bor}
@@ -14,7 +14,6 @@ use Rattle.t1_many.specs.RowValues.{row_value}
 use Rattle.t1_many.specs.declared.row.Row.{Row}
 use Rattle.t1_known.specs.Keys.{count_at, has_key, key_of, key_text}
 use Rattle.t1_known.specs.Private.Kept.{AreKept, Entry, IsKept, IsKnownKey, KeepsLine, rows_now}
-use Rattle.t1_known.specs.Private.Mismatches.{count_text}
 use Rattle.t1_known.specs.Reads.{IsLineOf}
 
 -- the test of a key
@@ -58,29 +57,6 @@ module _ (entries : List Entry) (key : List ℕ) (kept : AreKept entries) where
       go : (o : Option Row) → IsAtKey (rows_now entries) key o → is_some o ≡ has_key (rows_now entries) key
       go None is = sym is.1
       go (Some row) is = sym is.1
-
-abbrev text_of : Option Row → List ℕ
-text_of None = codes "0"
-text_of (Some row) = row.count.now
-
-text_at : (entries : List Entry) (key : List ℕ) → AreKept entries → text_of (lookup (is_key key) entries) ≡ count_text (rows_now entries) key
-text_at [] key kept = refl
-text_at (e ∷ entries) key kept = elim (cases_Bool (bytes_eq key e.0.now)) [
-  | inl same ↦
-      let here : bytes_eq key (key_of (row_value e.1)) ≡ true = subst (λ t. bytes_eq key t ≡ true) kept.0.1 same in
-      rw (same, here) refl
-  | inr other ↦
-      let there : bytes_eq key (key_of (row_value e.1)) ≡ false = subst (λ t. bytes_eq key t ≡ false) kept.0.1 other in
-      rw (other, there) (text_at entries key kept.1)
-]
-
-pub text_found : (entries : List Entry) (key : List ℕ) (row : Row) → AreKept entries → Some row ≡ lookup (is_key key) entries
-    → row.count.now ≡ count_text (rows_now entries) key
-text_found entries key row kept is = ap text_of is ∙ text_at entries key kept
-
-pub text_nowhere : (entries : List Entry) (key : List ℕ) → AreKept entries → None ≡ lookup (is_key key) entries
-    → codes "0" ≡ count_text (rows_now entries) key
-text_nowhere entries key kept is = ap text_of is ∙ text_at entries key kept
 
 -- ---- a line that becomes a row
 

@@ -1,5 +1,4 @@
 pub mod DigitSteps
-pub mod FontIndex
 pub mod FoundKinds
 pub mod FoundRows
 pub mod KeptRows

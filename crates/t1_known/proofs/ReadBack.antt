@@ -2,6 +2,7 @@
 use Rattle.std.proofs.Common.{◌≡◌, ◌⊎◌, ◌<◌, ◌==◌, ◌&&◌, ℕ, true, false, true≢false, not, List, [], ◌∷◌, ◌++◌, length, map, Result, Ok, Err, cond, inl, inr, refl, sym, ap, ap₂, subst, ◌∙◌, arith, append_assoc}
 use Rattle.std.proofs.lemmas.Bool.{and_parts, cases_Bool}
 use Rattle.std.proofs.lemmas.Bool.Decides.{nat_tests}
+use Rattle.std.proofs.lemmas.List.Elements.{filter-append}
 use Rattle.std.specs.List.{AllByRecursion, AllZip, IsDistinct, flat_map, list_all}
 use Rattle.std.specs.Str.{bytes_eq}
 use Rattle.t1_many.proofs.Rows.{one_row}
@@ -151,17 +152,25 @@ never front line behind rows before are front_are (inr (row, is, twice)) =
     new_key at.before at.row at.later (subst (λ rs. IsDistinct bytes_eq (map key_of rs)) at.split are.once)
     (ap₂ (λ rs r. has_key rs (key_of r)) (sym same_before) (sym same) ∙ twice)
 
-pub no_row_stops : (text line : List ℕ) (fault : HasNoRow text line) → IsFault line fault.rows
-no_row_stops text line fault = inl fault.none
+pub no_row_stops : (text : List ℕ) (number : ℕ) (line : List ℕ) (fault : HasNoRow text number line) → IsFault line fault.rows
+no_row_stops text number line fault = inl fault.none
 
-pub key_twice_stops : (text line : List ℕ) (fault : HasKeyTwice text line) → IsFault line fault.rows
-key_twice_stops text line fault = inr (fault.row, fault.is, fault.twice)
+pub key_twice_stops : (text : List ℕ) (number : ℕ) (line : List ℕ) (fault : HasKeyTwice text number line) → IsFault line fault.rows
+key_twice_stops text number line fault = inr (fault.row, fault.is, fault.twice)
+
+-- the lines that have to be rows, up to one of them and behind it
+pub spoken_at : (front : List (List ℕ)) (line : List ℕ) (behind : List (List ℕ)) → is_comment line ≡ false
+    → spoken (front ++ line ∷ behind) ≡ spoken front ++ line ∷ spoken behind
+spoken_at front line behind speaks =
+    filter-append (λ l. not (is_comment l)) front (line ∷ behind)
+    ∙ ap (λ b. spoken front ++ cond (not b) (line ∷ spoken behind) (spoken behind)) speaks
 
 -- no line of rows stops the reading
-pub reached_never : (text line : List ℕ) (rows before : List RowValue) → AreLinesOf (row_lines text) rows → (reaches : ReachesLine text line before)
-    → IsFault line before → ⊥
-reached_never text line rows before are reaches fault =
-    never reaches.front line reaches.behind rows before (subst (λ ls. AreLinesOf ls rows) reaches.split are) reaches.are fault
+pub reached_never : (text : List ℕ) (number : ℕ) (line : List ℕ) (rows before : List RowValue) → AreLinesOf (row_lines text) rows
+    → (reaches : ReachesLine text number line before) → IsFault line before → ⊥
+reached_never text number line rows before are reaches fault =
+    never (spoken reaches.front) line (spoken reaches.behind) rows before
+    (subst (λ ls. AreLinesOf ls rows) (ap spoken reaches.split ∙ spoken_at reaches.front line reaches.behind reaches.speaks) are) reaches.are fault
 
 module _ (rows : List RowValue) (text : List ℕ) (lines : row_lines text ≡ map line_text rows) (all : AllByRecursion IsInOneLine rows)
     (once : IsDistinct bytes_eq (map key_of rows)) where
@@ -169,15 +178,15 @@ module _ (rows : List RowValue) (text : List ℕ) (lines : row_lines text ≡ ma
   rows_are = record { each = subst (λ ls. AllZip IsLineOf ls rows) (sym lines) (are_lines rows all); once = once }
 
   -- no fault can be reported of it
-  pub no_fault : (line : List ℕ) → (HasNoRow text line ⊎ HasKeyTwice text line) → ⊥
-  no_fault line (inl none) = reached_never text line rows none.rows rows_are none.reaches (no_row_stops text line none)
-  no_fault line (inr twice) = reached_never text line rows twice.rows rows_are twice.reaches (key_twice_stops text line twice)
+  pub no_fault : (number : ℕ) (line : List ℕ) → (HasNoRow text number line ⊎ HasKeyTwice text number line) → ⊥
+  no_fault number line (inl none) = reached_never text number line rows none.rows rows_are none.reaches (no_row_stops text number line none)
+  no_fault number line (inr twice) = reached_never text number line rows twice.rows rows_are twice.reaches (key_twice_stops text number line twice)
 
   pub read_back : (result : Result (List RowValue) NotKnown) → IsReadAs text result → (result ≡ Ok rows) ⊎ (result ≡ Err Memory)
   read_back (Ok read) is =
       inl (ap Ok (same_rows (map line_text rows) read rows (subst (λ ls. AllZip IsLineOf ls read) lines is.each) (are_lines rows all)))
-  read_back (Err (NoRow line)) is = absurd (no_fault line.now (inl is))
-  read_back (Err (Twice line)) is = absurd (no_fault line.now (inr is))
+  read_back (Err (NoRow line)) is = absurd (no_fault line.number line.text.now (inl is))
+  read_back (Err (Twice line)) is = absurd (no_fault line.number line.text.now (inr is))
   read_back (Err Memory) is = inr refl
 
 -- ---- the whole file

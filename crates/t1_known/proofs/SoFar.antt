@@ -1,6 +1,7 @@
 -- Lines that were read.
-use Rattle.std.proofs.Common.{◌≡◌, ◌||◌, ℕ, Bool, true, false, true≢false, not, List, [], ◌∷◌, ◌++◌, map, Err, cond, refl, sym, ap, subst, ◌∙◌, append_assoc, append-nil}
+use Rattle.std.proofs.Common.{◌≡◌, ◌<◌, ◌≤◌, ◌+◌, ◌||◌, ℕ, Bool, true, false, true≢false, not, List, [], ◌∷◌, ◌++◌, length, map, Err, cond, refl, sym, ap, subst, ◌∙◌, arith, append_assoc, append-nil, length-append}
 use Rattle.std.proofs.lemmas.List.{map-append}
+use Rattle.std.proofs.lemmas.List.Elements.{filter-append}
 use Rattle.std.specs.List.{AllByRecursion, AllZip, IsDistinct}
 use Rattle.std.specs.Str.{bytes_eq}
 use Rattle.t1_many.proofs.Texts.{apart}
@@ -10,21 +11,26 @@ use Rattle.t1_known.specs.Keys.{has_key, key_of}
 use Rattle.t1_known.specs.Lines.{is_comment, lines_of, row_lines, spoken}
 use Rattle.t1_known.specs.Private.Kept.{Adds, AreKept, Entry, IsKept, IsKnownKey, KeepsLine, rows_now}
 use Rattle.t1_known.specs.Reads.{AreLinesOf, HasKeyTwice, HasNoRow, IsLineOf, IsReadAs, ReachesLine}
+use Rattle.t1_known.specs.declared.known.Line.{Line}
 use Rattle.t1_known.specs.declared.known.NotKnown.{NotKnown}
 use Rattle.t1_known.specs.declared.known.NotKnown.TheVariants.{Memory, NoRow, Twice}
 
--- The lines before the rest of a text are those of the rows that are kept.
-pub record HasRead (text rest : List ℕ) (entries : List Entry) : Type 0 where
+-- Of the lines before the rest of a text, so many, those that have to be rows are the rows that are kept.
+pub record HasRead (text : List ℕ) (number : ℕ) (rest : List ℕ) (entries : List Entry) : Type 0 where
   pub front : List (List ℕ)
-  pub split : row_lines text ≡ front ++ row_lines rest
-  pub are : AreLinesOf front (rows_now entries)
+  pub split : lines_of text ≡ front ++ lines_of rest
+  pub number_is : number ≡ length front
+  pub few : number + length rest ≤ length text
+  pub are : AreLinesOf (spoken front) (rows_now entries)
   pub kept : AreKept entries
 
-pub none_read : (text : List ℕ) (entries : List Entry) → entries ≡ [] → HasRead text text entries
+pub none_read : (text : List ℕ) (entries : List Entry) → entries ≡ [] → HasRead text 0 text entries
 unfolding IsDistinct
-none_read text entries none = subst (λ es. HasRead text text es) (sym none) (record {
+none_read text entries none = subst (λ es. HasRead text 0 text es) (sym none) (record {
   front = [];
   split = refl;
+  number_is = refl;
+  few = omega arith;
   are = record { each = tt; once = tt };
   kept = tt;
 })
@@ -63,56 +69,79 @@ kept-push : (entries : List Entry) (entry : Entry) → AreKept entries → IsKep
 kept-push [] entry kept is = (is, tt)
 kept-push (e ∷ entries) entry kept is = (kept.0, kept-push entries entry kept.1 is)
 
-module _ (text rest line behind : List ℕ) (entries : List Entry) (cut : lines_of rest ≡ line ∷ lines_of behind) (have : HasRead text rest entries) where
-  -- a line that begins with `#`
-  pub comment_read : is_comment line ≡ true → HasRead text behind entries
-  comment_read is = record {
-    front = have.front;
-    split = have.split ∙ ap (λ lines. have.front ++ lines)
-        (ap spoken cut ∙ ap (λ b. cond (not b) (line ∷ row_lines behind) (row_lines behind)) is);
-    are = have.are;
-    kept = have.kept;
+-- one line more before what follows
+spoken-push : (front : List (List ℕ)) (line : List ℕ) (b : Bool) → is_comment line ≡ b
+    → spoken (front ++ line ∷ []) ≡ spoken front ++ cond (not b) (line ∷ []) []
+spoken-push front line b is =
+    filter-append (λ l. not (is_comment l)) front (line ∷ []) ∙ ap (λ c. spoken front ++ cond (not c) (line ∷ []) []) is
+
+module _ (text : List ℕ) (number : ℕ) (rest line behind : List ℕ) (entries : List Entry) (cut : lines_of rest ≡ line ∷ lines_of behind)
+    (less : length behind < length rest) (have : HasRead text number rest entries) where
+  here : lines_of text ≡ have.front ++ line ∷ lines_of behind
+  here = have.split ∙ ap (λ lines. have.front ++ lines) cut
+
+  one_more : (new : List Entry) → AreLinesOf (spoken (have.front ++ line ∷ [])) (rows_now new) → AreKept new → HasRead text (number + 1) behind new
+  one_more new are kept = record {
+    front = have.front ++ line ∷ [];
+    split = here ∙ sym (append_assoc have.front (line ∷ []) (lines_of behind));
+    number_is = let before = have.number_is in omega (arith, before, length-append have.front (line ∷ []));
+    few = let before = have.few in omega (arith, before, less);
+    are = are;
+    kept = kept;
   }
 
-  module _ (is_row : is_comment line ≡ false) where
-    here : row_lines text ≡ have.front ++ line ∷ row_lines behind
-    here = have.split ∙ ap (λ lines. have.front ++ lines)
-        (ap spoken cut ∙ ap (λ b. cond (not b) (line ∷ row_lines behind) (row_lines behind)) is_row)
+  -- a line that begins with `#`
+  pub comment_read : is_comment line ≡ true → HasRead text (number + 1) behind entries
+  comment_read is =
+      one_more entries
+      (subst (λ lines. AreLinesOf lines (rows_now entries)) (sym (spoken-push have.front line true is ∙ append-nil (spoken have.front))) have.are) have.kept
 
-    reaches : ReachesLine text line (rows_now entries)
-    reaches = record { front = have.front; behind = row_lines behind; split = here; are = have.are }
+  module _ (is_row : is_comment line ≡ false) where
+    reaches : ReachesLine text (number + 1) line (rows_now entries)
+    reaches = record {
+      front = have.front;
+      behind = lines_of behind;
+      split = here;
+      number_is = ap (λ n. n + 1) have.number_is;
+      speaks = is_row;
+      are = have.are;
+    }
 
     -- the line of a row
-    pub row_kept : (new : List Entry) → KeepsLine line entries new → HasRead text behind new
+    pub row_kept : (new : List Entry) → KeepsLine line entries new → HasRead text (number + 1) behind new
     row_kept new keeps =
         let rows : rows_now (entries ++ keeps.entry ∷ []) ≡ rows_now entries ++ row_value keeps.entry.1 ∷ [] =
         map-append (λ (e : Entry). row_value e.1) entries (keeps.entry ∷ []) in
-        subst (λ es. HasRead text behind es) (sym keeps.new_is) (record {
-          front = have.front ++ line ∷ [];
-          split = here ∙ sym (append_assoc have.front (line ∷ []) (row_lines behind));
-          are = subst (AreLinesOf (have.front ++ line ∷ [])) (sym rows) (record {
-            each = zip-push have.front (rows_now entries) line (row_value keeps.entry.1) have.are.each keeps.line_is;
-            once = distinct-push (rows_now entries) (row_value keeps.entry.1) have.are.once keeps.once;
-          });
-          kept = kept-push entries keeps.entry have.kept keeps.kept;
-        })
+        subst (λ es. HasRead text (number + 1) behind es) (sym keeps.new_is)
+        (one_more (entries ++ keeps.entry ∷ [])
+        (subst (λ lines. AreLinesOf lines (rows_now (entries ++ keeps.entry ∷ []))) (sym (spoken-push have.front line false is_row))
+        (subst (AreLinesOf (spoken have.front ++ line ∷ [])) (sym rows) (record {
+          each = zip-push (spoken have.front) (rows_now entries) line (row_value keeps.entry.1) have.are.each keeps.line_is;
+          once = distinct-push (rows_now entries) (row_value keeps.entry.1) have.are.once keeps.once;
+        })))
+        (kept-push entries keeps.entry have.kept keeps.kept))
 
-    pub no_row : IsNoRow line → HasNoRow text line
+    pub no_row : IsNoRow line → HasNoRow text (number + 1) line
     no_row none = record { rows = rows_now entries; reaches = reaches; none = none }
 
-    pub key_twice : IsKnownKey line (rows_now entries) → HasKeyTwice text line
+    pub key_twice : IsKnownKey line (rows_now entries) → HasKeyTwice text (number + 1) line
     key_twice known = record { rows = rows_now entries; reaches = reaches; row = known.row; is = known.is; twice = known.twice }
 
 -- a line that stops the reading
-pub line_failed : (text rest line behind : List ℕ) (old new : List Entry) (e : NotKnown) → lines_of rest ≡ line ∷ lines_of behind
-    → HasRead text rest old → is_comment line ≡ false → Adds line old new (Err e) → IsReadAs text (Err e)
-line_failed text rest line behind old new (NoRow at) cut have is_row is =
-    subst (HasNoRow text) (sym is.0) (no_row text rest line behind old cut have is_row is.1)
-line_failed text rest line behind old new (Twice at) cut have is_row is =
-    subst (HasKeyTwice text) (sym is.0) (key_twice text rest line behind old cut have is_row is.1)
-line_failed text rest line behind old new Memory cut have is_row is = tt
+pub line_failed : (text : List ℕ) (number : ℕ) (rest : List ℕ) (line : Line) (behind : List ℕ) (old new : List Entry) (e : NotKnown)
+    → line.number ≡ number + 1 → lines_of rest ≡ line.text.now ∷ lines_of behind → length behind < length rest → HasRead text number rest old
+    → is_comment line.text.now ≡ false → Adds line old new (Err e) → IsReadAs text (Err e)
+line_failed text number rest line behind old new (NoRow at) numbered cut less have is_row is =
+    subst (λ (l : Line). HasNoRow text l.number l.text.now) (sym is.0)
+    (subst (λ n. HasNoRow text n line.text.now) (sym numbered) (no_row text number rest line.text.now behind old cut less have is_row is.1))
+line_failed text number rest line behind old new (Twice at) numbered cut less have is_row is =
+    subst (λ (l : Line). HasKeyTwice text l.number l.text.now) (sym is.0)
+    (subst (λ n. HasKeyTwice text n line.text.now) (sym numbered) (key_twice text number rest line.text.now behind old cut less have is_row is.1))
+line_failed text number rest line behind old new Memory numbered cut less have is_row is = tt
 
 -- all lines
-pub all_read : (text rest : List ℕ) (entries : List Entry) → rest ≡ [] → HasRead text rest entries → AreLinesOf (row_lines text) (rows_now entries)
-all_read text rest entries end have =
-    subst (λ lines. AreLinesOf lines (rows_now entries)) (sym (have.split ∙ ap (λ r. have.front ++ row_lines r) end ∙ append-nil have.front)) have.are
+pub all_read : (text : List ℕ) (number : ℕ) (rest : List ℕ) (entries : List Entry) → rest ≡ [] → HasRead text number rest entries
+    → AreLinesOf (row_lines text) (rows_now entries)
+all_read text number rest entries end have =
+    subst (λ lines. AreLinesOf (spoken lines) (rows_now entries))
+    (sym (have.split ∙ ap (λ r. have.front ++ lines_of r) end ∙ append-nil have.front)) have.are

@@ -64,12 +64,12 @@ IsSameReading (Ok a) (Err (NoRow line)) = ⊥
 IsSameReading (Ok a) (Err (Twice line)) = ⊥
 IsSameReading (Ok a) (Err Memory) = Unit {0}
 IsSameReading (Err (NoRow line)) (Ok b) = ⊥
-IsSameReading (Err (NoRow line)) (Err (NoRow other)) = line.now ≡ other.now
+IsSameReading (Err (NoRow line)) (Err (NoRow other)) = (line.number ≡ other.number) × (line.text.now ≡ other.text.now)
 IsSameReading (Err (NoRow line)) (Err (Twice other)) = ⊥
 IsSameReading (Err (NoRow line)) (Err Memory) = Unit {0}
 IsSameReading (Err (Twice line)) (Ok b) = ⊥
 IsSameReading (Err (Twice line)) (Err (NoRow other)) = ⊥
-IsSameReading (Err (Twice line)) (Err (Twice other)) = line.now ≡ other.now
+IsSameReading (Err (Twice line)) (Err (Twice other)) = (line.number ≡ other.number) × (line.text.now ≡ other.text.now)
 IsSameReading (Err (Twice line)) (Err Memory) = Unit {0}
 IsSameReading (Err Memory) b = Unit {0}
 

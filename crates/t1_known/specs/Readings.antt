@@ -1,19 +1,16 @@
--- Fonts whose reports were made, with the texts of their rows.
+-- Fonts whose reports were made.
 use Rattle.std.specs.Prelude.{◌≡◌, ◌<◌, ◌^◌, ℕ, true, List, length, map}
 use Rattle.std.specs.Borrow.{Bor}
-use Rattle.std.specs.List.{AllByRecursion, AllZip, flat_map}
+use Rattle.std.specs.List.{AllByRecursion, AllZip}
 use Rattle.t1_known.specs.Lines.{has_no_line_end}
-use Rattle.t1_known.specs.declared.readings.Reading.{Reading as Text}
 use Rattle.t1_many.specs.Choice.{Choice}
-use Rattle.t1_many.specs.KnownFaults.{IsKind, Reading, row_text, rows_of}
+use Rattle.t1_many.specs.KnownFaults.{IsKind, Reading}
+use Rattle.t1_many.specs.Readings.{IsReadingOf}
+use Rattle.t1_many.specs.declared.readings.Reading.{Reading as Kept}
 
--- The rows of a font in a text are those of its reading.
-pub record IsTextOf (text : Text) (reading : Reading) : Type 0 where
-  pub font : text.font.now ≡ reading.font
-  pub rows : text.rows.now ≡ flat_map row_text (rows_of reading.font reading.kinds)
-
-abbrev pub AreTextsOf : List Text → List Reading → Type 0
-AreTextsOf texts readings = AllZip IsTextOf texts readings
+-- What was found in fonts is kept.
+abbrev pub AreReadingsOf : List Kept → List Reading → Type 0
+AreReadingsOf kept readings = AllZip IsReadingOf kept readings
 
 -- A kind that is one, in one line.
 abbrev pub IsPlainKind : List ℕ → Type 0
@@ -26,9 +23,6 @@ pub record IsReadable (reading : Reading) : Type 0 where
   pub few : length reading.kinds < 2 ^ 64
   pub named : 0 < length reading.font
   pub font : has_no_line_end reading.font ≡ true
-
-abbrev pub AreReadingsOf : List Text → List Reading → Type 0
-AreReadingsOf texts readings = AllZip (λ text reading. IsTextOf text reading × IsReadable reading) texts readings
 
 -- The words of `--only` and of `--except`.
 abbrev pub choice_of : List (Bor (List ℕ)) → List (Bor (List ℕ)) → Choice

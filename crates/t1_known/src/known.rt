@@ -1,15 +1,12 @@
 //! A file of known faults.
 
-ghost use Rattle.std.specs.Prelude.{◌≡◌, ◌-◌, ◌^◌, ℕ, true, List, length, min};
-ghost use Rattle.std.specs.List.{list_all};
+ghost use Rattle.std.specs.Prelude.{◌≡◌, ◌-◌, ◌^◌, ℕ, List, length, min};
 ghost use Rattle.t1_known.specs.Keys.{count_at, key_of, key_text};
 ghost use Rattle.t1_known.specs.Private.Kept.{Adds, AreKept};
-ghost use Rattle.t1_known.specs.Private.Mismatches.{count_text};
 ghost use Rattle.t1_known.specs.Reads.{IsLineOf, IsReadAs};
 ghost use Rattle.t1_known.specs.declared.known.NotKnown.TheVariants.{Memory};
 ghost use Rattle.t1_many.specs.KnownFaults.{IsKind, known_count};
 ghost use Rattle.t1_many.specs.RowValues.{row_value};
-ghost use Rattle.t1_scan.specs.Bytes.{is_decimal_digit};
 
 use crate::digits::number;
 use crate::lines::{is_comment, next_line};
@@ -18,13 +15,22 @@ use std::alloc::{AllocFailed, Global};
 use std::marker::Model;
 use t1_many::{Row, read_row};
 
+/// A line of a text.
+#[derive(Clone, Copy, Debug)]
+pub struct Line<'a> {
+    /// Its number among all lines, from 1.
+    pub number: usize,
+    /// Its bytes, without its end.
+    pub text: &'a [u8],
+}
+
 /// Why a text isn't read as known faults.
 #[derive(Clone, Copy, Debug)]
 pub enum NotKnown<'a> {
     /// This line is no row.
-    NoRow(&'a [u8]),
+    NoRow(Line<'a>),
     /// An earlier row is of the kind and the font of this line.
-    Twice(&'a [u8]),
+    Twice(Line<'a>),
     /// Memory ran out.
     Memory,
 }
@@ -60,15 +66,17 @@ impl<'a> Model for KnownFaults<'a> {
 
 impl<'a> KnownFaults<'a> {
     /// Reads the known faults of a text, a row a line, as in `3 H02 glyph A fonts/a.pfb`. Lines that begin with `#` are
-    /// skipped. An error names the first line that is no row, or whose kind and font are those of an earlier row.
+    /// skipped. An error has the first line that is no row, or whose kind and font are those of an earlier row.
     pub fn read(alloc: Global, text: &'a [u8]) -> Result<KnownFaults<'a>, NotKnown<'a>>
         ensures { IsReadAs text.now result }
     {
         let mut rows = IndexMap::new(alloc);
         let mut rest = text;
+        let mut number = 0;
         while let Some((line, behind)) = next_line(rest) {
+            number += 1;
             if !is_comment(line) {
-                add_line(&mut rows, line)?;
+                add_line(&mut rows, Line { number, text: line })?;
             }
             rest = behind;
         }
@@ -92,28 +100,17 @@ impl<'a> KnownFaults<'a> {
             None => 0,
         }
     }
-
-    /// The same by the digits of the row: `0` if there is none.
-    pub(crate) fn count_text(&self, key: &[u8]) -> &[u8]
-        ensures text { result.now ≡ count_text self.now key.now }
-        ensures digits { list_all is_decimal_digit result.now ≡ true }
-    {
-        match self.rows.get(&key) {
-            Some(row) => row.count,
-            None => b"0",
-        }
-    }
 }
 
 /// Adds the row of a line.
-fn add_line<'a>(rows: &mut Rows<'a>, line: &'a [u8]) -> Result<(), NotKnown<'a>>
+fn add_line<'a>(rows: &mut Rows<'a>, line: Line<'a>) -> Result<(), NotKnown<'a>>
     requires { AreKept rows.old.entries }
-    ensures { Adds line.now rows.old.entries rows.new.entries result }
+    ensures { Adds line.entry rows.old.entries rows.new.entries result }
 {
-    let Some(row) = read_row(line) else {
+    let Some(row) = read_row(line.text) else {
         return Err(NotKnown::NoRow(line));
     };
-    let key = key_in(line, row);
+    let key = key_in(line.text, row);
     if rows.contains_key(&key) {
         return Err(NotKnown::Twice(line));
     }

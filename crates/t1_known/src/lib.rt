@@ -1,7 +1,7 @@
 //! A file of known faults: how often faults of a kind are known of a font.
 //!
 //! [`KnownFaults::read`] reads its rows, as `3 H02 glyph A fonts/a.pfb`, and [`KnownFaults::count_of`] says how often
-//! faults of a kind are known of a font. Of the fonts whose reports were made, each a [`Reading`], [`write_mismatches`]
+//! faults of a kind are known of a font. Of the fonts whose reports were made, each a [`Reading`](t1_many::Reading), [`write_mismatches`]
 //! writes which rows what was found differs from, and [`write_updated`] writes a new file.
 //!
 //! Promised:
@@ -24,11 +24,10 @@ mod mismatches;
 mod readings;
 mod updating;
 
-pub use known::{KnownFaults, NotKnown};
+pub use known::{KnownFaults, Line, NotKnown};
 pub use laws::{
     a_text_is_read_one_way, lines_are_readable, reports_are_readable, rows_are_read_back,
     updates_are_read_back,
 };
 pub use mismatches::write_mismatches;
-pub use readings::Reading;
 pub use updating::write_updated;

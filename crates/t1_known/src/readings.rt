@@ -1,57 +1,52 @@
-//! Fonts whose reports were made.
+//! Fonts whose reports were made, by their names.
 
-ghost use Rattle.std.specs.Prelude.{IfOk, OnOk};
-ghost use Rattle.t1_known.specs.Lines.{row_lines};
-ghost use Rattle.t1_known.specs.Private.Mismatches.{AreIndexed, IsIndexed};
-ghost use Rattle.t1_known.specs.Reads.{AreLinesOf};
+ghost use Rattle.std.specs.Prelude.{◌≡◌, [], IfOk, OnOk, option_map};
+ghost use Rattle.t1_known.specs.Private.Fonts.{IsLeft, IsLeftToo, IsTaken, count_in, left_at, now_of};
 
-use crate::known::KnownFaults;
 use indexmap::IndexMap;
 use std::alloc::{AllocError, Global};
+use t1_many::{Counts, Reading};
 
-/// A font whose report was made.
-#[derive(Clone, Copy, Debug)]
-pub struct Reading<'a> {
-    /// The font's name.
-    pub font: &'a str,
-    /// The text of its rows: how often each kind of its lines was found.
-    pub rows: &'a [u8],
-}
+/// What was found in fonts, by their names: nothing is left of a font whose rows were written.
+pub(crate) type Fonts<'a> = IndexMap<&'a [u8], Option<&'a Reading>>;
 
-/// What was found in fonts, by their names.
-pub(crate) type Found<'a> = IndexMap<&'a [u8], KnownFaults<'a>>;
-
-/// Indexes what was found in fonts; of fonts of one name the first is taken. An error may also say that rows of a font
-/// can't be read.
-pub(crate) fn found<'a>(alloc: Global, readings: &[Reading<'a>]) -> Result<Found<'a>, AllocError>
-    ensures { IfOk result (λ fonts. AreIndexed readings.now fonts.entries) }
+/// What was found in fonts; of fonts of one name the first is taken.
+pub(crate) fn fonts_of<'a>(alloc: Global, readings: &'a [Reading]) -> Result<Fonts<'a>, AllocError>
+    ensures { IfOk result (λ fonts. IsLeft readings.now [] fonts.entries) }
 {
     let mut fonts = IndexMap::new(alloc);
     for reading in readings {
-        index(alloc, &mut fonts, reading)?;
+        add_font(&mut fonts, reading)?;
     }
     Ok(fonts)
 }
 
-/// Indexes what was found in a font, unless one of this name is there.
-fn index<'a>(alloc: Global, fonts: &mut Found<'a>, reading: &Reading<'a>) -> Result<(), AllocError>
-    ensures { OnOk result (IsIndexed reading.now fonts.old.entries fonts.new.entries) }
+/// Adds what was found in a font, unless one of this name is there.
+fn add_font<'a>(fonts: &mut Fonts<'a>, reading: &'a Reading) -> Result<(), AllocError>
+    ensures { OnOk result (IsLeftToo reading.now fonts.old.entries fonts.new.entries) }
 {
     let font = reading.font.as_bytes();
     if fonts.contains_key(&font) {
         return Ok(());
     }
-    let rows = rows_in(alloc, reading)?;
-    fonts.insert(font, rows)?;
+    fonts.insert(font, Some(reading))?;
     Ok(())
 }
 
-/// The rows of a font. Text that isn't of rows is an error as well.
-fn rows_in<'a>(alloc: Global, reading: &Reading<'a>) -> Result<KnownFaults<'a>, AllocError>
-    ensures { IfOk result (λ rows. AreLinesOf (row_lines reading.now.rows.now) rows) }
+/// Takes what is left of a font: None if it has no reading.
+pub(crate) fn take_left<'a>(fonts: &mut Fonts<'a>, font: &'a [u8]) -> Option<Option<&'a Reading>>
+    ensures reading { option_map now_of result ≡ left_at fonts.old.entries font.now }
+    ensures left { IsTaken font.now fonts.old.entries fonts.new.entries }
 {
-    match KnownFaults::read(alloc, reading.rows) {
-        Ok(rows) => Ok(rows),
-        Err(_) => Err(AllocError),
-    }
+    let left = fonts.get_mut(&font)?;
+    let reading = *left;
+    *left = None;
+    Some(reading)
+}
+
+/// How often a kind was found.
+pub(crate) fn count_of(counts: &Counts, kind: &[u8]) -> u64
+    ensures { result ≡ count_in counts.now.entries kind.now }
+{
+    counts.get(kind).copied().unwrap_or(0)
 }

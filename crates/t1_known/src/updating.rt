@@ -1,11 +1,13 @@
 //! The new file of known faults.
 
-ghost use Rattle.std.specs.Prelude.{◌≡◌, [], ◌&&◌, ℕ, List, IfOk, OnOk, option_map};
+ghost use Rattle.std.specs.Prelude.{◌≡◌, [], ℕ, List};
+ghost use Rattle.std.specs.List.{flat_map};
 ghost use Rattle.t1_io.specs.Devices.{Writes};
 ghost use Rattle.t1_known.specs.Keys.{key_of};
+ghost use Rattle.t1_known.specs.Private.Fonts.{IsLeft, IsTaken, count_text, left_at, left_text, now_of, row_of, rows_text};
 ghost use Rattle.t1_known.specs.Private.Kept.{AreKept, rows_now};
-ghost use Rattle.t1_known.specs.Private.Updates.{IsLeft, IsLeftToo, IsTaken, LeavesBy, PutsRows, behind_text, left_at, row_put, rows_text};
-ghost use Rattle.t1_known.specs.Readings.{AreTextsOf, choice_of};
+ghost use Rattle.t1_known.specs.Private.Updates.{LeavesBy, PutsRows, behind_text, row_put};
+ghost use Rattle.t1_known.specs.Readings.{AreReadingsOf, choice_of};
 ghost use Rattle.t1_known.specs.Writes.{WritesAll};
 ghost use Rattle.t1_many.specs.Choice.{is_told};
 ghost use Rattle.t1_many.specs.KnownFaults.{Reading as ReadingValue, file_text, row_text, rule_of, updated};
@@ -13,14 +15,11 @@ ghost use Rattle.t1_many.specs.RowValues.{row_value};
 
 use crate::known::{KnownFaults, Rows};
 use crate::mismatches::rule_of;
-use crate::readings::Reading;
-use indexmap::IndexMap;
-use std::alloc::{AllocError, Global};
+use crate::readings::{Fonts, fonts_of, take_left};
+use itoa::Buffer;
+use std::alloc::Global;
 use t1_io::{Broken, Sink, put_all, put_parts};
-use t1_many::{Lost, Row, is_told};
-
-/// The rows of fonts that are still to be written, by the fonts.
-type Left<'a> = IndexMap<&'a [u8], &'a [u8]>;
+use t1_many::{Counts, Lost, Reading, Row, is_told};
 
 /// Writes a new file of known faults:
 ///
@@ -33,14 +32,14 @@ pub fn write_updated<'a, W: Sink>(
     alloc: Global,
     sink: &mut W,
     known: &KnownFaults<'a>,
-    readings: &[Reading<'a>],
+    readings: &'a [Reading],
     only: &[&[u8]],
     except: &[&[u8]],
 ) -> Result<(), Lost>
-    ensures { (all : List ReadingValue) → AreTextsOf readings.now all → WritesAll (W.state sink.old) (W.state sink.new)
+    ensures { (all : List ReadingValue) → AreReadingsOf readings.now all → WritesAll (W.state sink.old) (W.state sink.new)
         (file_text (updated (choice_of only.now except.now) all known.now)) result }
 {
-    let Ok(mut left) = rows_left(alloc, readings) else {
+    let Ok(mut left) = fonts_of(alloc, readings) else {
         return Err(Lost::Memory);
     };
     put_all(sink, b"# Known faults: count, rule, unit, font.\n")?;
@@ -49,45 +48,11 @@ pub fn write_updated<'a, W: Sink>(
     Ok(())
 }
 
-/// The rows of all fonts; of fonts of one name those of the first.
-fn rows_left<'a>(alloc: Global, readings: &[Reading<'a>]) -> Result<Left<'a>, AllocError>
-    ensures { IfOk result (λ left. IsLeft readings.now [] left.entries) }
-{
-    let mut left = IndexMap::new(alloc);
-    for reading in readings {
-        leave_rows(&mut left, reading)?;
-    }
-    Ok(left)
-}
-
-/// Leaves the rows of a font to be written, unless those of one of this name are.
-fn leave_rows<'a>(left: &mut Left<'a>, reading: &Reading<'a>) -> Result<(), AllocError>
-    ensures { OnOk result (IsLeftToo reading.now left.old.entries left.new.entries) }
-{
-    let font = reading.font.as_bytes();
-    if left.contains_key(&font) {
-        return Ok(());
-    }
-    left.insert(font, reading.rows)?;
-    Ok(())
-}
-
-/// Takes what is left to be written of a font that was read.
-fn take_left<'a>(left: &mut Left<'a>, font: &'a [u8]) -> Option<&'a [u8]>
-    ensures rows { option_map (λ rows. rows.now) result ≡ left_at left.old.entries font.now }
-    ensures left { IsTaken font.now left.old.entries left.new.entries }
-{
-    let rows = left.get_mut(&font)?;
-    let text = *rows;
-    *rows = &[];
-    Some(text)
-}
-
 /// Puts each row, or in its place the rows of its font.
 fn put_rows<'a, W: Sink>(
     sink: &mut W,
     rows: &Rows<'a>,
-    left: &mut Left<'a>,
+    left: &mut Fonts<'a>,
     only: &[&[u8]],
     except: &[&[u8]],
 ) -> Result<(), Broken>
@@ -106,7 +71,7 @@ fn put_row<'a, W: Sink>(
     sink: &mut W,
     key: &[u8],
     row: &Row<'a>,
-    left: &mut Left<'a>,
+    left: &mut Fonts<'a>,
     only: &[&[u8]],
     except: &[&[u8]],
 ) -> Result<(), Broken>
@@ -120,7 +85,7 @@ fn put_row<'a, W: Sink>(
         return put_known(sink, key, row);
     }
     match take_left(left, row.font) {
-        Some(rows) => put_all(sink, rows),
+        Some(reading) => put_reading(sink, reading),
         None => put_known(sink, key, row),
     }
 }
@@ -136,8 +101,8 @@ fn put_known<W: Sink>(sink: &mut W, key: &[u8], row: &Row<'_>) -> Result<(), Bro
 /// Puts the rows of the fonts of which they are left.
 fn put_others<'a, W: Sink>(
     sink: &mut W,
-    readings: &[Reading<'a>],
-    left: &mut Left<'a>,
+    readings: &'a [Reading],
+    left: &mut Fonts<'a>,
 ) -> Result<(), Broken>
     ensures { (done : List (List ℕ)) → IsLeft readings.now done left.old.entries
         → Writes (W.state sink.old) (W.state sink.new) (behind_text readings.now done readings.now) result }
@@ -149,12 +114,49 @@ fn put_others<'a, W: Sink>(
 }
 
 /// Puts what is left of a font.
-fn put_left<'a, W: Sink>(sink: &mut W, font: &'a [u8], left: &mut Left<'a>) -> Result<(), Broken>
+fn put_left<'a, W: Sink>(sink: &mut W, font: &'a [u8], left: &mut Fonts<'a>) -> Result<(), Broken>
     ensures put { Writes (W.state sink.old) (W.state sink.new) (rows_text (left_at left.old.entries font.now)) result }
     ensures left { IsTaken font.now left.old.entries left.new.entries }
 {
     match take_left(left, font) {
-        Some(rows) => put_all(sink, rows),
+        Some(reading) => put_reading(sink, reading),
         None => Ok(()),
     }
+}
+
+/// Puts the rows of what is left of a font.
+fn put_reading<W: Sink>(sink: &mut W, reading: Option<&Reading>) -> Result<(), Broken>
+    ensures { Writes (W.state sink.old) (W.state sink.new) (left_text (now_of reading.entry)) result }
+{
+    match reading {
+        Some(reading) => put_counts(sink, reading.font.as_bytes(), &reading.counts),
+        None => Ok(()),
+    }
+}
+
+/// Puts a row for each kind that was found in a font.
+fn put_counts<W: Sink>(sink: &mut W, font: &[u8], counts: &Counts) -> Result<(), Broken>
+    ensures { Writes (W.state sink.old) (W.state sink.new) (flat_map (count_text font.now) counts.now.entries) result }
+{
+    for (kind, count) in counts.iter() {
+        put_count(sink, font, kind.as_slice(), *count)?;
+    }
+    Ok(())
+}
+
+/// Puts the row of a kind that was found so often.
+fn put_count<W: Sink>(sink: &mut W, font: &[u8], kind: &[u8], count: u64) -> Result<(), Broken>
+    ensures { Writes (W.state sink.old) (W.state sink.new) (row_text (row_of font.now kind.now count)) result }
+{
+    put_parts(
+        sink,
+        &[
+            Buffer::new().format(count).as_bytes(),
+            b" ",
+            kind,
+            b" ",
+            font,
+            b"\n",
+        ],
+    )
 }

@@ -28,8 +28,12 @@ use Rattle.t1_run.specs.Input.AreUnread.{too_large as past, read_failed as broke
 use Rattle.t1_run.specs.WaiverFiles.{AreWaived, IsNoWaiverText, IsWaiverText, as_waivers}
 use Rattle.t1_run.specs.WaiverFiles.IsNoWaiverText.{too_large, read_failed, no_memory as no_room}
 use Rattle.t1_run.specs.declared.failure.Failure.{Failure}
+use Rattle.t1_many.specs.FontErrors.{error_of}
 use Rattle.t1_report.specs.Reports.{IsReport}
 use Rattle.std.specs.Result.{IsErrAnd}
+
+abbrev ended : Failure → Outcome
+ended failure = failed (error_of failure)
 
 -- ---- what is known more widely
 
@@ -56,14 +60,14 @@ module _ {R : Type 0} (takes : R → R → Entry → Result Found Lost → Type 
   pub checks_by : (given wider : Given) (a b : R) (result : Result (Result Found Lost) Failure) → Widens given wider
       → Checks takes edition name given a b result → Checks takes edition name wider a b result
   checks_by given wider a b (Ok taken) on (report, found, took) = (report, found_by edition given wider (reported report) on found, took)
-  checks_by given wider a b (Err failure) on (found, same) = (found_by edition given wider (failed failure) on found, same)
+  checks_by given wider a b (Err failure) on (found, same) = (found_by edition given wider (ended failure) on found, same)
 
   -- the exit of a `?` at which nothing was done
   pub not_found : (given : Given) (a b : R) (result : Result (Result Found Lost) Failure) (failure : Failure)
-      → IsErrAnd result (λ f. f ≡ failure) → b ≡ a → IsFound edition given (failed failure) → Checks takes edition name given a b result
+      → IsErrAnd result (λ f. f ≡ failure) → b ≡ a → IsFound edition given (ended failure) → Checks takes edition name given a b result
   not_found given a b (Ok taken) failure is same found = absurd is
   not_found given a b (Err f) failure is same found =
-      (subst (λ (f : Failure). IsFound edition given (failed f)) (sym is) found, same)
+      (subst (λ (f : Failure). IsFound edition given (ended f)) (sym is) found, same)
 
   -- a report that was taken
   pub text_taken : (font : FontValue) (text : List ℕ) (waivers : List Waiver) (of : Edition) (a b : R) (taken : Result Found Lost)
@@ -80,18 +84,18 @@ module _ {R : Type 0} (takes : R → R → Entry → Result Found Lost → Type 
 -- ---- the text of waivers
 
 pub text_unread : {W : Type 0} (value : W → List Waiver) (edition : Edition) (font : FontValue) (text : List ℕ) (error : WaiverError)
-    → IsReadAs value (waivers_of text) (Err error) → IsFound edition (of_text font text) (failed (failure_of (Waivers error)))
+    → IsReadAs value (waivers_of text) (Err error) → IsFound edition (of_text font text) (ended (failure_of (Waivers error)))
 text_unread value edition font text Malformed none = waivers_refused font refl (Waivers Malformed) (ap as_waivers none) refl
 text_unread value edition font text Memory any = no_memory refl
 
 -- ---- its file
 
 pub file_unread : (edition : Edition) (font : FontValue) (asked : Bool) (old new : SourceState) (failure : Failure)
-    → IsNoWaiverText asked old new failure → IsFound edition (of_font font asked old new) (failed failure)
+    → IsNoWaiverText asked old new failure → IsFound edition (of_font font asked old new) (ended failure)
 file_unread edition font asked old new failure (too_large waived heard is) =
-    waivers_refused font refl WaiversTooLarge (waived, heard) (ap failed is)
-file_unread edition font asked old new failure (read_failed is_asked broke is) = breaks_waivers font refl (is_asked, broke) (ap failed is)
-file_unread edition font asked old new failure (no_room kept is) = no_memory (ap failed is)
+    waivers_refused font refl WaiversTooLarge (waived, heard) (ap ended is)
+file_unread edition font asked old new failure (read_failed is_asked broke is) = breaks_waivers font refl (is_asked, broke) (ap ended is)
+file_unread edition font asked old new failure (no_room kept is) = no_memory (ap ended is)
 
 pub text_of_file : (font : FontValue) (asked : Bool) (old new : SourceState) (text : List ℕ) → IsWaiverText asked old new text
     → Widens (of_text font text) (of_font font asked old new)
@@ -105,8 +109,8 @@ text_of_file font asked old new text is = record {
 -- ---- the bytes of a font
 
 pub bytes_unread : (edition : Edition) (bytes : List ℕ) (asked : Bool) (old new : SourceState) (unread : Unread)
-    → IsUnread unread (font_in bytes) → IsFound edition (of_bytes bytes asked old new) (failed (failure_of (Font unread)))
-bytes_unread edition bytes asked old new unread (inl memory) = no_memory (ap (λ (u : Unread). failed (failure_of (Font u))) memory)
+    → IsUnread unread (font_in bytes) → IsFound edition (of_bytes bytes asked old new) (ended (failure_of (Font unread)))
+bytes_unread edition bytes asked old new unread (inl memory) = no_memory (ap (λ (u : Unread). ended (failure_of (Font u))) memory)
 bytes_unread edition bytes asked old new unread (inr is) = refused (Font unread) (ap with_reason is) refl
 
 pub font_of_bytes : (font : FontValue) (bytes : List ℕ) (asked : Bool) (old new : SourceState) → font_in bytes ≡ Ok font
@@ -122,11 +126,11 @@ font_of_bytes font bytes asked old new is = record {
 
 pub font_unread : (edition : Edition) (source source' : SourceState) (asked : Bool) (old new : SourceState) (failure : Failure)
     → source.failed ≡ false → AreUnread 16777216 FontTooLarge source source' failure
-    → IsFound edition (given_by source source' asked old new) (failed failure)
+    → IsFound edition (given_by source source' asked old new) (ended failure)
 font_unread edition source source' asked old new failure sound (past bytes consumed large kept is) =
-    refused FontTooLarge (font_past source.left source'.left bytes consumed large, kept ∙ sound, past_limit bytes consumed large) (ap failed is)
-font_unread edition source source' asked old new failure sound (broken broke is) = breaks broke (ap failed is)
-font_unread edition source source' asked old new failure sound (unroomed kept is) = no_memory (ap failed is)
+    refused FontTooLarge (font_past source.left source'.left bytes consumed large, kept ∙ sound, past_limit bytes consumed large) (ap ended is)
+font_unread edition source source' asked old new failure sound (broken broke is) = breaks broke (ap ended is)
+font_unread edition source source' asked old new failure sound (unroomed kept is) = no_memory (ap ended is)
 
 pub bytes_of_file : (source source' : SourceState) (bytes : List ℕ) (asked : Bool) (old new : SourceState) → source.failed ≡ false
     → AreAll 16777216 source source' bytes → Widens (of_bytes bytes asked old new) (given_by source source' asked old new)

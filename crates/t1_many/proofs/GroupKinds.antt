@@ -23,7 +23,7 @@ use Rattle.t1_many.proofs.Rows.{IsSplit, font_glyph, font_split, font_waiver, gl
 use Rattle.t1_many.proofs.WaiversOnce.{AreOnce, waivers_once}
 use Rattle.t1_many.specs.Groups.{group_of, part_of}
 use Rattle.t1_many.specs.KnownFaults.{is_word, kind_at, kind_of}
-use Rattle.t1_many.specs.Laws.{GroupsAreKinds}
+use Rattle.t1_many.specs.Outcomes.{IsRead}
 use Rattle.t1_report.proofs.NamesOnce.{fonts_have_no_name_twice}
 use Rattle.t1_report.specs.Faults.{FaultValue}
 use Rattle.t1_report.specs.Laws.WaivedFaults.{HasNoNameTwice}
@@ -232,7 +232,11 @@ pub font_named : (bytes : List ℕ) (font : FontValue) → font_in bytes ≡ Ok 
 unfolding font_in
 font_named bytes font is = clear_named (joined_of bytes) font is
 
-pub groups_are_kinds : GroupsAreKinds
+-- two faults of a font are of one group exactly where they are of one kind
+pub groups_are_kinds : (font : FontValue) (waivers : List Waiver) (a b : FaultValue) → IsRead font waivers → IsInFont font waivers a
+    → IsInFont font waivers b
+    → (group_of font a ≡ group_of font b → kind_of (line_in font waivers a) ≡ kind_of (line_in font waivers b))
+    × (kind_of (line_in font waivers a) ≡ kind_of (line_in font waivers b) → group_of font a ≡ group_of font b)
 groups_are_kinds font waivers a b read in_a in_b = (
   one_kind font waivers read.few_waivers a b in_a in_b,
   same_groups font waivers read.few_waivers (fonts_have_no_name_twice read.bytes font read.font_is)

@@ -1,16 +1,17 @@
--- The rows of groups, group by group.
-use Rattle.std.proofs.Common.{◌≡◌, ◌≤◌, ◌+◌, ◌++◌, ◌∷◌, [], ℕ, zero, suc, Bool, List, Some, length, map, not, nat_eq, filter, slice_get, take, refl, sym, ap, subst, ◌∙◌, arith, add-one, append_assoc, append-nil, inl, inr}
+-- How often the kinds of groups are found, group by group.
+use Rattle.std.proofs.Common.{◌≡◌, ◌≤◌, ◌+◌, ◌++◌, ◌∷◌, [], ℕ, zero, suc, Bool, List, Some, length, map, not, nat_eq, filter, slice_get, take, refl, sym, ap, ap₂, subst, ◌∙◌, arith, add-one, inl, inr}
 use Rattle.std.proofs.Math.Seq.{take-suc}
 use Rattle.std.proofs.lemmas.Bool.{cases_Bool}
-use Rattle.std.proofs.lemmas.Grind.{flat_map-append}
-use Rattle.std.proofs.lemmas.List.{length-map, take_all}
+use Rattle.std.proofs.lemmas.List.{length-map, map-append, take_all}
 use Rattle.std.proofs.lemmas.Option.{get_or_from_slice_get, none-some, slice_get_within}
-use Rattle.std.specs.List.{AllByRecursion, flat_map}
+use Rattle.std.specs.Global.{Global}
+use Rattle.std.specs.List.{AllByRecursion}
+use Rattle.std.specs.declared.vec.Vec.{Vec}
 use Rattle.t1_font.specs.Fonts.{FontValue}
 use Rattle.t1_lines.proofs.Cuts.{some_same}
-use Rattle.t1_many.specs.GroupRows.{group_rows, row_at}
 use Rattle.t1_many.specs.Groups.{firsts, found_in, group_of, groups_of}
-use Rattle.t1_many.specs.KnownFaults.{RowValue, row_text}
+use Rattle.t1_many.specs.Known.{kind_in}
+use Rattle.t1_many.specs.Readings.{counts_in}
 use Rattle.t1_report.specs.Faults.{FaultValue}
 use Rattle.t1_report.specs.Lines.{IsInFont}
 use Rattle.t1_report.specs.Waivers.{Waiver}
@@ -67,16 +68,17 @@ group_in font waivers faults all place group count is =
       firsts_are = up_to (firsts font faults) place at.0 at.1;
     }
 
-module _ (name : List ℕ) (font : FontValue) (waivers : List Waiver) (faults : List FaultValue) where
-  abbrev rows : List RowValue
-  rows = group_rows name font waivers faults
+module _ (font : FontValue) (waivers : List Waiver) (faults : List FaultValue) where
+  -- How often the kind of each group is found.
+  abbrev pub group_counts : List (List ℕ × ℕ)
+  group_counts = map (λ fault. (kind_in font waivers fault, found_in font faults (group_of font fault))) (firsts font faults)
 
   -- The group at a place.
   pub record IsGroup (P : FaultValue → Type 0) (place group count : ℕ) : Type 0 where
     pub fault : FaultValue
     pub holds : P fault
     pub group_is : group_of font fault ≡ group
-    pub rows_are : take (place + 1) rows ≡ take place rows ++ row_at name font waivers count fault ∷ []
+    pub at : slice_get group_counts place ≡ Some (kind_in font waivers fault, count)
 
   pub group_at : (P : FaultValue → Type 0) → AllByRecursion P faults → (place group count : ℕ)
       → slice_get (groups_of font faults) place ≡ Some (group, count) → IsGroup P place group count
@@ -86,23 +88,20 @@ module _ (name : List ℕ) (font : FontValue) (waivers : List Waiver) (faults : 
         fault = at.0;
         holds = all_at P (firsts font faults) place at.0 (all_firsts P font faults all) at.1;
         group_is = ap (λ p. p.0) at.2;
-        rows_are = up_to rows place (row_at name font waivers count at.0)
-            (at_map (λ (f : FaultValue). row_at name font waivers (found_in font faults (group_of font f)) f) (firsts font faults) place at.0 at.1
-            ∙ ap (λ n. Some (row_at name font waivers n at.0)) (ap (λ p. p.1) at.2));
+        at = at_map (λ (f : FaultValue). (kind_in font waivers f, found_in font faults (group_of font f))) (firsts font faults) place at.0 at.1
+            ∙ ap (λ n. Some (kind_in font waivers at.0, n)) (ap (λ p. p.1) at.2);
       }
 
-  pub row_more : (place group count : ℕ) (P : FaultValue → Type 0) (group_is : IsGroup P place group count) (old mid new : List ℕ)
-      → mid ≡ old ++ flat_map row_text (take place rows) → new ≡ mid ++ row_text (row_at name font waivers count group_is.fault)
-      → new ≡ old ++ flat_map row_text (take (place + 1) rows)
-  row_more place group count P is old mid new before more =
-      more ∙ ap (λ l. l ++ row_text (row_at name font waivers count is.fault)) before
-      ∙ append_assoc old (flat_map row_text (take place rows)) (row_text (row_at name font waivers count is.fault))
-      ∙ ap (λ l. old ++ l) (sym (ap (flat_map row_text) is.rows_are
-      ∙ flat_map-append row_text (take place rows) (row_at name font waivers count is.fault ∷ [])
-      ∙ ap (λ l. flat_map row_text (take place rows) ++ l) (append-nil (row_text (row_at name font waivers count is.fault)))))
-
-  pub all_rows : (place : ℕ) → length (groups_of font faults) ≤ place → take place rows ≡ rows
-  all_rows place past =
+  pub all_counts : (place : ℕ) → length (groups_of font faults) ≤ place → take place group_counts ≡ group_counts
+  all_counts place past =
       let few = length-map {B = ℕ × ℕ} (firsts font faults) (λ (f : FaultValue). (group_of font f, found_in font faults (group_of font f))) in
-      let same = length-map {B = RowValue} (firsts font faults) (λ (f : FaultValue). row_at name font waivers (found_in font faults (group_of font f)) f) in
-      take_all place rows (omega (arith, past, few, same))
+      let same = length-map {B = List ℕ × ℕ} (firsts font faults) (λ (f : FaultValue). (kind_in font waivers f, found_in font faults (group_of font f))) in
+      take_all place group_counts (omega (arith, past, few, same))
+
+-- a count more
+pub one_more : (counts : List (List ℕ × ℕ)) (place : ℕ) (kind : List ℕ) (count : ℕ) → slice_get counts place ≡ Some (kind, count)
+    → (old new : List (Vec ℕ Global × ℕ)) (key : Vec ℕ Global) → key.items ≡ kind → counts_in old ≡ take place counts
+    → new ≡ old ++ (key, count) ∷ [] → counts_in new ≡ take (place + 1) counts
+one_more counts place kind count at old new key key_is before new_is =
+    ap counts_in new_is ∙ map-append (λ (e : Vec ℕ Global × ℕ). (e.0.items, e.1)) old ((key, count) ∷ [])
+    ∙ ap₂ (λ (cs : List (List ℕ × ℕ)) (k : List ℕ). cs ++ (k, count) ∷ []) before key_is ∙ sym (up_to counts place (kind, count) at)

@@ -1,20 +1,24 @@
--- The rows of groups are those of kinds.
-use Rattle.std.proofs.Common.{◌≡◌, ◌+◌, ℕ, Bool, true, false, true≢false, not, nat_eq, List, [], ◌∷◌, cond, filter, map, inl, inr, refl, sym, ap, ap₂, ◌∙◌, arith}
+-- Groups are found as often as their kinds.
+use Rattle.indexmap.proofs.CallerLemmas.{insert_entry-new}
+use Rattle.indexmap.specs.IndexMap.{IndexMap, insert_entry}
+use Rattle.std.proofs.Common.{◌≡◌, ◌+◌, ℕ, Bool, true, false, true≢false, not, nat_eq, List, [], ◌∷◌, Some, cond, filter, map, slice_get, take, inl, inr, refl, sym, ap, ap₂, subst, ◌∙◌, arith}
 use Rattle.std.proofs.lemmas.Bool.{cases_Bool}
 use Rattle.std.proofs.lemmas.Bool.Decides.{nat_tests}
-use Rattle.std.specs.Fmt.{decimal}
-use Rattle.std.specs.List.{AllByRecursion}
+use Rattle.std.specs.Global.{Global}
+use Rattle.std.specs.List.{AllByRecursion, IsDistinct}
 use Rattle.std.specs.Str.{bytes_eq}
+use Rattle.std.specs.declared.vec.Vec.{Vec}
 use Rattle.t1_font.specs.Fonts.{FontValue}
 use Rattle.t1_lines.specs.Lines.{line_in}
 use Rattle.t1_many.proofs.GroupKinds.{groups_are_kinds}
 use Rattle.t1_many.proofs.CountsOf.{count_cons}
+use Rattle.t1_many.proofs.DistinctKinds.{counts_once, has_kind, new_at, nowhere}
+use Rattle.t1_many.proofs.GroupTexts.{group_at, group_counts, one_more}
 use Rattle.t1_many.proofs.Texts.{equal, itself}
-use Rattle.t1_many.specs.GroupRows.{group_rows, row_at}
-use Rattle.t1_many.specs.Groups.{firsts, found_in, group_of}
-use Rattle.t1_many.specs.KnownFaults.{RowValue, distinct, found_count, kind_of, rows_of}
-use Rattle.t1_many.specs.Laws.{GroupRowsAreKindRows, GroupsCountKinds}
+use Rattle.t1_many.specs.Groups.{firsts, found_in, group_of, groups_of}
+use Rattle.t1_many.specs.KnownFaults.{counts_of, distinct, found_count, kind_of}
 use Rattle.t1_many.specs.Outcomes.{IsRead}
+use Rattle.t1_many.specs.Readings.{counts_in}
 use Rattle.t1_report.specs.Faults.{FaultValue}
 use Rattle.t1_report.specs.Lines.{IsInFont}
 use Rattle.t1_report.specs.Waivers.{Waiver}
@@ -95,23 +99,31 @@ module _ (font : FontValue) (waivers : List Waiver) (read : IsRead font waivers)
       ap (λ (l : List (List ℕ)). k x ∷ filter (λ other. not (bytes_eq (k x) other)) l) (each_once faults all.1)
       ∙ ap (λ (l : List (List ℕ)). k x ∷ l) (other_kinds x (firsts font faults) all.0 (all_firsts faults all.1))
 
-  -- ---- rows
+  -- ---- counts
 
-  rows_map : (name : List ℕ) (faults xs : List FaultValue) → AllByRecursion In faults → AllByRecursion In xs
-      → map (λ fault. row_at name font waivers (found_in font faults (g fault)) fault) xs
-      ≡ map (λ kind. record { count = decimal (found_count (map k faults) kind); kind = kind; font = name }) (map k xs)
-  rows_map name faults [] all all_xs = refl
-  rows_map name faults (x ∷ xs) all all_xs =
-      ap₂ (λ n (rows : List RowValue). row_at name font waivers n x ∷ rows) (groups_count faults x all all_xs.0) (rows_map name faults xs all all_xs.1)
+  counts_map : (faults xs : List FaultValue) → AllByRecursion In faults → AllByRecursion In xs
+      → map {B = List ℕ × ℕ} (λ fault. (k fault, found_in font faults (g fault))) xs
+      ≡ map {B = List ℕ × ℕ} (λ kind. (kind, found_count (map k faults) kind)) (map k xs)
+  counts_map faults [] all all_xs = refl
+  counts_map faults (x ∷ xs) all all_xs =
+      ap₂ (λ n (counts : List (List ℕ × ℕ)). (k x, n) ∷ counts) (groups_count faults x all all_xs.0) (counts_map faults xs all all_xs.1)
 
-  pub same_rows : (name : List ℕ) (faults : List FaultValue) → AllByRecursion In faults
-      → group_rows name font waivers faults ≡ rows_of name (map k faults)
-  same_rows name faults all =
-      rows_map name faults (firsts font faults) all (all_firsts faults all)
-      ∙ sym (ap (map (λ (kind : List ℕ). record { count = decimal (found_count (map k faults) kind); kind = kind; font = name })) (each_once faults all))
+  pub same_counts : (faults : List FaultValue) → AllByRecursion In faults → group_counts font waivers faults ≡ counts_of (map k faults)
+  same_counts faults all =
+      counts_map faults (firsts font faults) all (all_firsts faults all)
+      ∙ sym (ap (map {B = List ℕ × ℕ} (λ (kind : List ℕ). (kind, found_count (map k faults) kind))) (each_once faults all))
 
-pub rows_are_kind_rows : GroupRowsAreKindRows
-rows_are_kind_rows name font waivers faults read all = same_rows font waivers read name faults all
-
-pub groups_count_kinds : GroupsCountKinds
-groups_count_kinds font waivers faults fault read all in_font = groups_count font waivers read faults fault all in_font
+  -- the group at a place is counted by its kind
+  pub kind_counted : {S : Type 0} (faults : List FaultValue) → AllByRecursion In faults → (place group count : ℕ)
+      → slice_get (groups_of font faults) place ≡ Some (group, count) → (m : IndexMap (Vec ℕ Global) ℕ S) (new : List (Vec ℕ Global × ℕ)) (key : Vec ℕ Global)
+      → ((fault : FaultValue) → In fault → g fault ≡ group → key.items ≡ k fault) → counts_in m.entries ≡ take place (group_counts font waivers faults)
+      → new ≡ insert_entry (λ a b. bytes_eq a.items b.items) m.entries key count → counts_in new ≡ take (place + 1) (group_counts font waivers faults)
+  kind_counted faults all place group count at m new key key_is before inserted =
+      let of = group_at font waivers faults In all place group count at in
+      let kind_is : key.items ≡ k of.fault = key_is of.fault of.holds of.group_is in
+      let once : IsDistinct bytes_eq (map (λ (c : List ℕ × ℕ). c.0) (group_counts font waivers faults)) =
+      subst (λ (cs : List (List ℕ × ℕ)). IsDistinct bytes_eq (map (λ (c : List ℕ × ℕ). c.0) cs)) (sym (same_counts faults all)) (counts_once (map k faults)) in
+      let out : has_kind (counts_in m.entries) key.items ≡ false =
+      ap₂ has_kind before kind_is ∙ new_at (group_counts font waivers faults) place (k of.fault, count) once of.at in
+      one_more (group_counts font waivers faults) place (k of.fault) count of.at m.entries new key kind_is before
+      (inserted ∙ insert_entry-new (λ (a b : Vec ℕ Global). bytes_eq a.items b.items) m key count (nowhere m.entries key.items out))

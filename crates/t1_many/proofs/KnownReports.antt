@@ -5,7 +5,7 @@ use Rattle.std.proofs.lemmas.Bool.Decides.{nat_tests}
 use Rattle.std.specs.List.{AllByRecursion}
 use Rattle.std.specs.Result.{IfOk}
 use Rattle.t1_font.specs.Fonts.{FontValue}
-use Rattle.t1_many.proofs.KindRows.{groups_count_kinds}
+use Rattle.t1_many.proofs.KindRows.{groups_count}
 use Rattle.t1_many.specs.Beyond.{HandsBeyond, verdict_beyond, verdict_of}
 use Rattle.t1_many.specs.Groups.{CountsReport, group_of, groups_of, is_among, told_faults}
 use Rattle.t1_many.specs.Handing.{Handed, HandsFont, HandsOn, HandsReport, done, found_by, found_with, is_told, line, lines_by, lost_of}
@@ -102,7 +102,7 @@ module _ (font : FontValue) (rules : Mask) where
         → (tells fault ≡ true → is_among font fault (told_faults rules faults) ≡ true) → p fault ≡ q fault
     one_verdict fault in_font so = elim (cases_Bool (tells fault)) [
       | inl is ↦ ap₂ (λ k n. verdict_of (tells fault) (nat_lt k n)) (are_known fault in_font (so is))
-          (groups_count_kinds font waivers (told_faults rules faults) fault read (all_some (IsInFont font waivers) tells faults there) in_font)
+          (groups_count font waivers read (told_faults rules faults) fault (all_some (IsInFont font waivers) tells faults there) in_font)
       | inr not_is ↦ rw not_is refl
     ]
 

@@ -1,6 +1,7 @@
 pub mod BeyondLines
 pub mod Codes
 pub mod CountsOf
+pub mod DistinctKinds
 pub mod Endings
 pub mod Entries
 pub mod GivenFaults

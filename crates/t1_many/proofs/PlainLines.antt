@@ -9,8 +9,8 @@ use Rattle.t1_many.specs.Laws.{PlainIsFlushed, PlainIsWritten}
 use Rattle.t1_many.specs.Plain.{Devices, IsLinePut, IsPut, IsWritten, PlainTakes, PutsFailure, tellings, text_of, texts, told_of}
 use Rattle.t1_many.specs.declared.recipient.Lost.{Lost}
 use Rattle.t1_many.specs.declared.recipient.Lost.TheVariants.{Device, Memory}
-use Rattle.t1_run.specs.declared.failure.Failure.{Failure}
-use Rattle.t1_run.specs.declared.failure.Failure.TheVariants as failures
+use Rattle.t1_many.specs.declared.font_error.FontError.{FontError}
+use Rattle.t1_many.specs.declared.font_error.FontError.TheVariants.{Refused, Unchecked}
 
 -- ---- prefixes
 
@@ -40,10 +40,9 @@ record IsOut (reasons : Bool) (old new : Devices) (handed : Handed) : Type 0 whe
   pub out : Appends old.out.written new.out.written (text_of reasons handed)
   pub errors : Appends old.errors.written new.errors.written (told_of handed)
 
-failure_out : (reasons : Bool) (old new : Devices) (name : List ℕ) (reason : Failure) → PutsFailure old new name reason None → IsOut reasons old new (failure name reason)
-failure_out reasons old new name (failures.Refused code) (put, same) = record { out = put.bytes; errors = none-same old.errors new.errors same }
-failure_out reasons old new name failures.Broken (same, put) = record { out = none-same old.out new.out same; errors = put.bytes }
-failure_out reasons old new name failures.Memory (same, put) = record { out = none-same old.out new.out same; errors = put.bytes }
+failure_out : (reasons : Bool) (old new : Devices) (name : List ℕ) (reason : FontError) → PutsFailure old new name reason None → IsOut reasons old new (failure name reason)
+failure_out reasons old new name (Refused code) (put, same) = record { out = put.bytes; errors = none-same old.errors new.errors same }
+failure_out reasons old new name (Unchecked why) (same, put) = record { out = none-same old.out new.out same; errors = put.bytes }
 
 one_out : (reasons : Bool) (old new : Devices) (handed : Handed) → PlainTakes reasons old new handed None → IsOut reasons old new handed
 one_out reasons old new (line name font waivers fault) (put, same) = record { out = put.bytes; errors = none-same old.errors new.errors same }
@@ -77,12 +76,10 @@ errors_half reasons old new handed text Device broke same is none = record {
 }
 errors_half reasons old new handed text Memory never same is none = absurd never
 
-failure_half : (reasons : Bool) (old new : Devices) (name : List ℕ) (reason : Failure) (lost : Lost) → PutsFailure old new name reason (Some lost)
+failure_half : (reasons : Bool) (old new : Devices) (name : List ℕ) (reason : FontError) (lost : Lost) → PutsFailure old new name reason (Some lost)
     → IsHalf reasons old new (failure name reason) lost
-failure_half reasons old new name (failures.Refused code) lost (put, same) =
-    out_half reasons old new (failure name (failures.Refused code)) _ lost put same refl refl
-failure_half reasons old new name failures.Broken lost (same, put) = errors_half reasons old new (failure name failures.Broken) _ lost put same refl refl
-failure_half reasons old new name failures.Memory lost (same, put) = errors_half reasons old new (failure name failures.Memory) _ lost put same refl refl
+failure_half reasons old new name (Refused code) lost (put, same) = out_half reasons old new (failure name (Refused code)) _ lost put same refl refl
+failure_half reasons old new name (Unchecked why) lost (same, put) = errors_half reasons old new (failure name (Unchecked why)) _ lost put same refl refl
 
 line_half : (reasons : Bool) (old new : Devices) (handed : Handed) (text : List ℕ) (reason : Lost) → IsLinePut old.out new.out text (Some reason)
     → new.errors ≡ old.errors → text_of reasons handed ≡ text → told_of handed ≡ [] → IsHalf reasons old new handed reason

@@ -12,6 +12,11 @@ use Rattle.t1_run.specs.FontFiles.{AreRead, largest_file}
 use Rattle.t1_run.specs.Input.{ReadsAtMost, StopsAt}
 use Rattle.t1_run.specs.WaiverFiles.{AreWaived, IsHeard}
 use Rattle.t1_run.specs.declared.failure.Failure.TheVariants.{Broken, Memory}
+use Rattle.t1_many.specs.FontErrors.{error_of, unread, waivers_unread}
+use Rattle.t1_many.specs.Unchecked.{has_line_end}
+use Rattle.t1_many.specs.declared.font_error.FontError.TheVariants.{Unchecked}
+use Rattle.t1_many.specs.declared.font_error.Obstacle.TheVariants.{LineEnd}
+use Rattle.t1_names.specs.declared.causes.Cause.{Cause}
 use Rattle.t1_many.specs.Calls.{Calls}
 use Rattle.t1_many.specs.FontFiles.{asks}
 use Rattle.t1_many.specs.Outcomes.{Outcome, Report, failed, reported}
@@ -34,15 +39,15 @@ pub data IsFound (edition : Edition) (given : Given) (outcome : Outcome) : Type 
       (report : Report) → given.Reads (Ok report.font) → given.Waives (Ok report.waivers)
       → report.edition ≡ edition → IsReport (checked report.font edition) report.waivers report.faults → outcome ≡ reported report
       → IsFound edition given outcome
-  refused : (reason : Reason) → given.Reads (Err reason) → outcome ≡ failed (failure_of reason) → IsFound edition given outcome
+  refused : (reason : Reason) → given.Reads (Err reason) → outcome ≡ failed (error_of (failure_of reason)) → IsFound edition given outcome
   waivers_refused :
       (font : FontValue) → given.Reads (Ok font) → (reason : Reason) → given.Waives (Err reason)
-      → outcome ≡ failed (failure_of reason) → IsFound edition given outcome
-  breaks : given.Breaks → outcome ≡ failed Broken → IsFound edition given outcome
+      → outcome ≡ failed (error_of (failure_of reason)) → IsFound edition given outcome
+  breaks : given.Breaks → outcome ≡ failed (error_of Broken) → IsFound edition given outcome
   breaks_waivers :
-      (font : FontValue) → given.Reads (Ok font) → given.BreaksWaivers → outcome ≡ failed Broken → IsFound edition given outcome
+      (font : FontValue) → given.Reads (Ok font) → given.BreaksWaivers → outcome ≡ failed (error_of Broken) → IsFound edition given outcome
   -- Memory can run out anywhere.
-  no_memory : outcome ≡ failed Memory → IsFound edition given outcome
+  no_memory : outcome ≡ failed (error_of Memory) → IsFound edition given outcome
 
 -- What is known of the files of a font that was opened, and of its waivers where they are asked for, by their states before the first read and
 -- after the last one. The font's file was read to its end or past its limit, unless a read failed or memory ran out.
@@ -60,21 +65,25 @@ HasNoWaivers calls true name old new = calls.OpensWaivers old new name None
 HasNoWaivers calls false name old new = new ≡ old
 
 -- The check of the font of a name, and all that it did to the files: it opened the font, and its waivers where they are asked for, both before it
--- read any, and left both. No read followed the end, the limit or a read that failed.
+-- read any, and left both. No read followed the end, the limit or a read that failed. A font whose name has a line end isn't opened.
 pub data ChecksIn {F : Type 0} (calls : Calls F) (beside : WaiverFiles) (edition : Edition) (name : List ℕ) (old new : F) (outcome : Outcome) : Type 0 where
-  cannot_open : calls.Opens old new name None → outcome ≡ failed Broken → ChecksIn calls beside edition name old new outcome
+  no_line : has_line_end name ≡ true → new ≡ old → outcome ≡ failed (Unchecked LineEnd) → ChecksIn calls beside edition name old new outcome
+  cannot_open :
+      has_line_end name ≡ false → (cause : Cause) → calls.Opens old new name (Err cause) → outcome ≡ failed (unread cause)
+      → ChecksIn calls beside edition name old new outcome
   cannot_open_waivers :
-      (opened asked : F) → (source : SourceState) → calls.Opens old opened name (Some source) → asks beside name ≡ true
-      → calls.OpensWaivers opened asked name (Some None) → calls.Leaves asked new name source → outcome ≡ failed Broken
+      has_line_end name ≡ false → (opened asked : F) → (source : SourceState) → calls.Opens old opened name (Ok source) → asks beside name ≡ true
+      → (cause : Cause) → calls.OpensWaivers opened asked name (Some (Err cause)) → calls.Leaves asked new name source
+      → outcome ≡ failed (waivers_unread cause)
       → ChecksIn calls beside edition name old new outcome
   without_waivers :
-      (opened asked : F) → (source source' waivers waivers' : SourceState) → calls.Opens old opened name (Some source)
+      has_line_end name ≡ false → (opened asked : F) → (source source' waivers waivers' : SourceState) → calls.Opens old opened name (Ok source)
       → HasNoWaivers calls (asks beside name) name opened asked → calls.Leaves asked new name source'
       → ReadsAtMost (largest_file + 1) source source' → IsFound edition (given_by source source' false waivers waivers') outcome
       → ChecksIn calls beside edition name old new outcome
   with_waivers :
-      (opened asked left : F) → (source source' waivers waivers' : SourceState) → calls.Opens old opened name (Some source)
-      → asks beside name ≡ true → calls.OpensWaivers opened asked name (Some (Some waivers))
+      has_line_end name ≡ false → (opened asked left : F) → (source source' waivers waivers' : SourceState)
+      → calls.Opens old opened name (Ok source) → asks beside name ≡ true → calls.OpensWaivers opened asked name (Some (Ok waivers))
       → calls.Leaves asked left name source' → calls.LeavesWaivers left new name waivers'
       → ReadsAtMost (largest_file + 1) source source' → ReadsAtMost (largest_waivers + 1) waivers waivers'
       → IsFound edition (given_by source source' true waivers waivers') outcome

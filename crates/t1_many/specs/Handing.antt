@@ -1,8 +1,9 @@
 -- What is handed on of many fonts, and in which order.
 use Rattle.std.specs.Prelude.{◌≡◌, ◌⊎◌, ℕ, List, [], ◌∷◌, ◌++◌, filter, map, Bool, true, false, Option, None, Some, Result, Ok, Err, IfOk}
-use Rattle.t1_many.specs.Outcomes.{Entry, Outcome, Report, failed, found_of_failure, reported}
+use Rattle.t1_many.specs.Outcomes.{Entry, Outcome, Report, failed, found_of_error, reported}
 use Rattle.t1_summary.specs.declared.found.Found.{Found}
 use Rattle.t1_summary.specs.declared.found.Found.TheVariants.{Clean, Faulty, Known, Refused, Unchecked}
+use Rattle.t1_many.specs.declared.font_error.FontError.{FontError}
 use Rattle.t1_many.specs.declared.recipient.Lost.{Lost}
 use Rattle.t1_many.specs.declared.verdict.Verdict.{Verdict}
 use Rattle.t1_many.specs.declared.verdict.Verdict.TheVariants as verdicts
@@ -10,13 +11,12 @@ use Rattle.t1_report.specs.Checked.{CheckedFont, checked}
 use Rattle.t1_report.specs.Faults.{FaultValue}
 use Rattle.t1_report.specs.Reports.{IsReport}
 use Rattle.t1_report.specs.Waivers.{Waiver}
-use Rattle.t1_run.specs.declared.failure.Failure.{Failure}
 
 -- One thing that is handed on of a font: a line of its report, or why there is none; and, after all else of it, how it
 -- was found.
 pub data Handed : Type 0 where
   line : (name : List ℕ) → CheckedFont → List Waiver → FaultValue → Handed
-  failure : (name : List ℕ) → Failure → Handed
+  failure : (name : List ℕ) → FontError → Handed
   done : (name : List ℕ) → Found → Handed
 
 -- Why it stopped, if it did.
@@ -62,11 +62,11 @@ lines_by judges name font waivers faults = map (line name font waivers) (filter 
 abbrev pub handed_of : (Report → FaultValue → Verdict) → List ℕ → Outcome → List Handed
 handed_of judges name (reported report) =
     lines_by (judges report) name (checked report.font report.edition) report.waivers report.faults ++ done name (found_by (judges report) report.faults) ∷ []
-handed_of judges name (failed reason) = failure name reason ∷ done name (found_of_failure reason) ∷ []
+handed_of judges name (failed reason) = failure name reason ∷ done name (found_of_error reason) ∷ []
 
 abbrev pub found_of : (Report → FaultValue → Verdict) → Outcome → Found
 found_of judges (reported report) = found_by (judges report) report.faults
-found_of judges (failed reason) = found_of_failure reason
+found_of judges (failed reason) = found_of_error reason
 
 -- All of a font was handed on, and it was found so; or it stopped there.
 abbrev pub HandsFont : {F : Type 0} → (F → F → Handed → Option Lost → Type 0) → (Report → FaultValue → Verdict) → F → F → Entry
@@ -84,7 +84,7 @@ HandsReport takes judges name font waivers old new taken =
     × IfOk taken (λ found. found ≡ found_by judges faults)
 
 -- Why there is no report was handed on, and then how the font was found; or it stopped there.
-abbrev pub HandsFailure : {F : Type 0} → (F → F → Handed → Option Lost → Type 0) → List ℕ → Failure → F → F → Result Found Lost → Type 0
+abbrev pub HandsFailure : {F : Type 0} → (F → F → Handed → Option Lost → Type 0) → List ℕ → FontError → F → F → Result Found Lost → Type 0
 HandsFailure takes name reason old new taken =
-    HandsOn takes old new (failure name reason ∷ done name (found_of_failure reason) ∷ []) (lost_of taken)
-    × IfOk taken (λ found. found ≡ found_of_failure reason)
+    HandsOn takes old new (failure name reason ∷ done name (found_of_error reason) ∷ []) (lost_of taken)
+    × IfOk taken (λ found. found ≡ found_of_error reason)

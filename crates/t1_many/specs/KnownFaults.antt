@@ -126,6 +126,10 @@ abbrev pub distinct : List (List ℕ) → List (List ℕ)
 distinct [] = []
 distinct (kind ∷ kinds) = kind ∷ filter (λ other. not (bytes_eq kind other)) (distinct kinds)
 
+-- Each of them with how often it was found.
+abbrev pub counts_of : List (List ℕ) → List (List ℕ × ℕ)
+counts_of kinds = map (λ kind. (kind, found_count kinds kind)) (distinct kinds)
+
 -- The rows of a font: what was found.
 abbrev pub rows_of : List ℕ → List (List ℕ) → List RowValue
 rows_of font kinds = map (λ kind. record { count = decimal (found_count kinds kind); kind = kind; font = font }) (distinct kinds)

@@ -1,17 +1,13 @@
 -- The statements of laws.
 use Rattle.std.specs.Prelude.{◌≡◌, ◌<◌, ◌≤◌, ◌^◌, ℕ, Bool, true, List, [], ◌∷◌, ◌++◌, Option, None, Some, length, map}
 use Rattle.std.specs.List.{AllByRecursion, flat_map}
-use Rattle.t1_font.specs.Fonts.{FontValue}
-use Rattle.t1_lines.specs.Lines.{FaultLineValue, IsFaultLine, PlaceValue, at_key, at_step, at_waiver, line_in}
+use Rattle.t1_lines.specs.Lines.{FaultLineValue, IsFaultLine, PlaceValue, at_key, at_step, at_waiver}
 use Rattle.t1_report.specs.Faults.{FaultValue}
-use Rattle.t1_report.specs.Lines.{IsInFont}
-use Rattle.t1_report.specs.Waivers.{Waiver, is_waivable, waivers_of}
+use Rattle.t1_report.specs.Waivers.{is_waivable, waivers_of}
 use Rattle.t1_rules.specs.Book.{code_of}
 use Rattle.t1_rules.specs.declared.rule.Rule.{Rule}
 use Rattle.t1_run.specs.Statuses.{exit_code_of}
 use Rattle.t1_run.specs.declared.status.Status.{Status}
-use Rattle.t1_many.specs.Groups.{found_in, group_of}
-use Rattle.t1_many.specs.GroupRows.{group_rows}
 use Rattle.t1_many.specs.Handing.{Handed, HandsOn, done}
 use Rattle.t1_many.specs.Plain.{Devices, IsWritten, PlainTakes, tellings, texts}
 use Rattle.t1_many.specs.Ends.{status_of_all}
@@ -19,9 +15,9 @@ use Rattle.t1_many.specs.Told.{all_handed}
 use Rattle.t1_many.specs.declared.verdict.Verdict.{Verdict}
 use Rattle.t1_summary.specs.declared.found.Found.{Found}
 use Rattle.t1_many.specs.declared.recipient.Lost.{Lost}
-use Rattle.t1_many.specs.Outcomes.{Entry, IsRead, Report}
+use Rattle.t1_many.specs.Outcomes.{Entry, Report}
 use Rattle.t1_many.specs.Choice.{Choice, is_told, letters_of, picks}
-use Rattle.t1_many.specs.KnownFaults.{IsKind, IsRow, Reading, RowValue, beyond, found_count, kind_of, kinds_in, row_text, rows_of, rule_of, mismatch, updated}
+use Rattle.t1_many.specs.KnownFaults.{IsKind, IsRow, Reading, RowValue, beyond, kind_of, kinds_in, row_text, rule_of, mismatch, updated}
 use Rattle.t1_many.specs.Shards.{first_parts, joined, of_parts}
 use Rattle.t1_many.specs.Statuses.{worse, worst_of}
 use Rattle.t1_many.specs.WrittenWaivers.{waivers_of_lines, waivers_text}
@@ -54,28 +50,6 @@ abbrev pub PlainIsFlushed : Type 0
 PlainIsFlushed =
     (reasons : Bool) (old new : Devices) (handed : List Handed) (name : List ℕ) (found : Found)
     → HandsOn (PlainTakes reasons) old new (handed ++ done name found ∷ []) None → new.out.flushed ≡ true
-
--- Two faults of a font's report are of one group exactly where they are of one kind.
-abbrev pub GroupsAreKinds : Type 0
-GroupsAreKinds =
-    (font : FontValue) (waivers : List Waiver) (a b : FaultValue) → IsRead font waivers → IsInFont font waivers a → IsInFont font waivers b
-    → (group_of font a ≡ group_of font b → kind_of (line_in font waivers a) ≡ kind_of (line_in font waivers b))
-    × (kind_of (line_in font waivers a) ≡ kind_of (line_in font waivers b) → group_of font a ≡ group_of font b)
-
--- So often a fault's group is found among faults as its kind is.
-abbrev pub GroupsCountKinds : Type 0
-GroupsCountKinds =
-    (font : FontValue) (waivers : List Waiver) (faults : List FaultValue) (fault : FaultValue) → IsRead font waivers
-    → AllByRecursion (IsInFont font waivers) faults → IsInFont font waivers fault
-    → found_in font faults (group_of font fault)
-    ≡ found_count (map (λ f. kind_of (line_in font waivers f)) faults) (kind_of (line_in font waivers fault))
-
--- The rows of groups are those of kinds.
-abbrev pub GroupRowsAreKindRows : Type 0
-GroupRowsAreKindRows =
-    (name : List ℕ) (font : FontValue) (waivers : List Waiver) (faults : List FaultValue) → IsRead font waivers
-    → AllByRecursion (IsInFont font waivers) faults
-    → group_rows name font waivers faults ≡ rows_of name (map (λ fault. kind_of (line_in font waivers fault)) faults)
 
 -- No text is that of two rows.
 abbrev pub ATextIsOneRow : Type 0

@@ -4,8 +4,8 @@ pub mod Choice
 pub mod Counting
 pub mod Ends
 pub mod Files
+pub mod FontErrors
 pub mod FontFiles
-pub mod GroupRows
 pub mod Groups
 pub mod Handing
 pub mod Known
@@ -20,5 +20,6 @@ pub mod RowValues
 pub mod Shards
 pub mod Statuses
 pub mod Told
+pub mod Unchecked
 pub mod Verdicts
 pub mod WrittenWaivers

@@ -6,13 +6,13 @@ use Rattle.t1_font.specs.FontFiles.{font_in}
 use Rattle.t1_font.specs.Fonts.{FontValue}
 use Rattle.t1_summary.specs.declared.found.Found.{Found}
 use Rattle.t1_summary.specs.declared.found.Found.TheVariants as founds
+use Rattle.t1_many.specs.declared.font_error.FontError.{FontError}
+use Rattle.t1_many.specs.declared.font_error.FontError.TheVariants.{Refused, Unchecked}
 use Rattle.t1_many.specs.declared.recipient.Lost.{Lost}
 use Rattle.t1_report.specs.Checked.{CheckedFont}
 use Rattle.t1_report.specs.Faults.{FaultValue}
 use Rattle.t1_report.specs.Reports.{IsReport}
 use Rattle.t1_report.specs.Waivers.{Waiver, largest_waivers, waivers_of}
-use Rattle.t1_run.specs.declared.failure.Failure.{Failure}
-use Rattle.t1_run.specs.declared.failure.Failure.TheVariants.{Broken, Memory, Refused}
 use Rattle.t1_run.specs.declared.status.Status.{Status}
 use Rattle.t1_run.specs.declared.status.Status.TheVariants as statuses
 
@@ -35,7 +35,7 @@ pub record Report : Type 0 where
 -- Its report was made, or why there is none.
 pub data Outcome : Type 0 where
   reported : Report → Outcome
-  failed : Failure → Outcome
+  failed : FontError → Outcome
 
 -- A font of many, and how its check ended.
 pub record Entry : Type 0 where
@@ -51,10 +51,9 @@ status_of_found founds.Refused = statuses.Refused
 status_of_found founds.Unchecked = statuses.Failed
 
 -- How a font was found of which there is no report.
-abbrev pub found_of_failure : Failure → Found
-found_of_failure (Refused code) = founds.Refused
-found_of_failure Broken = founds.Unchecked
-found_of_failure Memory = founds.Unchecked
+abbrev pub found_of_error : FontError → Found
+found_of_error (Refused code) = founds.Refused
+found_of_error (Unchecked why) = founds.Unchecked
 
 -- The report of a font with these waivers was taken; or memory ran out, and nothing was done.
 abbrev pub TakesReport : {R E : Type 0} → (R → R → Entry → Result Found Lost → Type 0) → List ℕ → CheckedFont → List Waiver → R → R

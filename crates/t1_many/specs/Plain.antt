@@ -12,28 +12,24 @@ use Rattle.t1_report.specs.Checked.{CheckedFont}
 use Rattle.t1_report.specs.Faults.{FaultValue}
 use Rattle.t1_report.specs.Lines.{line_of}
 use Rattle.t1_report.specs.Waivers.{Waiver}
-use Rattle.t1_run.specs.Failures.{out_of_memory_line, read_failed_line, refusal_line}
-use Rattle.t1_run.specs.declared.failure.Failure.{Failure}
-use Rattle.t1_run.specs.declared.failure.Failure.TheVariants as failures
-
--- The program that checks one font. In its words it is reported that a font isn't checked.
-abbrev pub checker : List ℕ
-checker = codes "t1check"
+use Rattle.t1_many.specs.FontErrors.{reason_of}
+use Rattle.t1_many.specs.Unchecked.{unchecked_line}
+use Rattle.t1_many.specs.declared.font_error.FontError.{FontError}
+use Rattle.t1_many.specs.declared.font_error.FontError.TheVariants.{Refused, Unchecked}
+use Rattle.t1_run.specs.Failures.{refusal_line}
 
 -- `NAME: LINE`.
 abbrev pub named : List ℕ → List ℕ → List ℕ
 named name text = concat (name ∷ codes ": " ∷ []) ++ text
 
--- A refusal is written as a line of a report is, and each other failure is printed on standard error.
-abbrev pub failure_text : List ℕ → Failure → List ℕ
-failure_text name (failures.Refused code) = named name (refusal_line code)
-failure_text name failures.Broken = []
-failure_text name failures.Memory = []
+-- A refusal is written as a line of a report is; why a font isn't checked is printed on standard error.
+abbrev pub failure_text : List ℕ → FontError → List ℕ
+failure_text name (Refused code) = named name (refusal_line code)
+failure_text name (Unchecked why) = []
 
-abbrev pub failure_told : List ℕ → Failure → List ℕ
-failure_told name (failures.Refused code) = []
-failure_told name failures.Broken = named name (read_failed_line checker)
-failure_told name failures.Memory = named name (out_of_memory_line checker)
+abbrev pub failure_told : List ℕ → FontError → List ℕ
+failure_told name (Refused code) = []
+failure_told name (Unchecked why) = unchecked_line name (reason_of why)
 
 -- The line of a fault, after the font's name, and where reasons are reported that of its reason.
 abbrev pub fault_text : Bool → List ℕ → CheckedFont → List Waiver → FaultValue → List ℕ
@@ -83,13 +79,10 @@ IsFlushed old new (Some Device) = CallFailed old new
 IsFlushed old new (Some Memory) = ⊥
 
 -- A failure is put on one of them.
-abbrev pub PutsFailure : Devices → Devices → List ℕ → Failure → Option Lost → Type 0
-PutsFailure old new name (failures.Refused code) lost =
-    IsPut old.out new.out (named name (refusal_line code)) lost × (new.errors ≡ old.errors)
-PutsFailure old new name failures.Broken lost =
-    (new.out ≡ old.out) × IsPut old.errors new.errors (named name (read_failed_line checker)) lost
-PutsFailure old new name failures.Memory lost =
-    (new.out ≡ old.out) × IsPut old.errors new.errors (named name (out_of_memory_line checker)) lost
+abbrev pub PutsFailure : Devices → Devices → List ℕ → FontError → Option Lost → Type 0
+PutsFailure old new name (Refused code) lost = IsPut old.out new.out (named name (refusal_line code)) lost × (new.errors ≡ old.errors)
+PutsFailure old new name (Unchecked why) lost =
+    (new.out ≡ old.out) × IsPut old.errors new.errors (unchecked_line name (reason_of why)) lost
 
 -- One thing that is handed on. The output is flushed after each font.
 abbrev pub PlainTakes : Bool → Devices → Devices → Handed → Option Lost → Type 0

@@ -1,11 +1,12 @@
 -- Fonts whose lines are reported by known faults, and what is found in them.
+use Rattle.std.specs.Global.{Global}
 use Rattle.std.specs.Prelude.{◌≡◌, ◌⊎◌, ℕ, List, [], ◌∷◌, ◌++◌, if◌then◌else◌, map, Option, None, Result, Ok, Err, string_bytes}
-use Rattle.std.specs.List.{flat_map}
+use Rattle.std.specs.declared.vec.Vec.{Vec}
 use Rattle.t1_font.specs.Fonts.{FontValue}
 use Rattle.t1_many.specs.Groups.{told_faults}
 use Rattle.t1_many.specs.Handing.{Handed, HandsFont, HandsOn, handed_of}
 use Rattle.t1_many.specs.Known.{kind_in, verdict_known}
-use Rattle.t1_many.specs.KnownFaults.{row_text, rows_of}
+use Rattle.t1_many.specs.KnownFaults.{Reading as FoundIn, counts_of}
 use Rattle.t1_many.specs.Outcomes.{Entry, Outcome, Report, failed, reported}
 use Rattle.t1_many.specs.declared.readings.Reading.{Reading}
 use Rattle.t1_many.specs.declared.recipient.Lost.{Lost}
@@ -27,10 +28,18 @@ by_known counts rules name report = verdict_known counts rules name report.font 
 abbrev pub as_known : Mask → Report → FaultValue → Verdict
 as_known rules report fault = if has rules (number_of fault.rule) then Known else Left
 
--- These faults were found in a font, a row for each kind.
-pub record IsReading (name : List ℕ) (font : FontValue) (waivers : List Waiver) (faults : List FaultValue) (reading : Reading) : Type 0 where
-  pub font_is : string_bytes reading.font ≡ name
-  pub rows_are : reading.rows.items ≡ flat_map row_text (rows_of name (map (kind_in font waivers) faults))
+-- How often each kind was found, as the program keeps it.
+abbrev pub counts_in : List (Vec ℕ Global × ℕ) → List (List ℕ × ℕ)
+counts_in entries = map (λ e. (e.0.items, e.1)) entries
+
+-- What was found in a font is kept: its name, and how often each kind was found.
+pub record IsReadingOf (reading : Reading) (found : FoundIn) : Type 0 where
+  pub font : string_bytes reading.font ≡ found.font
+  pub counts : counts_in reading.counts.entries ≡ counts_of found.kinds
+
+-- These faults were found in a font.
+abbrev pub IsReading : List ℕ → FontValue → List Waiver → List FaultValue → Reading → Type 0
+IsReading name font waivers faults reading = IsReadingOf reading (record { font = name; kinds = map (kind_in font waivers) faults })
 
 -- What was found is kept, unless it stopped before, or memory ran out.
 abbrev pub Keeps : List Reading → List Reading → Reading → Result Found Lost → Result Found Lost → Type 0

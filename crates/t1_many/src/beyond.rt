@@ -13,7 +13,7 @@ ghost use Rattle.t1_rules.specs.Components.{AreOf};
 ghost use Rattle.t1_rules.specs.Mask.{has};
 
 use crate::form::Form;
-use crate::groups::{Counts, count_of, group_of};
+use crate::groups::{Groups, count_of, group_of};
 use crate::handing::hand_report;
 use crate::recipient::Taken;
 use crate::verdict::{Judge, Verdict};
@@ -25,8 +25,8 @@ use t1_rules::{Mask, Sidebearings};
 #[derive(Clone, Copy)]
 struct Beyond<'a> {
     rules: Mask,
-    known: &'a Counts,
-    found: &'a Counts,
+    known: &'a Groups,
+    found: &'a Groups,
 }
 
 impl<'a> Judge for Beyond<'a> {
@@ -48,15 +48,15 @@ impl<'a> Judge for Beyond<'a> {
 
 /// Hands on the lines of a font's report that go beyond known faults. Of the rules that are reported, these are all
 /// lines of a group that is found more often than it is known. The others of these rules are known faults.
-pub fn hand_beyond<'a, F: Form>(
+pub(crate) fn hand_beyond<'a, F: Form>(
     form: &mut F,
     name: &str,
     font: &'a Font<'a>,
     sidebearings: &'a Sidebearings,
     waivers: &'a Waivers<'a>,
     rules: Mask,
-    known: &Counts,
-    found: &Counts,
+    known: &Groups,
+    found: &Groups,
 ) -> Taken
     requires few { length font.now.glyphs ≤ most_glyphs }
     requires few_waivers { length waivers.now ≤ largest_waivers }

@@ -5,17 +5,20 @@ ghost use Rattle.t1_many.specs.Calls.{opened_in};
 ghost use Rattle.t1_many.specs.Ends.{Ends};
 ghost use Rattle.t1_many.specs.Files.{files_by};
 ghost use Rattle.t1_many.specs.FontFiles.{asks};
-ghost use Rattle.t1_many.specs.Private.Checking.{AsksWaivers, ChecksNamed, TakesOne};
+ghost use Rattle.t1_many.specs.Private.Checking.{AsksWaivers, ChecksNamed, TakesOne, or_error};
 
+use crate::font_error::{FontError, Obstacle};
 use crate::font_files::{FontFiles, WaiverFiles};
 use crate::found::status_of;
 use crate::one_font::check_opened;
 use crate::recipient::{Lost, Recipient, Taken};
 use crate::status::worse;
+use crate::unchecked::has_line_end;
 use std::alloc::Global;
 use std::io;
 use t1_char::Edition;
 use t1_io::In;
+use t1_names::Cause;
 use t1_run::{Failure, Status};
 
 /// Checks the fonts of these names in order, with their waivers where these are read and a font has some. The recipient takes how each check
@@ -52,11 +55,11 @@ fn check_one<F: FontFiles, T: Recipient>(
 {
     match check_named(alloc, name, beside, files, edition, recipient) {
         Ok(taken) => taken,
-        Err(failure) => recipient.failure(name, failure),
+        Err(error) => recipient.failure(name, error),
     }
 }
 
-/// Opens the font of a name and its waivers, both before any is read, checks it, and leaves both.
+/// Opens the font of a name and its waivers, both before any is read, checks it, and leaves both. A font whose name has a line end isn't opened.
 fn check_named<F: FontFiles, T: Recipient>(
     alloc: Global,
     name: &str,
@@ -64,18 +67,22 @@ fn check_named<F: FontFiles, T: Recipient>(
     files: &mut F,
     edition: Edition,
     recipient: &mut T,
-) -> Result<Taken, Failure>
+) -> Result<Taken, FontError>
     ensures { ChecksNamed T.takes F.calls beside edition name.now files.old files.new recipient.old recipient.new result }
 {
-    let Ok(mut font) = files.open_font(name) else {
-        return Err(Failure::Broken);
+    if has_line_end(name) {
+        return Err(FontError::Unchecked(Obstacle::LineEnd));
+    }
+    let mut font = match files.open_font(name) {
+        Ok(font) => font,
+        Err(error) => return Err(FontError::Unchecked(Obstacle::Unread(Cause::of(&error)))),
     };
     match open_asked(name, beside.asks(name), files) {
         None => {
             let mut none = In::new(io::empty());
             let taken = check_opened(alloc, name, &mut font, &mut none, false, edition, recipient);
             files.leave_font(name, font);
-            taken
+            or_error(taken)
         }
         Some(Ok(mut waivers)) => {
             let taken = check_opened(
@@ -89,12 +96,22 @@ fn check_named<F: FontFiles, T: Recipient>(
             );
             files.leave_font(name, font);
             files.leave_waivers(name, waivers);
-            taken
+            or_error(taken)
         }
-        Some(Err(_)) => {
+        Some(Err(error)) => {
             files.leave_font(name, font);
-            Err(Failure::Broken)
+            Err(FontError::Unchecked(Obstacle::WaiversUnread(Cause::of(&error))))
         }
+    }
+}
+
+/// What a check gave, or why there is no report.
+fn or_error(taken: Result<Taken, Failure>) -> Result<Taken, FontError>
+    ensures { result ≡ or_error taken }
+{
+    match taken {
+        Ok(taken) => Ok(taken),
+        Err(failure) => Err(FontError::from(failure)),
     }
 }
 

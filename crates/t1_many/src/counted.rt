@@ -4,12 +4,12 @@ ghost use Rattle.std.specs.Prelude.{◌≡◌, List, Option};
 ghost use Rattle.t1_many.specs.Counting.{Counts};
 ghost use Rattle.t1_many.specs.Handing.{Handed};
 
+use crate::font_error::FontError;
 use crate::form::Form;
 use crate::recipient::Lost;
 use t1_font::Font;
 use t1_reasons::ReportReasons;
 use t1_report::{Fault, Waivers};
-use t1_run::Failure;
 use t1_summary::{Found, Tally};
 
 /// Hands on to a form, and counts the lines that it took, by their rules, and the fonts, by how they were found.
@@ -39,7 +39,7 @@ impl<F: Form> Form for Counted<F> {
         Ok(())
     }
 
-    fn failure(&mut self, name: &str, reason: Failure) -> Result<(), Lost> {
+    fn failure(&mut self, name: &str, reason: FontError) -> Result<(), Lost> {
         self.form.failure(name, reason)
     }
 

@@ -5,11 +5,11 @@ ghost use Rattle.t1_many.specs.Handing.{Handed, done, failure, line, lost_of};
 ghost use Rattle.t1_report.specs.Faults.{fault_value};
 ghost use Rattle.t1_report.specs.Lines.{IsInFont};
 
+use crate::font_error::FontError;
 use crate::recipient::Lost;
 use t1_font::Font;
 use t1_reasons::ReportReasons;
 use t1_report::{Fault, Waivers};
-use t1_run::Failure;
 use t1_summary::Found;
 
 /// A form in which lines are handed on, one after another.
@@ -34,7 +34,7 @@ pub trait Form {
         ensures same { reasons.new ≡ reasons.old };
 
     /// Takes why there is no report of a font.
-    fn failure(&mut self, name: &str, reason: Failure) -> Result<(), Lost>
+    fn failure(&mut self, name: &str, reason: FontError) -> Result<(), Lost>
         ensures { takes self.old self.new (failure name.now reason) (lost_of result) };
 
     /// Takes how a font was found, once all else of it was handed on.

@@ -1,9 +1,10 @@
 //! How fonts were found, by how their checks ended.
 
 ghost use Rattle.std.specs.Prelude.{◌≡◌};
-ghost use Rattle.t1_many.specs.Outcomes.{found_of_failure, status_of_found};
+ghost use Rattle.t1_many.specs.Outcomes.{found_of_error, status_of_found};
 
-use t1_run::{Failure, Status};
+use crate::font_error::FontError;
+use t1_run::Status;
 use t1_summary::Found;
 
 /// The status of a run over one font that was found so.
@@ -19,11 +20,11 @@ pub(crate) fn status_of(found: Found) -> Status
 }
 
 /// How a font was found of which there is no report.
-pub(crate) fn found_of(failure: Failure) -> Found
-    ensures { result ≡ found_of_failure failure }
+pub(crate) fn found_of(error: FontError) -> Found
+    ensures { result ≡ found_of_error error }
 {
-    match failure {
-        Failure::Refused(_) => Found::Refused,
-        Failure::Broken | Failure::Memory => Found::Unchecked,
+    match error {
+        FontError::Refused(_) => Found::Refused,
+        FontError::Unchecked(_) => Found::Unchecked,
     }
 }

@@ -1,4 +1,4 @@
-//! How often a font breaks a rule in a unit.
+//! How often a font breaks a rule in a unit, by numbers.
 
 ghost use Rattle.std.specs.Prelude.{◌≡◌, ◌≤◌, ◌<◌, ◌+◌, ◌^◌, nat_eq, ℕ, IfOk, OnOk, length, if◌then◌else◌};
 ghost use Rattle.std.specs.Map.{count_at};
@@ -21,10 +21,10 @@ use t1_rules::{INDEXES, Mask, Sidebearings};
 
 /// How often faults of a group were found, by the group's number, in the order of their first faults: faults of one
 /// rule in one glyph, at one key of the font or at one waiver are a group.
-pub type Counts = IndexMap<u64, u64>;
+pub(crate) type Groups = IndexMap<u64, u64>;
 
 /// The number of a fault's group.
-pub fn group_of(font: &Font<'_>, fault: &Fault) -> u64
+pub(crate) fn group_of(font: &Font<'_>, fault: &Fault) -> u64
     requires few { length font.now.glyphs ≤ most_glyphs }
     requires unit { fault.now.unit ≤ length font.now.glyphs + 1 }
     ensures { result ≡ group_of font.now (fault_value fault.now) }
@@ -49,14 +49,14 @@ fn part_of(font: &Font<'_>, fault: &Fault) -> u32
 }
 
 /// How often a group was counted.
-pub fn count_of(counts: &Counts, group: u64) -> u64
+pub(crate) fn count_of(counts: &Groups, group: u64) -> u64
     ensures { result ≡ count_at (get nat_eq counts.now) group }
 {
     counts.get(&group).copied().unwrap_or(0)
 }
 
 /// Counts a group once more.
-fn bump(counts: &mut Counts, group: u64) -> Result<(), AllocError>
+fn bump(counts: &mut Groups, group: u64) -> Result<(), AllocError>
     requires { count_at (get nat_eq counts.old) group + 1 < 2 ^ 64 }
     ensures counts { OnOk result ((g : ℕ) → count_at (get nat_eq counts.new) g
         ≡ count_at (get nat_eq counts.old) g + (if nat_eq group g then 1 else 0)) }
@@ -69,13 +69,13 @@ fn bump(counts: &mut Counts, group: u64) -> Result<(), AllocError>
 }
 
 /// Counts the groups of the faults whose rules are reported, in a font's whole report.
-pub fn count_groups<'a>(
+pub(crate) fn count_groups<'a>(
     alloc: Global,
     font: &'a Font<'a>,
     sidebearings: &'a Sidebearings,
     waivers: &'a Waivers<'a>,
     rules: Mask,
-) -> Result<Counts, AllocError>
+) -> Result<Groups, AllocError>
     requires few { length font.now.glyphs ≤ most_glyphs }
     requires few_waivers { length waivers.now ≤ largest_waivers }
     requires sidebearings { AreOf font.now sidebearings.now }

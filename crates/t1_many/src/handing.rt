@@ -8,6 +8,7 @@ ghost use Rattle.t1_report.specs.Checked.{checked};
 ghost use Rattle.t1_report.specs.Waivers.{largest_waivers};
 ghost use Rattle.t1_rules.specs.Components.{AreOf};
 
+use crate::font_error::FontError;
 use crate::form::Form;
 use crate::found::found_of;
 use crate::recipient::Taken;
@@ -19,7 +20,6 @@ use t1_report::{
     marks_count_the_faults_given,
 };
 use t1_rules::Sidebearings;
-use t1_run::Failure;
 use t1_summary::Found;
 
 /// Hands on the lines of a font's report that aren't omitted, and then how the font was found.
@@ -78,7 +78,7 @@ fn hand_lines<'a, F: Form, J: Judge>(
 }
 
 /// Hands on why there is no report of a font.
-pub fn hand_failure<F: Form>(form: &mut F, name: &str, reason: Failure) -> Taken
+pub fn hand_failure<F: Form>(form: &mut F, name: &str, reason: FontError) -> Taken
     ensures { HandsFailure F.takes name.now reason form.old form.new result }
 {
     form.failure(name, reason)?;

@@ -1,67 +1,54 @@
-//! The rows of known faults that are written of a font's groups.
+//! How often each kind of a font's faults was found.
 
-ghost use Rattle.std.specs.Prelude.{◌≡◌, ◌≤◌, ◌-◌, [], ◌∷◌, ◌++◌, codes, OnOk, List, Some, length, slice_get};
-ghost use Rattle.std.specs.List.{AllByRecursion, concat, flat_map};
+ghost use Rattle.std.specs.Prelude.{◌≡◌, ◌≤◌, ◌-◌, [], ◌∷◌, ◌++◌, codes, IfOk, OnOk, List, Some, length, map, slice_get};
+ghost use Rattle.std.specs.List.{AllByRecursion, concat};
 ghost use Rattle.t1_lines.specs.Lines.{line_in};
-ghost use Rattle.t1_many.specs.GroupRows.{group_rows, row_at};
 ghost use Rattle.t1_many.specs.Groups.{group_of, groups_of};
-ghost use Rattle.t1_many.specs.KnownFaults.{kind_of, row_text};
+ghost use Rattle.t1_many.specs.Known.{kind_in};
+ghost use Rattle.t1_many.specs.KnownFaults.{counts_of, kind_of};
+ghost use Rattle.t1_many.specs.Outcomes.{IsRead};
+ghost use Rattle.t1_many.specs.Readings.{counts_in};
 ghost use Rattle.t1_report.specs.Faults.{FaultValue};
 ghost use Rattle.t1_report.specs.Lines.{IsInFont};
 ghost use Rattle.t1_report.specs.Waivers.{Waiver, largest_waivers};
 ghost use Rattle.t1_rules.specs.Book.{code_of};
 
-use crate::groups::Counts;
+use crate::groups::Groups;
+use indexmap::IndexMap;
 use std::alloc::{AllocError, Global};
 use t1_font::Font;
 use t1_report::Waivers;
 use t1_rules::{Rule, key_text, rule_code};
 
-/// Appends the rows of known faults of a font's groups, `COUNT KIND FONT` each, in the order of their first faults.
-pub fn push_rows(
+/// How often faults of each kind were found in a font, in the order of their first faults. A kind is as rows of known
+/// faults name it: `H02 glyph A`, `Z04 font BlueValues`, `U01 waiver A P01`.
+pub type Counts = IndexMap<Vec<u8>, u64>;
+
+/// How often the kinds of a font's groups were found.
+pub(crate) fn count_kinds(
     alloc: Global,
-    text: &mut Vec<u8>,
-    name: &str,
     font: &Font<'_>,
     waivers: &Waivers<'_>,
-    counts: &Counts,
-) -> Result<(), AllocError>
-    requires few_waivers { length waivers.now ≤ largest_waivers }
-    ensures { (faults : List FaultValue) → AllByRecursion (IsInFont font.now waivers.now) faults
-        → counts.now.entries ≡ groups_of font.now faults
-        → OnOk result (text.new.items ≡ text.old.items ++ flat_map row_text (group_rows name.now font.now waivers.now faults)) }
+    groups: &Groups,
+) -> Result<Counts, AllocError>
+    requires read { IsRead font.now waivers.now }
+    ensures { IfOk result (λ counts. (faults : List FaultValue) → AllByRecursion (IsInFont font.now waivers.now) faults
+        → groups.now.entries ≡ groups_of font.now faults
+        → counts_in counts.entries ≡ counts_of (map (kind_in font.now waivers.now) faults)) }
 {
-    for place in 0..counts.len() {
-        let Some((group, count)) = counts.get_index(place) else {
+    let mut counts = IndexMap::new(alloc);
+    for place in 0..groups.len() {
+        let Some((group, count)) = groups.get_index(place) else {
             break;
         };
-        push_row(alloc, text, name, font, waivers, *group, *count)?;
+        let mut kind = Vec::new(alloc);
+        push_kind(&mut kind, font, waivers, *group)?;
+        counts.insert(kind, *count)?;
     }
-    Ok(())
+    Ok(counts)
 }
 
-/// Appends the row of a group that is found so often.
-fn push_row(
-    alloc: Global,
-    text: &mut Vec<u8>,
-    name: &str,
-    font: &Font<'_>,
-    waivers: &Waivers<'_>,
-    group: u64,
-    count: u64,
-) -> Result<(), AllocError>
-    requires few_waivers { length waivers.now ≤ largest_waivers }
-    ensures { (fault : FaultValue) → IsInFont font.now waivers.now fault → group_of font.now fault ≡ group
-        → OnOk result (text.new.items ≡ text.old.items ++ row_text (row_at name.now font.now waivers.now count fault)) }
-{
-    let digits = count.to_string(alloc)?;
-    push_two(text, digits.as_bytes(), b" ")?;
-    push_kind(text, font, waivers, group)?;
-    push_two(text, b" ", name.as_bytes())?;
-    text.extend_from_slice(b"\n")
-}
-
-/// Appends the kind of a group of a font's faults: `H02 glyph A`, `Z04 font BlueValues`, `U01 waiver A P01`.
+/// Appends the kind of a group of a font's faults.
 pub(crate) fn push_kind(
     text: &mut Vec<u8>,
     font: &Font<'_>,

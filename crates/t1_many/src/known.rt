@@ -10,7 +10,7 @@ ghost use Rattle.t1_many.specs.Outcomes.{IsRead};
 ghost use Rattle.t1_report.specs.Faults.{FaultValue};
 ghost use Rattle.t1_report.specs.Lines.{IsInFont};
 
-use crate::groups::Counts;
+use crate::groups::Groups;
 use crate::kinds::{push_kind, push_two};
 use indexmap::IndexMap;
 use std::alloc::{AllocError, Global};
@@ -34,8 +34,8 @@ pub(crate) fn known_counts<K: Known>(
     name: &str,
     font: &Font<'_>,
     waivers: &Waivers<'_>,
-    found: &Counts,
-) -> Result<Counts, AllocError>
+    found: &Groups,
+) -> Result<Groups, AllocError>
     requires read { IsRead font.now waivers.now }
     ensures { IfOk result (λ counts. (faults : List FaultValue) → AllByRecursion (IsInFont font.now waivers.now) faults
         → found.now.entries ≡ groups_of font.now faults → (fault : FaultValue) → IsInFont font.now waivers.now fault

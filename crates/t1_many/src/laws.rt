@@ -1,6 +1,6 @@
 //! Laws above the definitions: each is the contract of a function that does nothing.
 
-ghost use Rattle.t1_many.specs.Laws.{ATextIsOneRow, CodesPickTheirRule, GroupRowsAreKindRows, GroupsAreKinds, GroupsCountKinds, JoinedAreWorse, KindsNameTheirRules, LettersPickTheirRules, LinesHaveKinds, NoLineIsBeyond, NoRowDiffers, NoneIsWorse, PartsAreHandedOn, PartsAreTheWhole, PartsAreWritten, PartsHaveTheStatus, PlainIsFlushed, PlainIsWritten, WrittenWaiversAreRead};
+ghost use Rattle.t1_many.specs.Laws.{ATextIsOneRow, CodesPickTheirRule, JoinedAreWorse, KindsNameTheirRules, LettersPickTheirRules, LinesHaveKinds, NoLineIsBeyond, NoRowDiffers, NoneIsWorse, PartsAreHandedOn, PartsAreTheWhole, PartsAreWritten, PartsHaveTheStatus, PlainIsFlushed, PlainIsWritten, WrittenWaiversAreRead};
 
 /// A code picks its rule alone, and the letters of a code pick the rules whose codes have these letters.
 #[tactic(auto, using(crate::proofs::Codes::codes_pick, crate::proofs::Codes::letters_pick))]
@@ -23,15 +23,6 @@ pub fn a_text_is_one_row()
 pub fn plain_lines_are_written()
     ensures written { PlainIsWritten }
     ensures flushed { PlainIsFlushed }
-{}
-
-/// Two faults of a font's report are of one group exactly where rows of known faults name one kind. So groups are found
-/// as often as their kinds, and their rows are those of the kinds.
-#[tactic(auto, using(crate::proofs::GroupKinds::groups_are_kinds, crate::proofs::KindRows::groups_count_kinds, crate::proofs::KindRows::rows_are_kind_rows))]
-pub fn groups_are_kinds()
-    ensures groups { GroupsAreKinds }
-    ensures counts { GroupsCountKinds }
-    ensures rows { GroupRowsAreKindRows }
 {}
 
 /// The parts of a list, one after the other, are the list.

@@ -3,13 +3,14 @@
 //! lines.
 //!
 //! [`check_all`] checks fonts one after another, and [`told_rules`] says which rules are reported. [`read_row`] reads a
-//! row of a file of known faults, and [`count_groups`] counts a font's faults as such rows do.
+//! row of a file of known faults, and a [`Reading`] has what was found in a font as such rows count it.
 #![tactic(auto)]
 
 mod beyond;
 mod checking;
 mod choice;
 mod counted;
+mod font_error;
 mod font_files;
 mod form;
 mod found;
@@ -26,22 +27,21 @@ mod recipient;
 mod row;
 mod status;
 mod telling;
+mod unchecked;
 mod verdict;
 
-pub use beyond::hand_beyond;
 pub use checking::check_all;
 pub use choice::{is_told, told_rules};
 pub use counted::Counted;
+pub use font_error::{FontError, Obstacle};
 pub use font_files::{FontFiles, WaiverFiles};
 pub use form::Form;
-pub use groups::{Counts, count_groups, count_of, group_of};
 pub use handing::{hand_failure, hand_report};
-pub use kinds::push_rows;
+pub use kinds::Counts;
 pub use known::Known;
 pub use laws::{
-    a_text_is_one_row, an_update_is_quiet, codes_pick_their_rules, groups_are_kinds,
-    parts_are_the_whole, parts_are_told_as_the_whole, plain_lines_are_written, statuses_join,
-    written_waivers_are_read,
+    a_text_is_one_row, an_update_is_quiet, codes_pick_their_rules, parts_are_the_whole,
+    parts_are_told_as_the_whole, plain_lines_are_written, statuses_join, written_waivers_are_read,
 };
 pub use plain::Plain;
 pub use readings::{Anew, Beyond, Reading};
@@ -49,4 +49,5 @@ pub use reasons::{told_reason, told_text};
 pub use recipient::{Lost, Recipient, Taken};
 pub use row::{Row, read_row};
 pub use telling::{Telling, tell_all};
+pub use unchecked::{put_in_one_line, tell_unchecked};
 pub use verdict::{Judge, Verdict};

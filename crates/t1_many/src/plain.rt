@@ -1,23 +1,26 @@
 //! The plain form: `NAME: LINE`.
 
 ghost use Rattle.std.specs.Prelude.{◌≡◌, option_map};
+ghost use Rattle.t1_many.specs.FontErrors.{reason_of};
 ghost use Rattle.t1_many.specs.Plain.{IsPut, PlainTakes, PutsFailure, named};
+ghost use Rattle.t1_many.specs.Unchecked.{unchecked_line};
 ghost use Rattle.t1_reason_texts.specs.Texts.{line_behind};
 ghost use Rattle.t1_report.specs.Faults.{fault_value};
 ghost use Rattle.t1_report.specs.Lines.{IsInFont, line_of};
 ghost use Rattle.t1_run.specs.Failures.{refusal_line};
 ghost use Rattle.t1_many.specs.Handing.{lost_of};
 
+use crate::font_error::{FontError, Obstacle};
 use crate::form::Form;
 use crate::reasons::told_text;
 use crate::recipient::Lost;
+use crate::unchecked::tell_unchecked;
 use t1_font::Font;
-use t1_io::{Sink, put_all, put_parts};
+use t1_io::{Sink, put_parts};
 use t1_reason_texts::ShortText;
 use t1_reasons::ReportReasons;
 use t1_refusals::{RefusalCode, refusal_text};
 use t1_report::{Fault, Waivers, write_fault};
-use t1_run::Failure;
 use t1_summary::Found;
 
 /// Lines and refusals on the output, all else on standard error, each after the font's name. Where reasons are reported, each
@@ -50,11 +53,10 @@ impl<W: Sink, E: Sink> Form for Plain<W, E> {
         put_behind(&mut self.out, text)
     }
 
-    fn failure(&mut self, name: &str, reason: Failure) -> Result<(), Lost> {
+    fn failure(&mut self, name: &str, reason: FontError) -> Result<(), Lost> {
         match reason {
-            Failure::Refused(code) => put_refusal(&mut self.out, name, code),
-            Failure::Broken => put_named(&mut self.errors, name, b"t1check: read failed\n"),
-            Failure::Memory => put_named(&mut self.errors, name, b"t1check: out of memory\n"),
+            FontError::Refused(code) => put_refusal(&mut self.out, name, code),
+            FontError::Unchecked(why) => put_unchecked(&mut self.errors, name, why),
         }
     }
 
@@ -92,12 +94,11 @@ fn put_behind<W: Sink>(sink: &mut W, text: Option<ShortText>) -> Result<(), Lost
     Ok(())
 }
 
-/// Puts a line, after the font's name.
-fn put_named<W: Sink>(sink: &mut W, name: &str, line: &[u8]) -> Result<(), Lost>
-    ensures { IsPut (W.state sink.old) (W.state sink.new) (named name.now line.now) (lost_of result) }
+/// Puts why a font isn't checked.
+fn put_unchecked<W: Sink>(sink: &mut W, name: &str, why: Obstacle) -> Result<(), Lost>
+    ensures { IsPut (W.state sink.old) (W.state sink.new) (unchecked_line name.now (reason_of why)) (lost_of result) }
 {
-    put_parts(sink, &[name.as_bytes(), b": "])?;
-    put_all(sink, line)?;
+    tell_unchecked(sink, name, why.text())?;
     Ok(())
 }
 

@@ -12,10 +12,11 @@ ghost use Rattle.t1_rules.specs.Book.{number_of};
 ghost use Rattle.t1_rules.specs.Mask.{has};
 
 use crate::beyond::hand_beyond;
+use crate::font_error::FontError;
 use crate::form::Form;
-use crate::groups::{Counts, count_groups};
+use crate::groups::{Groups, count_groups};
 use crate::handing::{hand_failure, hand_report};
-use crate::kinds::push_rows;
+use crate::kinds::{Counts, count_kinds};
 use crate::known::{Known, known_counts};
 use crate::recipient::{Lost, Recipient, Taken};
 use crate::verdict::{Judge, Verdict};
@@ -23,15 +24,14 @@ use std::alloc::{AllocError, Global};
 use t1_font::Font;
 use t1_report::{Fault, Waivers, a_font_has_one_report};
 use t1_rules::{Mask, Sidebearings};
-use t1_run::Failure;
 
 /// A font whose report was made.
 #[derive(Debug, Drop)]
 pub struct Reading {
     /// The font's name.
     pub font: String,
-    /// What was found in it, as rows of known faults, `COUNT KIND FONT` each.
-    pub rows: Vec<u8>,
+    /// How often each kind of its faults was found.
+    pub counts: Counts,
 }
 
 /// Reports the lines of fonts that go beyond known faults, in a form, and keeps what was found.
@@ -78,8 +78,8 @@ impl<K: Known + Drop, F: Form + Drop> Recipient for Beyond<K, F> {
         Ok(keep(&mut self.readings, reading, taken))
     }
 
-    fn failure(&mut self, name: &str, failure: Failure) -> Taken {
-        hand_failure(&mut self.form, name, failure)
+    fn failure(&mut self, name: &str, error: FontError) -> Taken {
+        hand_failure(&mut self.form, name, error)
     }
 }
 
@@ -115,8 +115,8 @@ impl<F: Form + Drop> Recipient for Anew<F> {
         Ok(keep(&mut self.readings, reading, taken))
     }
 
-    fn failure(&mut self, name: &str, failure: Failure) -> Taken {
-        hand_failure(&mut self.form, name, failure)
+    fn failure(&mut self, name: &str, error: FontError) -> Taken {
+        hand_failure(&mut self.form, name, error)
     }
 }
 
@@ -144,16 +144,15 @@ fn read_groups(
     name: &str,
     font: &Font<'_>,
     waivers: &Waivers<'_>,
-    found: &Counts,
+    found: &Groups,
 ) -> Result<Reading, AllocError>
     requires read { IsRead font.now waivers.now }
     ensures { IfOk result (λ reading. (faults : List FaultValue) → AllByRecursion (IsInFont font.now waivers.now) faults
         → found.now.entries ≡ groups_of font.now faults → IsReading name.now font.now waivers.now faults reading) }
 {
-    let mut rows = Vec::new(alloc);
-    push_rows(alloc, &mut rows, name, font, waivers, found)?;
+    let counts = count_kinds(alloc, font, waivers, found)?;
     let font = String::from_str(alloc, name)?;
-    Ok(Reading { font, rows })
+    Ok(Reading { font, counts })
 }
 
 /// Keeps what was found in a font after what was found in others, unless the run stops there.

@@ -6,12 +6,12 @@ ghost use Rattle.t1_many.specs.declared.recipient.Lost.TheVariants.{Device};
 ghost use Rattle.t1_report.specs.Checked.{checked};
 ghost use Rattle.t1_rules.specs.Components.{AreOf};
 
+use crate::font_error::FontError;
 use std::alloc::{AllocError, Global};
 use t1_font::Font;
 use t1_io::Broken;
 use t1_report::Waivers;
 use t1_rules::Sidebearings;
-use t1_run::Failure;
 use t1_summary::Found;
 
 /// Why a run over many fonts stops.
@@ -56,6 +56,6 @@ pub trait Recipient {
         ensures { TakesReport takes name.now (checked font.now sidebearings.now.edition) waivers.now self.old self.new result };
 
     /// Takes why there is none.
-    fn failure(&mut self, name: &str, failure: Failure) -> Taken
-        ensures { takes self.old self.new (record { name = name.now; outcome = failed failure }) result };
+    fn failure(&mut self, name: &str, error: FontError) -> Taken
+        ensures { takes self.old self.new (record { name = name.now; outcome = failed error }) result };
 }

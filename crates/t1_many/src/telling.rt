@@ -7,6 +7,7 @@ ghost use Rattle.t1_many.specs.Told.{TellsAll};
 ghost use Rattle.t1_many.specs.Verdicts.{of_rules};
 
 use crate::checking::check_all;
+use crate::font_error::FontError;
 use crate::font_files::{FontFiles, WaiverFiles};
 use crate::form::Form;
 use crate::handing::{hand_failure, hand_report};
@@ -16,7 +17,7 @@ use t1_char::Edition;
 use t1_font::Font;
 use t1_report::Waivers;
 use t1_rules::{Mask, Sidebearings};
-use t1_run::{Failure, Status};
+use t1_run::Status;
 
 /// Reports the lines of these rules, in a form.
 #[derive(Drop)]
@@ -48,8 +49,8 @@ impl<F: Form> Recipient for Telling<F> {
         ))
     }
 
-    fn failure(&mut self, name: &str, failure: Failure) -> Taken {
-        hand_failure(&mut self.form, name, failure)
+    fn failure(&mut self, name: &str, error: FontError) -> Taken {
+        hand_failure(&mut self.form, name, error)
     }
 }
 

@@ -4,7 +4,7 @@ use Rattle.std.proofs.KnownBytes.{Appends-nil, Appends-trans}
 use Rattle.std.specs.Io.KnownBytes.{Appends}
 use Rattle.t1_forms.specs.Sarif.{SarifState, closing, sarif_state, telling_text}
 use Rattle.t1_forms.specs.SarifDocuments.{after_one, tellings_text}
-use Rattle.t1_forms.specs.Tellings.{ToldValue, what_spelled, unchecked_line}
+use Rattle.t1_forms.specs.Tellings.{ToldValue, what_spelled}
 use Rattle.t1_forms.specs.declared.sarif.Sarif.{Sarif}
 use Rattle.t1_io.specs.Devices.{AppendsFront}
 use Rattle.t1_many.specs.Handing.{Handed, HandsOn, done, failure, line}
@@ -13,9 +13,11 @@ use Rattle.t1_many.specs.declared.recipient.Lost.{Lost}
 use Rattle.t1_many.specs.declared.recipient.Lost.TheVariants.{Device, Memory}
 use Rattle.t1_many_forms.proofs.JsonTexts.{cause, front-all, front-first, front-none, front-second, kept, none-same}
 use Rattle.t1_many_forms.specs.Documents.{IsDocumentOf, all_values, failure_value, telling_written, values_of}
-use Rattle.t1_many_forms.specs.Formatting.{FormattedTakes, Formatting, Gives, GivesFailure, GivesUnchecked, given, no_memory, read_failed, out_of_memory, told, told_unchecked, untold}
-use Rattle.t1_run.specs.declared.failure.Failure.{Failure}
-use Rattle.t1_run.specs.declared.failure.Failure.TheVariants as failures
+use Rattle.t1_many_forms.specs.Formatting.{FormattedTakes, Formatting, Gives, GivesFailure, GivesUnchecked, given, no_memory, told, told_unchecked, untold}
+use Rattle.t1_many.specs.FontErrors.{reason_of}
+use Rattle.t1_many.specs.Unchecked.{unchecked_line}
+use Rattle.t1_many.specs.declared.font_error.FontError.{FontError}
+use Rattle.t1_many.specs.declared.font_error.FontError.TheVariants.{Refused, Unchecked}
 
 -- ---- a part of a document
 
@@ -92,12 +94,11 @@ unchecked-one old new name reason lost (untold broke formatter same why) =
       inr (inr broke.failed),
     )
 
-failure-one : (old new : Formatting Sarif) (name : List ℕ) (reason : Failure) (lost : Option Lost)
+failure-one : (old new : Formatting Sarif) (name : List ℕ) (reason : FontError) (lost : Option Lost)
     → GivesFailure telling_written old new name reason lost
     → IsOne old new (failure_value name reason ∷ []) (told_of (failure name reason)) lost
-failure-one old new name (failures.Refused code) lost (gives, same) = given-one old new _ [] lost gives (none-same old.errors new.errors same)
-failure-one old new name failures.Broken lost gives = unchecked-one old new name read_failed lost gives
-failure-one old new name failures.Memory lost gives = unchecked-one old new name out_of_memory lost gives
+failure-one old new name (Refused code) lost (gives, same) = given-one old new _ [] lost gives (none-same old.errors new.errors same)
+failure-one old new name (Unchecked why) lost gives = unchecked-one old new name (reason_of why) lost gives
 
 no_part : (state : SarifState) → [] ≡ part_text state []
 unfolding part_text

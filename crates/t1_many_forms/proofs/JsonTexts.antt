@@ -4,18 +4,20 @@ use Rattle.std.proofs.KnownBytes.{Appends-kept, Appends-nil, Appends-trans}
 use Rattle.std.proofs.lemmas.Option.{none-some}
 use Rattle.std.specs.Io.KnownBytes.{Appends, Keeps}
 use Rattle.t1_forms.specs.Objects.{object_line}
-use Rattle.t1_forms.specs.Tellings.{ToldValue, unchecked_line}
+use Rattle.t1_forms.specs.Tellings.{ToldValue}
 use Rattle.t1_io.specs.Devices.{AppendsFront, SinkState}
 use Rattle.t1_many.specs.Handing.{Handed, HandsOn, done, failure, line}
 use Rattle.t1_many.specs.Plain.{IsLinePut, tellings, told_of}
 use Rattle.t1_many.specs.declared.recipient.Lost.{Lost}
 use Rattle.t1_many.specs.declared.recipient.Lost.TheVariants.{Device, Memory}
-use Rattle.t1_many_forms.specs.Formatting.{FormattedTakes, Formatting, Gives, GivesFailure, GivesUnchecked, given, no_memory, read_failed, out_of_memory, told, told_unchecked, untold}
+use Rattle.t1_many_forms.specs.Formatting.{FormattedTakes, Formatting, Gives, GivesFailure, GivesUnchecked, given, no_memory, told, told_unchecked, untold}
 use Rattle.t1_many_forms.specs.JsonLines.{AreObjects, object_text, object_written, objects}
 use Rattle.t1_many_forms.specs.declared.json_lines.JsonLines.{JsonLines}
 use Rattle.t1_summary.specs.declared.found.Found.{Found}
-use Rattle.t1_run.specs.declared.failure.Failure.{Failure}
-use Rattle.t1_run.specs.declared.failure.Failure.TheVariants as failures
+use Rattle.t1_many.specs.FontErrors.{reason_of}
+use Rattle.t1_many.specs.Unchecked.{unchecked_line}
+use Rattle.t1_many.specs.declared.font_error.FontError.{FontError}
+use Rattle.t1_many.specs.declared.font_error.FontError.TheVariants.{Refused, Unchecked}
 
 -- ---- prefixes
 
@@ -99,12 +101,11 @@ module _ (reasons : Bool) where
         inr (inr broke.failed),
       )
 
-  failure-one : (old new : Formatting JsonLines) (name : List ℕ) (reason : Failure) (lost : Option Lost)
+  failure-one : (old new : Formatting JsonLines) (name : List ℕ) (reason : FontError) (lost : Option Lost)
       → GivesFailure object_written old new name reason lost → IsOne old new (failure name reason) lost
-  failure-one old new name (failures.Refused code) lost (gives, same) =
-      one-of old new (failure name (failures.Refused code)) _ [] lost (out-given old new _ lost gives) (none-same old.errors new.errors same) refl refl
-  failure-one old new name failures.Broken lost gives = unchecked-one old new (failure name failures.Broken) name read_failed lost gives refl refl
-  failure-one old new name failures.Memory lost gives = unchecked-one old new (failure name failures.Memory) name out_of_memory lost gives refl refl
+  failure-one old new name (Refused code) lost (gives, same) =
+      one-of old new (failure name (Refused code)) _ [] lost (out-given old new _ lost gives) (none-same old.errors new.errors same) refl refl
+  failure-one old new name (Unchecked why) lost gives = unchecked-one old new (failure name (Unchecked why)) name (reason_of why) lost gives refl refl
 
   one : (old new : Formatting JsonLines) (handed : Handed) (lost : Option Lost) → FormattedTakes reasons object_written old new handed lost
       → IsOne old new handed lost

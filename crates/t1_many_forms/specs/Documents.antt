@@ -11,9 +11,10 @@ use Rattle.t1_many.specs.Handing.{Handed, done, failure, line}
 use Rattle.t1_many.specs.Plain.{IsLinePut, tellings}
 use Rattle.t1_many.specs.declared.recipient.Lost.{Lost}
 use Rattle.t1_many.specs.declared.recipient.Lost.TheVariants.{Memory}
-use Rattle.t1_many_forms.specs.Formatting.{Formatting, out_of_memory, read_failed, told_fault, told_refusal, told_unchecked}
-use Rattle.t1_run.specs.declared.failure.Failure.{Failure}
-use Rattle.t1_run.specs.declared.failure.Failure.TheVariants as failures
+use Rattle.t1_many_forms.specs.Formatting.{Formatting, told_fault, told_refusal, told_unchecked}
+use Rattle.t1_many.specs.FontErrors.{reason_of}
+use Rattle.t1_many.specs.declared.font_error.FontError.{FontError}
+use Rattle.t1_many.specs.declared.font_error.FontError.TheVariants.{Refused, Unchecked}
 
 -- What is kept, unless it stopped.
 abbrev pub IsKept : SarifState → SarifState → Option Lost → Type 0
@@ -31,10 +32,9 @@ abbrev pub end_written : Sarif → SinkState → SinkState → Option Lost → T
 end_written document old new lost = IsLinePut old new (closing (sarif_state document)) lost
 
 -- What is reported of a thing that is handed on; how a font was found is reported of none.
-abbrev pub failure_value : List ℕ → Failure → ToldValue
-failure_value name (failures.Refused code) = told_refusal name code
-failure_value name failures.Broken = told_unchecked name read_failed
-failure_value name failures.Memory = told_unchecked name out_of_memory
+abbrev pub failure_value : List ℕ → FontError → ToldValue
+failure_value name (Refused code) = told_refusal name code
+failure_value name (Unchecked why) = told_unchecked name (reason_of why)
 
 abbrev pub values_of : Bool → Handed → List ToldValue
 values_of reasons (line name font waivers fault) = told_fault reasons name font waivers fault ∷ []

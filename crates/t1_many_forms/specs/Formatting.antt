@@ -1,6 +1,6 @@
 -- What is given to a formatter of things that are handed on, and what is printed on standard error.
 use Rattle.std.specs.Prelude.{◌≡◌, ℕ, Bool, List, codes, Option, None, Some}
-use Rattle.t1_forms.specs.Tellings.{ToldValue, of_line, of_unchecked, unchecked_line, what_spelled, what_value}
+use Rattle.t1_forms.specs.Tellings.{ToldValue, of_line, of_unchecked, what_spelled, what_value}
 use Rattle.t1_forms.specs.declared.told.Told.{Told}
 use Rattle.t1_io.specs.Devices.{PutFailed, SinkState, Wrote}
 use Rattle.t1_lines.specs.Lines.{line_in, of_fault, of_refusal}
@@ -14,8 +14,10 @@ use Rattle.t1_reason_forms.specs.Told.{reason_told}
 use Rattle.t1_report.specs.Checked.{CheckedFont}
 use Rattle.t1_report.specs.Faults.{FaultValue}
 use Rattle.t1_report.specs.Waivers.{Waiver}
-use Rattle.t1_run.specs.declared.failure.Failure.{Failure}
-use Rattle.t1_run.specs.declared.failure.Failure.TheVariants as failures
+use Rattle.t1_many.specs.FontErrors.{reason_of}
+use Rattle.t1_many.specs.Unchecked.{unchecked_line}
+use Rattle.t1_many.specs.declared.font_error.FontError.{FontError}
+use Rattle.t1_many.specs.declared.font_error.FontError.TheVariants.{Refused, Unchecked}
 
 -- Beside what is reported is its line, as it is spelled.
 abbrev pub HasItsLine : Told → Type 0
@@ -34,13 +36,6 @@ told_refusal name code = record { font = Some name; what = of_line (of_refusal c
 
 abbrev pub told_unchecked : List ℕ → List ℕ → ToldValue
 told_unchecked name reason = record { font = Some name; what = of_unchecked reason; reason = None }
-
--- Why a font wasn't checked.
-abbrev pub read_failed : List ℕ
-read_failed = codes "read failed"
-
-abbrev pub out_of_memory : List ℕ
-out_of_memory = codes "out of memory"
 
 -- ---- what is given
 
@@ -68,11 +63,10 @@ pub data GivesUnchecked {T : Type 0} (writes : T → T → SinkState → SinkSta
 
 -- Why there is no report was given.
 abbrev pub GivesFailure : {T : Type 0} → (T → T → SinkState → SinkState → ToldValue → Option Lost → Type 0) → Formatting T → Formatting T
-    → List ℕ → Failure → Option Lost → Type 0
-GivesFailure writes old new name (failures.Refused code) lost =
+    → List ℕ → FontError → Option Lost → Type 0
+GivesFailure writes old new name (Refused code) lost =
     Gives writes old new (told_refusal name code) lost × (new.errors ≡ old.errors)
-GivesFailure writes old new name failures.Broken lost = GivesUnchecked writes old new name read_failed lost
-GivesFailure writes old new name failures.Memory lost = GivesUnchecked writes old new name out_of_memory lost
+GivesFailure writes old new name (Unchecked why) lost = GivesUnchecked writes old new name (reason_of why) lost
 
 -- One thing that is handed on. The output is flushed after each font.
 abbrev pub FormattedTakes : {T : Type 0} → Bool → (T → T → SinkState → SinkState → ToldValue → Option Lost → Type 0) → Formatting T

@@ -9,19 +9,19 @@ use Rattle.t1_many.specs.Handing.{Handed, done, failure, line}
 use Rattle.t1_many.specs.Plain.{IsLinePut, tellings}
 use Rattle.t1_many.specs.declared.recipient.Lost.{Lost}
 use Rattle.t1_many.specs.declared.recipient.Lost.TheVariants.{Memory}
-use Rattle.t1_many_forms.specs.Formatting.{Formatting, out_of_memory, read_failed, told_fault, told_refusal, told_unchecked}
-use Rattle.t1_run.specs.declared.failure.Failure.{Failure}
-use Rattle.t1_run.specs.declared.failure.Failure.TheVariants as failures
+use Rattle.t1_many_forms.specs.Formatting.{Formatting, told_fault, told_refusal, told_unchecked}
+use Rattle.t1_many.specs.FontErrors.{reason_of}
+use Rattle.t1_many.specs.declared.font_error.FontError.{FontError}
+use Rattle.t1_many.specs.declared.font_error.FontError.TheVariants.{Refused, Unchecked}
 
 -- The object of what is reported was put.
 abbrev pub object_written : {T : Type 0} → T → T → SinkState → SinkState → ToldValue → Option Lost → Type 0
 object_written formatter after old new told lost = IsLinePut old new (object_line told) lost
 
 -- The object of why there is no report.
-abbrev pub failure_object : List ℕ → Failure → List ℕ
-failure_object name (failures.Refused code) = object_line (told_refusal name code)
-failure_object name failures.Broken = object_line (told_unchecked name read_failed)
-failure_object name failures.Memory = object_line (told_unchecked name out_of_memory)
+abbrev pub failure_object : List ℕ → FontError → List ℕ
+failure_object name (Refused code) = object_line (told_refusal name code)
+failure_object name (Unchecked why) = object_line (told_unchecked name (reason_of why))
 
 -- The object of a thing that is handed on; how a font was found has none.
 abbrev pub object_text : Bool → Handed → List ℕ

@@ -2,7 +2,7 @@
 
 ghost use Rattle.std.specs.Prelude.{◌≡◌, Option};
 ghost use Rattle.t1_many.specs.Handing.{Handed, failure, lost_of};
-ghost use Rattle.t1_run.specs.declared.failure.Failure.TheVariants.{Refused};
+ghost use Rattle.t1_many.specs.declared.font_error.FontError.TheVariants.{Refused};
 ghost use Rattle.t1_many_forms.specs.Formatting.{FormattedTakes, GivesUnchecked};
 
 use crate::faults::fault_line;
@@ -11,15 +11,14 @@ use crate::line_text::LineText;
 use crate::telling::give;
 use std::alloc::Global;
 use t1_font::Font;
-use t1_forms::{What, tell_unchecked};
+use t1_forms::What;
 use t1_io::Sink;
 use t1_lines::Line;
-use t1_many::{Form, Lost, told_reason};
+use t1_many::{FontError, Form, Lost, tell_unchecked, told_reason};
 use t1_reason_forms::{OwnReason, as_told};
 use t1_reasons::ReportReasons;
 use t1_refusals::RefusalCode;
 use t1_report::{Fault, Waivers};
-use t1_run::Failure;
 use t1_summary::Found;
 
 /// Lines, refusals and fonts that weren't checked are given to a formatter, which writes them on the output. A font that wasn't checked is
@@ -138,11 +137,10 @@ impl<T: Formatter, W: Sink, E: Sink> Form for Formatted<T, W, E> {
         )
     }
 
-    fn failure(&mut self, name: &str, reason: Failure) -> Result<(), Lost> {
+    fn failure(&mut self, name: &str, reason: FontError) -> Result<(), Lost> {
         match reason {
-            Failure::Refused(code) => self.refused(name, code),
-            Failure::Broken => self.unchecked(name, "read failed"),
-            Failure::Memory => self.unchecked(name, "out of memory"),
+            FontError::Refused(code) => self.refused(name, code),
+            FontError::Unchecked(why) => self.unchecked(name, why.text()),
         }
     }
 

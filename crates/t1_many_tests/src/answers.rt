@@ -208,12 +208,12 @@ const WRONG: &[(&[&str], &[u8])] = &[
             "--files-from",
             "nowhere",
         ],
-        b"t1check-all: known: no row of known faults: nonsense\n",
+        b"t1check-all: known: line 2: no row of known faults: nonsense\n",
     ),
     (
         &["t1check-all", "--files-from", "nowhere", "a.pfb"],
         b"\
-t1check-all: nowhere can't be read: no such file is found
+t1check-all: nowhere can't be read: no such file or folder
 t1check-all: 't1check-all --help' says how it is used
 ",
     ),
@@ -293,7 +293,9 @@ fn reports_what_can_not_be_replaced(rt: HostRuntime) -> Result<(), Fail> {
     let status = replace_files(rt.alloc(), &left, &mut files, &mut Out::new(&mut told));
     assert_eq!(rt; status, Status::Failed);
     assert!(rt; files.replaced.as_slice() == b"a.pfb.waivers=A H02\n".as_slice());
-    assert!(rt; told.as_slice() == b"t1check-all: known can't be written\n".as_slice());
+    assert!(rt;
+        told.as_slice() == b"t1check-all: known can't be written: permission is denied\n".as_slice()
+    );
     Ok(())
 }
 

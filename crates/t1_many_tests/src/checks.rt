@@ -91,8 +91,8 @@ misspelled.pfb: refused: E14 waivers malformed
 ";
     assert!(rt; answer.text.as_slice() == lines.as_slice());
     let unread = b"\
-absent.pfb: t1check: read failed
-locked.pfb: t1check: read failed
+absent.pfb: t1check: read failed: no such file or folder
+locked.pfb: t1check: read of waivers failed: permission is denied
 ";
     assert!(rt; answer.told.as_slice() == unread.as_slice());
     Ok(())

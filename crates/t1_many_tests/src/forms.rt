@@ -53,7 +53,7 @@ fn tell_in<'a, F: Formatter + Drop, W: Sink + Drop, E: Sink + Drop>(
 }
 
 /// What is printed on standard error, whatever the form is.
-const TOLD: &[u8] = b"absent.pfb: t1check: read failed\n";
+const TOLD: &[u8] = b"absent.pfb: t1check: read failed: no such file or folder\n";
 
 /// Step 4 of the glyph is a closepath without a path, the fourth line of the report.
 #[test]
@@ -73,7 +73,7 @@ fn writes_lines_of_json(rt: HostRuntime) -> Result<(), Fail> {
     let lines = b"\
 {\"code\":\"P03\",\"file\":\"faulty.pfb\",\"level\":\"tidy\",\"name\":\"A\",\"number\":4,\"path\":[],\"step\":4,\"text\":\"closepath without a path\",\"unit\":\"glyph\"}
 {\"code\":\"E04\",\"file\":\"cut.pfa\",\"level\":\"must\",\"text\":\"no eexec\",\"unit\":\"refused\"}
-{\"file\":\"absent.pfb\",\"text\":\"read failed\",\"unit\":\"unchecked\"}
+{\"file\":\"absent.pfb\",\"text\":\"read failed: no such file or folder\",\"unit\":\"unchecked\"}
 ";
     assert!(rt; text.as_slice() == lines.as_slice());
     assert!(rt; told.as_slice() == TOLD);
@@ -100,7 +100,7 @@ fn writes_reasons(rt: HostRuntime) -> Result<(), Fail> {
 {\"code\":\"C05\",\"file\":\"faulty.pfb\",\"level\":\"must\",\"name\":\"A\",\"number\":1,\"path\":[],\"reason\":{\"command\":\"hmoveto\",\"taken\":1,\"text\":\"hmoveto takes 1 number, 2 are on the stack\",\"there\":2},\"step\":3,\"text\":\"too many arguments\",\"unit\":\"glyph\"}
 {\"code\":\"P03\",\"file\":\"faulty.pfb\",\"level\":\"tidy\",\"name\":\"A\",\"number\":4,\"path\":[],\"reason\":{\"text\":\"nothing is drawn so far\"},\"step\":4,\"text\":\"closepath without a path\",\"unit\":\"glyph\"}
 {\"code\":\"E04\",\"file\":\"cut.pfa\",\"level\":\"must\",\"text\":\"no eexec\",\"unit\":\"refused\"}
-{\"file\":\"absent.pfb\",\"text\":\"read failed\",\"unit\":\"unchecked\"}
+{\"file\":\"absent.pfb\",\"text\":\"read failed: no such file or folder\",\"unit\":\"unchecked\"}
 ";
     assert!(rt; text.as_slice() == lines.as_slice());
     text.clear();
@@ -117,7 +117,7 @@ fn writes_reasons(rt: HostRuntime) -> Result<(), Fail> {
     let lines = b"\
 ::notice file=faulty.pfb,line=1,title=P03 closepath without a path::4: glyph A - 4 P03 closepath without a path: nothing is drawn so far
 ::error file=cut.pfa,line=1,title=E04 no eexec::refused: E04 no eexec
-::error file=absent.pfb,line=1,title=not checked::t1check: read failed
+::error file=absent.pfb,line=1,title=not checked::t1check: read failed: no such file or folder
 ";
     assert!(rt; text.as_slice() == lines.as_slice());
     Ok(())
@@ -140,7 +140,7 @@ fn writes_commands(rt: HostRuntime) -> Result<(), Fail> {
     let lines = b"\
 ::notice file=faulty.pfb,line=1,title=P03 closepath without a path::4: glyph A - 4 P03 closepath without a path
 ::error file=cut.pfa,line=1,title=E04 no eexec::refused: E04 no eexec
-::error file=absent.pfb,line=1,title=not checked::t1check: read failed
+::error file=absent.pfb,line=1,title=not checked::t1check: read failed: no such file or folder
 ";
     assert!(rt; text.as_slice() == lines.as_slice());
     assert!(rt; told.as_slice() == TOLD);
@@ -178,7 +178,7 @@ fn writes_a_document(rt: HostRuntime) -> Result<(), Fail> {
 \"partialFingerprints\":{\"t1check/v1\":\"cut.pfa refused E04 1\"},\"ruleId\":\"E04\",\"ruleIndex\":73}\
 ],\"invocations\":[{\"executionSuccessful\":false,\"toolExecutionNotifications\":[{\"level\":\"error\",\
 \"locations\":[{\"physicalLocation\":{\"artifactLocation\":{\"uri\":\"absent.pfb\"},\"region\":{\"startLine\":1}}}],\
-\"message\":{\"text\":\"t1check: read failed\"}}]}]}]}\n";
+\"message\":{\"text\":\"t1check: read failed: no such file or folder\"}}]}]}]}\n";
     assert!(rt; text.as_slice().ends_with(end.as_slice()));
     assert!(rt; told.as_slice() == TOLD);
     Ok(())

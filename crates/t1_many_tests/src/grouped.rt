@@ -207,7 +207,9 @@ cut.pfa: \x1b[31mrefused: E04 no eexec\x1b[0m
 keys.pfb: \x1b[33mZ05 zones too near\x1b[0m \xc3\x97 2: BlueValues
 ";
     assert!(rt; text.as_slice() == lines.as_slice());
-    assert!(rt; told.as_slice() == b"absent.pfb: t1check: read failed\n".as_slice());
+    assert!(rt;
+        told.as_slice() == b"absent.pfb: t1check: read failed: no such file or folder\n".as_slice()
+    );
     Ok(())
 }
 
@@ -231,10 +233,12 @@ fn writes_commands(rt: HostRuntime) -> Result<(), Fail> {
 ::warning file=a%2Cb%3A 50%25%0A.pfb,line=1,title=P02 path not closed::P02 path not closed \xc3\x97 2: A, B
 ::notice file=a%2Cb%3A 50%25%0A.pfb,line=1,title=P03 closepath without a path::P03 closepath without a path \xc3\x97 4: A, B
 ::error file=cut.pfa,line=1,title=E04 no eexec::refused: E04 no eexec
-::error file=absent.pfb,line=1,title=not checked::t1check: read failed
+::error file=absent.pfb,line=1,title=not checked::t1check: read failed: no such file or folder
 ";
     assert!(rt; text.as_slice() == lines.as_slice());
-    assert!(rt; told.as_slice() == b"absent.pfb: t1check: read failed\n".as_slice());
+    assert!(rt;
+        told.as_slice() == b"absent.pfb: t1check: read failed: no such file or folder\n".as_slice()
+    );
     Ok(())
 }
 

@@ -51,50 +51,59 @@ fn files_without_rows_are_read(rt: HostRuntime) {
     }
 }
 
-/// Texts, and the first line of each that is no row.
-const NO_ROWS: &[(&[u8], &[u8])] = &[
-    (b"\n", b""),
-    (b"1 H02 glyph A a.pfb\n\n", b""),
+/// Texts, and the first line of each that is no row, with its number.
+const NO_ROWS: &[(&[u8], usize, &[u8])] = &[
+    (b"\n", 1, b""),
+    (b"1 H02 glyph A a.pfb\n\n", 2, b""),
     (
         b"1 H02 glyph A a.pfb\n H02 glyph A a.pfb\nx\n",
+        2,
         b" H02 glyph A a.pfb",
     ),
-    (b"1 H02 glyph A", b"1 H02 glyph A"),
+    (b"1 H02 glyph A", 1, b"1 H02 glyph A"),
     (
         b"1 H02 glyph A a.pfb\n1 H02 glyph\n1 H02 glyph A a.pfb",
+        2,
         b"1 H02 glyph",
     ),
-    (b" # a\n", b" # a"),
-    (b"+1 H02 glyph A a.pfb", b"+1 H02 glyph A a.pfb"),
+    (b" # a\n", 1, b" # a"),
+    (b"# a\n#\n1 H02 glyph A a.pfb\n# b\nx", 5, b"x"),
+    (b"+1 H02 glyph A a.pfb", 1, b"+1 H02 glyph A a.pfb"),
 ];
 
 #[test]
 fn the_first_line_that_is_no_row_is_named(rt: HostRuntime) {
-    for (text, line) in NO_ROWS {
+    for (text, number, line) in NO_ROWS {
         match KnownFaults::read(rt.alloc(), text) {
-            Err(NotKnown::NoRow(found)) => assert!(rt; found == *line, "{text:?}"),
+            Err(NotKnown::NoRow(found)) => {
+                assert!(rt; found.number == *number && found.text == *line, "{text:?}");
+            }
             _ => panic!(rt; "{text:?}"),
         }
     }
 }
 
-/// Texts, and the first line of each whose key is in an earlier one.
-const TWICE: &[(&[u8], &[u8])] = &[
+/// Texts, and the first line of each whose key is in an earlier one, with its number.
+const TWICE: &[(&[u8], usize, &[u8])] = &[
     (
         b"1 H02 glyph A a.pfb\n1 H02 glyph B a.pfb\n2 H02 glyph A a.pfb\nx",
+        3,
         b"2 H02 glyph A a.pfb",
     ),
     (
-        b"1 H02 glyph A a b\n1 H02 glyph A a.b\n01 H02 glyph A a b",
+        b"# a\n1 H02 glyph A a b\n1 H02 glyph A a.b\n01 H02 glyph A a b",
+        4,
         b"01 H02 glyph A a b",
     ),
 ];
 
 #[test]
 fn the_first_key_that_is_there_twice_is_named(rt: HostRuntime) {
-    for (text, line) in TWICE {
+    for (text, number, line) in TWICE {
         match KnownFaults::read(rt.alloc(), text) {
-            Err(NotKnown::Twice(found)) => assert!(rt; found == *line, "{text:?}"),
+            Err(NotKnown::Twice(found)) => {
+                assert!(rt; found.number == *number && found.text == *line, "{text:?}");
+            }
             _ => panic!(rt; "{text:?}"),
         }
     }

@@ -1,10 +1,31 @@
 //! What is written of known faults and of readings.
 
+use indexmap::IndexMap;
+use std::alloc::{AllocError, Global};
 use std::process::Abort;
 use std::test::Fail;
 use t1_io::{Fuse, Limit, Out};
-use t1_known::{KnownFaults, Reading, write_mismatches, write_updated};
-use t1_many::Lost;
+use t1_known::{KnownFaults, write_mismatches, write_updated};
+use t1_many::{Lost, Reading};
+
+/// A font, and how often each kind was found in it.
+type FoundIn = (&'static str, &'static [(u64, &'static [u8])]);
+
+/// What was found in these fonts.
+fn readings_of(alloc: Global, fonts: &[FoundIn]) -> Result<Vec<Reading>, AllocError> {
+    let mut readings = Vec::new(alloc);
+    for (font, kinds) in fonts {
+        let mut counts = IndexMap::new(alloc);
+        for (count, kind) in *kinds {
+            let mut text = Vec::new(alloc);
+            text.extend_from_slice(kind)?;
+            counts.insert(text, *count)?;
+        }
+        let font = String::from_str(alloc, font)?;
+        readings.push(Reading { font, counts })?;
+    }
+    Ok(readings)
+}
 
 /// Of `gone.pfb` no report was made.
 const FILE: &[u8] = b"\
@@ -19,19 +40,18 @@ const FILE: &[u8] = b"\
 ";
 
 /// What was found. Nothing was found in `b.pfb`, and `new.pfb` has no row.
-const READINGS: &[Reading<'static>] = &[
-    Reading {
-        font: "a.pfb",
-        rows: b"2 H02 glyph A a.pfb\n9 H02 glyph B a.pfb\n1 P03 glyph A a.pfb\n1 H01 glyph C a.pfb\n",
-    },
-    Reading {
-        font: "new.pfb",
-        rows: b"1 H02 glyph A new.pfb\n",
-    },
-    Reading {
-        font: "b.pfb",
-        rows: b"",
-    },
+const READINGS: &[FoundIn] = &[
+    (
+        "a.pfb",
+        &[
+            (2, b"H02 glyph A"),
+            (9, b"H02 glyph B"),
+            (1, b"P03 glyph A"),
+            (1, b"H01 glyph C"),
+        ],
+    ),
+    ("new.pfb", &[(1, b"H02 glyph A")]),
+    ("b.pfb", &[]),
 ];
 
 /// What is written anew where all rules are reported.
@@ -62,11 +82,14 @@ fn anew(rt: &HostRuntime, text: &mut Vec<u8>, only: &[&[u8]], except: &[&[u8]]) 
     let Ok(known) = KnownFaults::read(rt.alloc(), FILE) else {
         return false;
     };
+    let Ok(readings) = readings_of(rt.alloc(), READINGS) else {
+        return false;
+    };
     write_updated(
         rt.alloc(),
         &mut Out::new(text),
         &known,
-        READINGS,
+        readings.as_slice(),
         only,
         except,
     )
@@ -92,24 +115,28 @@ fn a_sink_that_fails_ends_the_writing(rt: HostRuntime) {
     let Ok(known) = KnownFaults::read(rt.alloc(), FILE) else {
         panic!(rt; "the file isn't read");
     };
+    let Ok(readings) = readings_of(rt.alloc(), READINGS) else {
+        panic!(rt; "memory ran out");
+    };
     let mut text = Vec::new(rt.alloc());
     let mut sink = Fuse::sink(Out::new(&mut text), Limit::Bytes(100));
-    let written = write_updated(rt.alloc(), &mut sink, &known, READINGS, &[], &[]);
+    let written = write_updated(rt.alloc(), &mut sink, &known, readings.as_slice(), &[], &[]);
     drop(sink);
     assert!(rt; written == Err(Lost::Device));
     assert!(rt; text.as_slice() == &ALL_ANEW[..100]);
 }
 
 /// Fewer are found than known.
-const FEW_READINGS: &[Reading<'static>] = &[
-    Reading {
-        font: "a.pfb",
-        rows: b"2 H02 glyph A a.pfb\n9 H02 glyph B a.pfb\n1 P03 glyph A a.pfb\n",
-    },
-    Reading {
-        font: "b.pfb",
-        rows: b"",
-    },
+const FEW_READINGS: &[FoundIn] = &[
+    (
+        "a.pfb",
+        &[
+            (2, b"H02 glyph A"),
+            (9, b"H02 glyph B"),
+            (1, b"P03 glyph A"),
+        ],
+    ),
+    ("b.pfb", &[]),
 ];
 
 /// What is reported of few. 9 is less than 10 as a number, and not as a text.
@@ -126,19 +153,19 @@ const FEW_BUT_H: &[u8] =
     b"a.pfb: known faults: Z04 font BlueValues: 99999999999999999999999 known, 0 found\n";
 
 /// More are found than known, but as many of H02 in B, of H99 and in `b.pfb`. H01 has no row, and so `new.pfb` has none.
-const MORE_READINGS: &[Reading<'static>] = &[
-    Reading {
-        font: "a.pfb",
-        rows: b"4 H02 glyph A a.pfb\n10 H02 glyph B a.pfb\n11 P03 glyph A a.pfb\n1 H01 glyph C a.pfb\n1 H99 glyph A a.pfb\n",
-    },
-    Reading {
-        font: "new.pfb",
-        rows: b"1 H02 glyph A new.pfb\n",
-    },
-    Reading {
-        font: "b.pfb",
-        rows: b"1 H02 glyph A b.pfb\n",
-    },
+const MORE_READINGS: &[FoundIn] = &[
+    (
+        "a.pfb",
+        &[
+            (4, b"H02 glyph A"),
+            (10, b"H02 glyph B"),
+            (11, b"P03 glyph A"),
+            (1, b"H01 glyph C"),
+            (1, b"H99 glyph A"),
+        ],
+    ),
+    ("new.pfb", &[(1, b"H02 glyph A")]),
+    ("b.pfb", &[(1, b"H02 glyph A")]),
 ];
 
 /// What is reported of more. No number of 64 bits is as great as that of Z04.
@@ -155,8 +182,11 @@ a.pfb: known faults: Z04 font BlueValues: 99999999999999999999999 known, 0 found
 ";
 
 /// Whether these lines are written of readings where no rule of these words is reported.
-fn are_written(rt: &HostRuntime, readings: &[Reading<'_>], except: &[&[u8]], lines: &[u8]) -> bool {
+fn are_written(rt: &HostRuntime, fonts: &[FoundIn], except: &[&[u8]], lines: &[u8]) -> bool {
     let Ok(known) = KnownFaults::read(rt.alloc(), FILE) else {
+        return false;
+    };
+    let Ok(readings) = readings_of(rt.alloc(), fonts) else {
         return false;
     };
     let mut text = Vec::new(rt.alloc());
@@ -164,7 +194,7 @@ fn are_written(rt: &HostRuntime, readings: &[Reading<'_>], except: &[&[u8]], lin
         rt.alloc(),
         &mut Out::new(&mut text),
         &known,
-        readings,
+        readings.as_slice(),
         &[],
         except,
     );
@@ -174,11 +204,11 @@ fn are_written(rt: &HostRuntime, readings: &[Reading<'_>], except: &[&[u8]], lin
 /// Each row of whose kind fewer or more were found is reported. A kind without a row isn't.
 #[test]
 fn what_differs_from_rows_is_reported(rt: HostRuntime) {
-    for (readings, all, but_h) in [
+    for (fonts, all, but_h) in [
         (FEW_READINGS, FEW, FEW_BUT_H),
         (MORE_READINGS, MORE, MORE_BUT_H),
     ] {
-        assert!(rt; are_written(&rt, readings, &[], all));
-        assert!(rt; are_written(&rt, readings, &[b"H"], but_h));
+        assert!(rt; are_written(&rt, fonts, &[], all));
+        assert!(rt; are_written(&rt, fonts, &[b"H"], but_h));
     }
 }

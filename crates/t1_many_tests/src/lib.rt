@@ -19,8 +19,6 @@ mod forms;
 #[cfg(test)]
 mod grouped;
 #[cfg(test)]
-mod groups;
-#[cfg(test)]
 mod known_reading;
 #[cfg(test)]
 mod known_writing;

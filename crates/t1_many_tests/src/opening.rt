@@ -22,9 +22,15 @@ struct Case<'a> {
 }
 
 /// Each font is opened once, then its waivers, if it may have some; both are left before the next one is opened. `plain.pfb` has none, the font
-/// `absent.pfb` isn't there, and the waivers of `locked.pfb` can't be opened.
+/// `absent.pfb` isn't there, the waivers of `locked.pfb` can't be opened, and a font whose name has a line end isn't.
 const READ: Case<'static> = Case {
-    names: &["plain.pfb", "waived.pfb", "absent.pfb", "locked.pfb"],
+    names: &[
+        "plain.pfb",
+        "waived.pfb",
+        "absent.pfb",
+        "locked.pfb",
+        "two\nlines.pfb",
+    ],
     beside: WaiverFiles::Read,
     calls: b"\
 open font plain.pfb
@@ -41,8 +47,9 @@ leave font locked.pfb
 ",
     text: b"plain.pfb: 4: glyph A - 4 P03 closepath without a path\n",
     told: b"\
-absent.pfb: t1check: read failed
-locked.pfb: t1check: read failed
+absent.pfb: t1check: read failed: no such file or folder
+locked.pfb: t1check: read of waivers failed: permission is denied
+two\\nlines.pfb: t1check: its name has a line end
 ",
 };
 

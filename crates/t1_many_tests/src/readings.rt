@@ -3,9 +3,11 @@
 use crate::files::{File, Files};
 use crate::fonts::{FIVE_FAULTS, FOUR_FAULTS, font_with, names_of};
 use std::alloc::Global;
+use std::process::Abort;
 use std::test::Fail;
 use t1_char::Edition;
 use t1_io::Out;
+use t1_known::KnownFaults;
 use t1_many::{
     Anew, Beyond, Counted, Known, Lost, Plain, Reading, WaiverFiles, check_all, told_rules,
 };
@@ -30,39 +32,76 @@ impl Known for KnownEverywhere {
 /// The names of three fonts, of which the last isn't there.
 const NAMES: [&str; 3] = ["five.pfb", "four.pfb", "absent.pfb"];
 
-/// Whether what was found in these fonts is as it should be.
-fn are_read(readings: &[Reading]) -> bool {
-    match readings {
-        [five, four] => {
-            five.font.as_str() == "five.pfb"
-                && five.rows.as_slice()
-                    == b"1 C05 glyph A five.pfb\n1 W01 glyph A five.pfb\n2 P03 glyph A five.pfb\n".as_slice()
-                && four.font.as_str() == "four.pfb"
-                && four.rows.as_slice()
-                    == b"1 C05 glyph A four.pfb\n1 W01 glyph A four.pfb\n1 P03 glyph A four.pfb\n".as_slice()
-        }
-        _ => false,
+/// A font, and how often each kind was found in it.
+type FoundIn = (&'static str, &'static [(u64, &'static [u8])]);
+
+/// What is found in the first two.
+const READ: &[FoundIn] = &[
+    (
+        "five.pfb",
+        &[
+            (1, b"C05 glyph A"),
+            (1, b"W01 glyph A"),
+            (2, b"P03 glyph A"),
+        ],
+    ),
+    (
+        "four.pfb",
+        &[
+            (1, b"C05 glyph A"),
+            (1, b"W01 glyph A"),
+            (1, b"P03 glyph A"),
+        ],
+    ),
+];
+
+/// Whether that was found in a font, in this order.
+fn is_read(reading: &Reading, found: &FoundIn) -> bool {
+    let (font, kinds) = found;
+    let mut same = reading.font.as_str() == *font && reading.counts.len() == kinds.len();
+    for place in 0..kinds.len() {
+        let (count, kind) = kinds[place];
+        same = same
+            && match reading.counts.get_index(place) {
+                Some((kept, times)) => kept.as_slice() == kind && *times == count,
+                None => false,
+            };
     }
+    same
+}
+
+/// Whether that was found in fonts, in this order.
+fn are_read(readings: &[Reading], found: &[FoundIn]) -> bool {
+    let mut same = readings.len() == found.len();
+    for (reading, of) in readings.iter().zip(found) {
+        same = same && is_read(reading, of);
+    }
+    same
 }
 
 /// How the check of the fonts ended, what was found in them, and what was written and printed.
 #[derive(Drop)]
 struct Answer {
     status: Result<Status, Lost>,
-    are_read: bool,
+    readings: Vec<Reading>,
     tally: Tally,
     text: Vec<u8>,
     errors: Vec<u8>,
 }
 
-/// Checks the fonts of these names by known faults: each kind is known once of each font.
-fn beyond<'a>(alloc: Global, names: &[String], fonts: &'a [File<'a>]) -> Answer {
+/// Checks the fonts of these names by known faults.
+fn beyond<'a, K: Known + Drop>(
+    alloc: Global,
+    names: &[String],
+    fonts: &'a [File<'a>],
+    known: K,
+) -> Answer {
     let mut files = Files::new(alloc, fonts, &[]);
     let mut text = Vec::new(alloc);
     let mut errors = Vec::new(alloc);
     let mut beyond = Beyond {
         rules: told_rules(&[], &[b"C07"]),
-        known: KnownEverywhere { count: 1 },
+        known,
         form: Counted {
             tally: Tally::new(),
             form: Plain {
@@ -81,12 +120,12 @@ fn beyond<'a>(alloc: Global, names: &[String], fonts: &'a [File<'a>]) -> Answer 
         Edition::One,
         &mut beyond,
     );
-    let are_read = are_read(beyond.readings.as_slice());
-    let tally = beyond.form.tally;
-    drop(beyond);
+    let Beyond { form, readings, .. } = beyond;
+    let tally = form.tally;
+    drop(form);
     Answer {
         status,
-        are_read,
+        readings,
         tally,
         text,
         errors,
@@ -118,12 +157,12 @@ fn anew<'a>(alloc: Global, names: &[String], fonts: &'a [File<'a>]) -> Answer {
         Edition::One,
         &mut anew,
     );
-    let are_read = are_read(anew.readings.as_slice());
-    let tally = anew.form.tally;
-    drop(anew);
+    let Anew { form, readings, .. } = anew;
+    let tally = form.tally;
+    drop(form);
     Answer {
         status,
-        are_read,
+        readings,
         tally,
         text,
         errors,
@@ -148,9 +187,10 @@ five.pfb: 5: glyph A - 5 P03 closepath without a path
 /// Whether that is the answer: the third font can't be opened.
 fn is_answered(answer: &Answer, text: &[u8]) -> bool {
     answer.status == Ok(Status::Failed)
-        && answer.are_read
+        && are_read(answer.readings.as_slice(), READ)
         && answer.text.as_slice() == text
-        && answer.errors.as_slice() == b"absent.pfb: t1check: read failed\n".as_slice()
+        && answer.errors.as_slice()
+            == b"absent.pfb: t1check: read failed: no such file or folder\n".as_slice()
 }
 
 #[test]
@@ -159,7 +199,8 @@ fn reports_what_goes_beyond(rt: HostRuntime) -> Result<(), Fail> {
     let five = font_with(rt.alloc(), FIVE_FAULTS)?;
     let four = font_with(rt.alloc(), FOUR_FAULTS)?;
     let fonts = [("five.pfb", five.as_slice()), ("four.pfb", four.as_slice())];
-    let answer = beyond(rt.alloc(), names.as_slice(), &fonts);
+    let known = KnownEverywhere { count: 1 };
+    let answer = beyond(rt.alloc(), names.as_slice(), &fonts, known);
     assert!(rt; is_answered(&answer, BEYOND) && is_counted(&answer.tally));
     Ok(())
 }
@@ -173,5 +214,38 @@ fn reports_no_line_of_what_becomes_known(rt: HostRuntime) -> Result<(), Fail> {
     let fonts = [("five.pfb", five.as_slice()), ("four.pfb", four.as_slice())];
     let answer = anew(rt.alloc(), names.as_slice(), &fonts);
     assert!(rt; is_answered(&answer, b"") && answer.tally.lines_of(Rule::P03) == 0);
+    Ok(())
+}
+
+/// What is found in the font, of which all rules but C07 are reported.
+const FIVE: &[FoundIn] = &[(
+    "a.pfb",
+    &[
+        (1, b"C05 glyph A"),
+        (1, b"W01 glyph A"),
+        (2, b"P03 glyph A"),
+    ],
+)];
+
+/// P03 is found twice, and known once: so both of its lines are written. W01 isn't known, C05 is, and C07 isn't reported.
+#[test]
+fn writes_what_goes_beyond(rt: HostRuntime) -> Result<(), Fail> {
+    let names = names_of(rt.alloc(), &["a.pfb"])?;
+    let five = font_with(rt.alloc(), FIVE_FAULTS)?;
+    let fonts = [("a.pfb", five.as_slice())];
+    let rows = b"1 P03 glyph A a.pfb\n1 C05 glyph A a.pfb\n";
+    let Ok(known) = KnownFaults::read(rt.alloc(), rows) else {
+        panic!(rt; "the rows aren't read");
+    };
+    let answer = beyond(rt.alloc(), names.as_slice(), &fonts, known);
+    assert_eq!(rt; answer.status, Ok(Status::Faults));
+    assert!(rt; are_read(answer.readings.as_slice(), FIVE));
+    let lines = b"\
+a.pfb: 3: glyph A - 3 W01 hsbw or sbw not first
+a.pfb: 4: glyph A - 4 P03 closepath without a path
+a.pfb: 5: glyph A - 5 P03 closepath without a path
+";
+    assert!(rt; answer.text.as_slice() == lines.as_slice());
+    assert!(rt; answer.errors.is_empty());
     Ok(())
 }

@@ -36,7 +36,6 @@ fn plain<'a>() -> Output<'a> {
         layout: Layout::Lines { reasons: false },
         unlisted: Unlisted {
             undecoded: 0,
-            passed_over: 0,
             unsearched: &[],
         },
     }
@@ -128,7 +127,7 @@ cut.pfa: refused: E04 no eexec
 ";
     assert!(rt; text.as_slice() == lines.as_slice());
     let lines = b"\
-absent.pfb: t1check: read failed
+absent.pfb: t1check: read failed: no such file or folder
 3 fonts: 0 clean, 1 with faults, 1 refused, 1 not checked
       1 P03 closepath without a path (tidy)
 ";
@@ -394,7 +393,6 @@ fn reports_what_was_not_listed(rt: HostRuntime) -> Result<(), Fail> {
             layout: Layout::JsonLines { reasons: false },
             unlisted: Unlisted {
                 undecoded: 1,
-                passed_over: 1,
                 unsearched: unsearched.as_slice(),
             },
         },
@@ -411,7 +409,6 @@ fn reports_what_was_not_listed(rt: HostRuntime) -> Result<(), Fail> {
     assert_eq!(rt; left.status, Status::Failed);
     let lines = b"\
 {\"text\":\"a name that is not UTF-8 is passed over\",\"unit\":\"unchecked\"}
-{\"text\":\"a name with a line end is passed over\",\"unit\":\"unchecked\"}
 {\"file\":\"fonts/old\",\"text\":\"search failed\",\"unit\":\"unchecked\"}
 {\"code\":\"P03\",\"file\":\"faulty.pfb\",\"level\":\"tidy\",\"name\":\"A\",\"number\":4,\"path\":[],\"step\":4,\"text\":\"closepath without a path\",\"unit\":\"glyph\"}
 ";

@@ -131,7 +131,10 @@ faulty.pfb: 1: font MinFeature 0 F08 MinFeature is not {16 16}
 cut.pfa: refused: E04 no eexec
 ";
     assert!(rt; answer.text.as_slice() == lines.as_slice());
-    assert!(rt; answer.told.as_slice() == b"absent.pfb: t1check: read failed\n".as_slice());
+    assert!(rt;
+        answer.told.as_slice()
+            == b"absent.pfb: t1check: read failed: no such file or folder\n".as_slice()
+    );
     let waivers: &[File<'_>] = &[
         (
             "faulty.pfb",

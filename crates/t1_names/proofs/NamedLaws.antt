@@ -1,5 +1,5 @@
 -- Words make one list.
-use Rattle.std.proofs.Common.{◌≡◌, ℕ, ◌+◌, Bool, List, [], ◌∷◌, refl, sym, ap, subst, ◌∙◌}
+use Rattle.std.proofs.Common.{◌≡◌, ℕ, Bool, List, [], ◌∷◌, refl, sym, ap, subst, ◌∙◌}
 use Rattle.std.proofs.lemmas.Bool.{true≢false}
 use Rattle.std.specs.List.{AllZip}
 use Rattle.t1_names.proofs.FolderLaws.{one_search}
@@ -7,7 +7,7 @@ use Rattle.t1_names.proofs.SortedLaws.{one_order}
 use Rattle.t1_names.proofs.WordLaws.{one_trim}
 use Rattle.t1_names.specs.Folders.{AreInOrder, IsBelow}
 use Rattle.t1_names.specs.Laws.{OneList, as_listed}
-use Rattle.t1_names.specs.Named.{Found, StandsFor, all_fonts, all_unsearched, alone, included, line_end_count, one_line_names}
+use Rattle.t1_names.specs.Named.{Found, StandsFor, all_fonts, all_unsearched, alone, included}
 use Rattle.t1_names.specs.Named.StandsFor.{a_folder, a_font, itself}
 use Rattle.t1_names.specs.Once.{each_once}
 use Rattle.t1_names.specs.Words.{file_name}
@@ -59,10 +59,8 @@ module _ (is_folder : List ℕ → Bool) (listing_of : List ℕ → Listing) whe
       let rest : founds ≡ founds' = same_founds words founds founds' all.1 all'.1 in cc
 
 pub one_list : OneList
-one_list is_folder listing_of words globs names unsearched names' unsearched' passed_over passed_over' list list' =
+one_list is_folder listing_of words globs names unsearched names' unsearched' list list' =
     let founds : list.founds ≡ list'.founds = same_founds is_folder listing_of words list.founds list'.founds list.stand list'.stand in (
-      list.names_are ∙ ap (λ f. one_line_names (each_once (included globs (all_fonts f)))) founds ∙ sym list'.names_are,
-      list.unsearched_are ∙ ap (λ f. one_line_names (each_once (all_unsearched f))) founds ∙ sym list'.unsearched_are,
-      list.passed_over_is
-          ∙ ap (λ f. line_end_count (each_once (included globs (all_fonts f))) + line_end_count (each_once (all_unsearched f))) founds ∙ sym list'.passed_over_is,
+      list.names_are ∙ ap (λ f. each_once (included globs (all_fonts f))) founds ∙ sym list'.names_are,
+      list.unsearched_are ∙ ap (λ f. each_once (all_unsearched f)) founds ∙ sym list'.unsearched_are,
     )

@@ -3,14 +3,12 @@ use Rattle.std.proofs.Common.{◌≡◌, ℕ, ◌+◌, ◌<◌, Bool, true, fals
 use Rattle.std.proofs.Math.Seq.{take-suc}
 use Rattle.std.proofs.lemmas.Grind.{flat_map-append}
 use Rattle.std.proofs.lemmas.List.{map-append}
-use Rattle.std.proofs.lemmas.List.Filters.{length-filter_both}
-use Rattle.std.proofs.lemmas.List.Sums.{length-filter}
 use Rattle.std.specs.List.{AllZip, flat_map}
 use Rattle.std.specs.Result.{IfOk}
 use Rattle.t1_names.specs.Folders.{IsBelow}
-use Rattle.t1_names.specs.Named.{Found, StandsFor, all_fonts, all_unsearched, one_line_names, line_end_count}
+use Rattle.t1_names.specs.Named.{Found, StandsFor, all_fonts, all_unsearched}
 use Rattle.t1_names.specs.Named.StandsFor.{a_folder, a_font}
-use Rattle.t1_names.specs.Words.{Trims, file_name, has_line_end, stays}
+use Rattle.t1_names.specs.Words.{Trims, file_name, is_input}
 use Rattle.t1_names.specs.declared.folders.Below.{Below}
 use Rattle.t1_names.specs.declared.folders.Listing.{Listing}
 
@@ -44,20 +42,8 @@ names_next f xs i x less is =
     ap (map f) (ap (λ n. take n xs) (add-one i) ∙ take-suc xs i x less ∙ ap (λ y. take i xs ++ y ∷ []) (sym is))
     ∙ map-append f (take i xs) (x ∷ [])
 
-pub map-filter : {A B : Type 0} (f : A → B) (p : B → Bool) (xs : List A) → map f (filter (λ x. p (f x)) xs) ≡ filter p (map f xs)
-map-filter f p [] = refl
-map-filter f p (x ∷ xs) =
-    elim (p (f x)) as (λ b. map f (if b then x ∷ filter (λ y. p (f y)) xs else filter (λ y. p (f y)) xs) ≡ (if b then f x ∷ filter p (map f xs) else filter p (map f xs))) [
-      | true ↦ ap (λ l. f x ∷ l) (map-filter f p xs)
-      | false ↦ map-filter f p xs
-    ]
-
-pub lines_and_others : (names : List (List ℕ)) → length (one_line_names names) + line_end_count names ≡ length names
-lines_and_others names =
-    omega (arith, length-filter_both has_line_end (λ name. not (has_line_end name)) (λ name. refl) names, length-filter has_line_end names)
-
 module _ {E : Type 0} (IsFolder : List ℕ → Bool → Type 0) (Lists : List ℕ → Result Listing E → Type 0) (word trimmed : List ℕ)
-    (plain : stays word ≡ false) (trims : Trims IsFolder word trimmed) where
+    (plain : is_input word ≡ false) (trims : Trims IsFolder word trimmed) where
   abbrev found_of : Below → Found
   found_of below = record { fonts = map string_bytes below.fonts.items; unsearched = map string_bytes below.unsearched.items }
 

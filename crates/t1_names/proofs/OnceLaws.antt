@@ -8,11 +8,10 @@ use Rattle.std.proofs.lemmas.Slice.Eq.{bytes_eq-Decides}
 use Rattle.std.specs.Cmp.{IsEquivalence}
 use Rattle.std.specs.List.{IsDistinct, list_any}
 use Rattle.std.specs.Str.{bytes_eq}
-use Rattle.t1_names.specs.Laws.{EachFits, EachIsKept, InputIsIncluded, NoneIsTwice}
+use Rattle.t1_names.specs.Laws.{EachIsIncluded, EachIsKept, InputIsIncluded, NoneIsTwice}
 use Rattle.t1_names.specs.Globs.{is_excluded}
-use Rattle.t1_names.specs.Named.{included, is_included, one_line_names}
+use Rattle.t1_names.specs.Named.{included, is_included}
 use Rattle.t1_names.specs.Once.{each_after, each_once}
-use Rattle.t1_names.specs.Words.{has_line_end}
 
 same_bytes : (xs ys : List ℕ) → bytes_eq xs ys ≡ true → xs ≡ ys
 same_bytes xs ys = (bytes_eq-Decides xs ys).0
@@ -115,16 +114,12 @@ kept_passes test (first ∷ names) name is =
     (rest.0, or_right (bytes_eq name first) (list_any (bytes_eq name) names) rest.1))
     (cases_Bool (test first))
 
-pub each_fits : EachFits
-each_fits globs names name is =
+pub each_is_included : EachIsIncluded
+each_is_included globs names name is no_input =
     let all : List (List ℕ) = included globs names in
-    let listed : (not (has_line_end name) ≡ true) × (list_any (bytes_eq name) (each_once all) ≡ true) =
-    kept_passes (λ n. not (has_line_end n)) (each_once all) name (list_any-from_Contains equal_names name (one_line_names (each_once all)) is) in
     let inside : (is_included globs name ≡ true) × (list_any (bytes_eq name) names ≡ true) =
-    kept_passes (is_included globs) names name (sym (found name [] all) ∙ listed.1) in (
-      not-true (has_line_end name) listed.0,
-      λ no_input. not-true (is_excluded globs name) (sym (ap (λ b. b || not (is_excluded globs name)) no_input) ∙ inside.0),
-    )
+    kept_passes (is_included globs) names name (sym (found name [] all) ∙ list_any-from_Contains equal_names name (each_once all) is) in
+    not-true (is_excluded globs name) (sym (ap (λ b. b || not (is_excluded globs name)) no_input) ∙ inside.0)
 
 -- what passes a filter stays
 passes_kept : (test : List ℕ → Bool) (name : List ℕ) → test name ≡ true → (names : List (List ℕ)) → list_any (bytes_eq name) names ≡ true

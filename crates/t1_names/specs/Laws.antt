@@ -5,10 +5,10 @@ use Rattle.std.specs.Str.{bytes_eq}
 use Rattle.std.specs.declared.alloc.AllocError.{AllocError}
 use Rattle.t1_names.specs.Folders.{AreBelow, path_of}
 use Rattle.t1_names.specs.Globs.{Glob, IsRead, does_match, is_excluded, is_slash, matches}
-use Rattle.t1_names.specs.Named.{AreNamed, included, one_line_names}
+use Rattle.t1_names.specs.Named.{AreNamed, included}
 use Rattle.t1_names.specs.Once.{each_once}
 use Rattle.t1_names.specs.declared.folders.Listing.{Listing}
-use Rattle.t1_names.specs.Words.{Trims, file_name, has_line_end, is_input}
+use Rattle.t1_names.specs.Words.{Trims, file_name, is_input}
 
 -- A folder's listing, where memory doesn't run out.
 abbrev pub as_listed : Listing → Result Listing AllocError
@@ -22,11 +22,11 @@ EachIsKept = (names : List (List ℕ)) → (name : List ℕ) → Contains names 
 abbrev pub NoneIsTwice : Type 0
 NoneIsTwice = (names : List (List ℕ)) → IsDistinct bytes_eq (each_once names)
 
--- A name in a list of fonts has no line end, and no glob matches it, unless it is standard input.
-abbrev pub EachFits : Type 0
-EachFits =
-    (globs : List Glob) → (names : List (List ℕ)) → (name : List ℕ) → Contains (one_line_names (each_once (included globs names))) name
-    → (has_line_end name ≡ false) × (is_input name ≡ false → is_excluded globs name ≡ false)
+-- No glob matches a name in a list of fonts, unless it is standard input.
+abbrev pub EachIsIncluded : Type 0
+EachIsIncluded =
+    (globs : List Glob) → (names : List (List ℕ)) → (name : List ℕ) → Contains (each_once (included globs names)) name
+    → is_input name ≡ false → is_excluded globs name ≡ false
 
 -- A word is trimmed in one way, where each word leads to a folder or doesn't.
 abbrev pub OneTrim : Type 0
@@ -45,10 +45,10 @@ OneSearch =
 abbrev pub OneList : Type 0
 OneList =
     (is_folder : List ℕ → Bool) → (listing_of : List ℕ → Listing) → (words : List (List ℕ)) → (globs : List Glob)
-    → (names unsearched names' unsearched' : List (List ℕ)) → (passed_over passed_over' : ℕ)
-    → AreNamed (λ word leads. is_folder word ≡ leads) (λ folder r. r ≡ as_listed (listing_of folder)) words globs names unsearched passed_over
-    → AreNamed (λ word leads. is_folder word ≡ leads) (λ folder r. r ≡ as_listed (listing_of folder)) words globs names' unsearched' passed_over'
-    → (names ≡ names') × (unsearched ≡ unsearched') × (passed_over ≡ passed_over')
+    → (names unsearched names' unsearched' : List (List ℕ))
+    → AreNamed (λ word leads. is_folder word ≡ leads) (λ folder r. r ≡ as_listed (listing_of folder)) words globs names unsearched
+    → AreNamed (λ word leads. is_folder word ≡ leads) (λ folder r. r ≡ as_listed (listing_of folder)) words globs names' unsearched'
+    → (names ≡ names') × (unsearched ≡ unsearched')
 
 -- No file has the name of standard input.
 abbrev pub InputIsNoFile : Type 0

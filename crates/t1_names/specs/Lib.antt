@@ -1,3 +1,4 @@
+pub mod Causes
 pub mod Folders
 pub mod GlobValues
 pub mod Globs

@@ -3,17 +3,9 @@ use Rattle.std.specs.Prelude.{◌≡◌, ◌≢◌, ◌==◌, ◌||◌, ℕ, Boo
 use Rattle.std.specs.List.{list_any}
 use Rattle.std.specs.Str.{bytes_eq}
 
--- A name with a line end can't be in a line.
-abbrev pub has_line_end : List ℕ → Bool
-has_line_end name = list_any (λ byte. byte == 10) name
-
 -- The word `-` is standard input.
 abbrev pub is_input : List ℕ → Bool
 is_input word = bytes_eq word (codes "-")
-
--- Words that name just themselves, and aren't looked up: standard input, and what can't be in a line.
-abbrev pub stays : List ℕ → Bool
-stays word = is_input word || has_line_end word
 
 -- The name of a file in lines. One that is called `-` is `./-`, as `-` is standard input.
 abbrev pub file_name : List ℕ → List ℕ

@@ -1,6 +1,6 @@
 //! Laws above the definitions: each is the contract of a function that does nothing.
 
-ghost use Rattle.t1_names.specs.Laws.{DoubleStarMatchesAll, EachFits, EachIsKept, InputIsIncluded, InputIsNoFile, NoDotInFolders, NoDotInPaths, NoneIsTwice, OneList, OneReading, OneSearch, OneTrim, PlainIsItself, StarStopsAtSlashes};
+ghost use Rattle.t1_names.specs.Laws.{DoubleStarMatchesAll, EachIsIncluded, EachIsKept, InputIsIncluded, InputIsNoFile, NoDotInFolders, NoDotInPaths, NoneIsTwice, OneList, OneReading, OneSearch, OneTrim, PlainIsItself, StarStopsAtSlashes};
 
 /// Keeping each name once loses no name, adds none and leaves none twice.
 #[tactic(auto, using(crate::proofs::OnceLaws::none_is_twice))]
@@ -9,9 +9,9 @@ pub fn each_name_is_once()
     ensures once { NoneIsTwice }
 {}
 
-/// A name in the list of fonts has no line end, and no glob that excludes names matches it, unless it is `-`.
-pub fn each_name_fits()
-    ensures { EachFits }
+/// No glob that excludes names matches a name in the list of fonts, unless it is `-`.
+pub fn each_name_is_included()
+    ensures { EachIsIncluded }
 {}
 
 /// A word is trimmed in one way.

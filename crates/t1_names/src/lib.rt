@@ -5,6 +5,7 @@
 //! that name is named `./-`. [`words_in`] reads words from the text of a list.
 #![tactic(auto)]
 
+mod causes;
 mod filesystem;
 mod folders;
 mod globs;
@@ -14,11 +15,12 @@ mod named;
 mod once;
 mod words;
 
+pub use causes::Cause;
 pub use filesystem::FileSystem;
 pub use folders::{Below, Entry, Listing, fonts_below, is_font_name};
 pub use globs::{CharSet, Glob, Piece, is_excluded};
 pub use laws::{
-    each_name_fits, each_name_is_once, globs_match, input_stays_apart, lists_are_one,
+    each_name_is_included, each_name_is_once, globs_match, input_stays_apart, lists_are_one,
     names_have_no_dot, searches_are_one, trims_are_one,
 };
 pub use lists::{Words, words_in};

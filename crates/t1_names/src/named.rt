@@ -1,16 +1,16 @@
 //! The fonts that words name.
 
-ghost use Rattle.std.specs.Prelude.{◌≡◌, ◌+◌, ◌^◌, ◌<◌, ◌++◌, [], ◌∷◌, IfOk, OnOk, List, map, string_bytes};
+ghost use Rattle.std.specs.Prelude.{◌≡◌, ◌++◌, [], ◌∷◌, IfOk, OnOk, List, map, string_bytes};
 ghost use Rattle.std.specs.List.{AllZip};
 ghost use Rattle.t1_names.specs.GlobValues.{glob_of};
-ghost use Rattle.t1_names.specs.Named.{AreNamed, Found, StandsFor, all_fonts, all_unsearched, included, is_included, one_line_names, line_end_count};
+ghost use Rattle.t1_names.specs.Named.{AreNamed, Found, StandsFor, all_fonts, all_unsearched, included, is_included};
 ghost use Rattle.t1_names.specs.Once.{each_once};
 
 use crate::filesystem::FileSystem;
 use crate::folders::{Below, fonts_below};
 use crate::globs::{Glob, is_excluded};
 use crate::once::each_once;
-use crate::words::{file_name, has_line_end, is_input, stays, trim_word};
+use crate::words::{file_name, is_input, trim_word};
 use std::alloc::{AllocError, Global};
 
 /// The fonts that words name.
@@ -20,8 +20,6 @@ pub struct Named {
     pub names: Vec<String>,
     /// The folders that weren't searched whole, each once.
     pub unsearched: Vec<String>,
-    /// How many names of fonts, and of folders that weren't searched whole, have a line end and so can't be in a line.
-    pub passed_over: usize,
 }
 
 /// The fonts that words name, without those that a glob excludes. A word that leads to a folder names the fonts below it.
@@ -33,18 +31,13 @@ pub fn fonts_named<F: FileSystem>(
     excluded: &[Glob],
 ) -> Result<Named, AllocError>
     ensures { IfOk result (λ named. AreNamed (F.leads files.now) (F.lists files.now) (map string_bytes words.now) (map glob_of excluded.now)
-        (map string_bytes named.names.items) (map string_bytes named.unsearched.items) named.passed_over) }
+        (map string_bytes named.names.items) (map string_bytes named.unsearched.items)) }
 {
     let found = search(alloc, words, files)?;
     let fonts = included(alloc, found.fonts, excluded)?;
-    let mut names = each_once(alloc, fonts)?;
-    let mut unsearched = each_once(alloc, found.unsearched)?;
-    let fonts_without_line = keep_lines(&mut names);
-    let folders_without_line = keep_lines(&mut unsearched);
     Ok(Named {
-        names,
-        unsearched,
-        passed_over: fonts_without_line + folders_without_line,
+        names: each_once(alloc, fonts)?,
+        unsearched: each_once(alloc, found.unsearched)?,
     })
 }
 
@@ -70,7 +63,7 @@ fn stand_for<F: FileSystem>(alloc: Global, word: &str, files: &F) -> Result<Belo
     ensures { IfOk result (λ below. StandsFor (F.leads files.now) (F.lists files.now) word.now
         (record { fonts = map string_bytes below.fonts.items; unsearched = map string_bytes below.unsearched.items })) }
 {
-    if stays(word) {
+    if is_input(word) {
         return alone(alloc, word);
     }
     let trimmed = trim_word(word, files);
@@ -123,15 +116,4 @@ fn is_included(alloc: Global, name: &str, excluded: &[Glob]) -> Result<bool, All
         return Ok(true);
     }
     Ok(!is_excluded(alloc, name, excluded)?)
-}
-
-/// Leaves the names that can be in a line, and says how many can't.
-fn keep_lines(names: &mut Vec<String>) -> usize
-    ensures lines { map string_bytes names.new.items ≡ one_line_names (map string_bytes names.old.items) }
-    ensures count { result ≡ line_end_count (map string_bytes names.old.items) }
-    ensures small { result < 2 ^ 63 }
-{
-    let all = names.len();
-    names.retain(|name| !has_line_end(name.as_str()));
-    all - names.len()
 }

@@ -1,7 +1,7 @@
 //! Words that name a font or a folder.
 
 ghost use Rattle.std.specs.Prelude.{◌≡◌, ◌≢◌, ◌<◌, [], ◌∷◌, length, MatchOption};
-ghost use Rattle.t1_names.specs.Words.{IsShort, Shortens, Trims, after_slashes, file_name, has_line_end, is_input, stays};
+ghost use Rattle.t1_names.specs.Words.{IsShort, Shortens, Trims, after_slashes, file_name, is_input};
 
 use crate::filesystem::FileSystem;
 
@@ -57,25 +57,11 @@ fn after_slashes(text: &str) -> &str
     rest
 }
 
-/// Whether a name has a line end, and so can't be in a line.
-pub(crate) fn has_line_end(name: &str) -> bool
-    ensures { result ≡ has_line_end name.now }
-{
-    name.as_bytes().contains(&b'\n')
-}
-
 /// Whether a word of the command line is `-`: standard input.
 pub fn is_input(word: &str) -> bool
     ensures { result ≡ is_input word.now }
 {
     word == "-"
-}
-
-/// Whether a word stays as it is: standard input does, and a name with a line end.
-pub(crate) fn stays(word: &str) -> bool
-    ensures { result ≡ stays word.now }
-{
-    is_input(word) | has_line_end(word)
 }
 
 /// The name of a file in lines: `-` would be standard input.

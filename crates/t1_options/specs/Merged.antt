@@ -3,7 +3,7 @@ use Rattle.std.specs.Prelude.{Bool, not, ◌&&◌, List, [], ◌∷◌, Option, 
 use Rattle.std.specs.Str.{bytes_eq}
 use Rattle.clap.specs.Walk.{is_empty}
 use Rattle.clap.specs.Words.{Text}
-use Rattle.t1_names.specs.Words.{has_line_end}
+use Rattle.t1_many.specs.Unchecked.{has_line_end}
 use Rattle.t1_settings.specs.Keys.{name_of}
 use Rattle.t1_settings.specs.Reading.{SettingValue}
 use Rattle.t1_settings.specs.Settled.{SettingsValue}

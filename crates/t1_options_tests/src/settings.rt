@@ -134,7 +134,7 @@ const REFUSED: &[Refusal] = &[
     (
         PLAIN_WORDS,
         File::Unreadable,
-        "t1check-all: .t1check.toml can't be read\n",
+        "t1check-all: .t1check.toml can't be read: permission is denied\n",
     ),
     (
         PLAIN_WORDS,

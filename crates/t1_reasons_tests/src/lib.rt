@@ -1,4 +1,5 @@
-//! Tests of reasons: of t1_reasons, by its public items alone.
+//! Tests of reasons: why a rule is broken, of t1_reasons and t1_reason_texts, and why a font is refused, of t1_refusals;
+//! by their public items alone.
 //!
 //! A row of a table has a made font, a place, a rule and the reason that is wanted there. Numbers are at the edge: where a row
 //! has a reason, the next one is mostly the same without it. Expected values are worked out by hand.
@@ -7,9 +8,15 @@
 //! |---|---|
 //! | `steps` | reasons at the steps of a glyph, by both editions, in any order |
 //! | `entries` | reasons at the entries of a font |
+//! | `texts` | the texts of reasons |
+//! | `refusals` | the texts of refusals, and of errors of t1_seal and t1_font, which derive them |
 #![tactic(auto)]
 
 #[cfg(test)]
 mod entries;
 #[cfg(test)]
+mod refusals;
+#[cfg(test)]
 mod steps;
+#[cfg(test)]
+mod texts;

@@ -1,59 +1,98 @@
-//! Fonts whose Subrs and glyphs are written as words, and Subrs that the glyphs of several tests call.
+//! Fonts that are written as words, and what the fonts of several tests begin with.
 
-use std::alloc::Global;
+use std::alloc::{AllocError, Global};
 use std::test::Fail;
 use t1_samples::{Sample, assembled};
 
-/// A sound font with these Subrs: each a number, a colon and words, with a bar before the next.
-fn with_subrs(alloc: Global, subrs: &str) -> Result<Sample, Fail> {
+/// The file of a sound font with these parts, which have bars between them. A part is a name, a colon and words: a
+/// number names a Subr, `key` a line of the private text, `encoding` that of the Encoding, `subrs` that before the Subrs,
+/// and all else a glyph.
+pub(super) fn file_of(alloc: Global, parts: &str) -> Result<Vec<u8>, Fail> {
     let mut sample = Sample::new(alloc)?;
-    for subr in subrs.split('|') {
-        sample = with_subr(alloc, sample, subr)?;
+    for part in parts.split('|') {
+        sample = with_part(alloc, sample, part)?;
     }
-    Ok(sample)
+    Ok(sample.pfb()?)
 }
 
-/// The sample with one more Subr, if a colon is in these words.
-fn with_subr(alloc: Global, sample: Sample, subr: &str) -> Result<Sample, Fail> {
-    match subr.split_once(':') {
-        Some((number, words)) => {
-            let number = number.trim().parse::<u32>()?;
-            let code = assembled(alloc, words)?;
-            Ok(sample.subr(number, code.as_slice())?)
-        }
+/// The sample with one more part, if a colon is in these words.
+fn with_part(alloc: Global, sample: Sample, part: &str) -> Result<Sample, Fail> {
+    match part.split_once(':') {
+        Some((name, words)) => with_named(alloc, sample, name.trim(), words.trim()),
         None => Ok(sample),
     }
 }
 
-/// A font with these Subrs and glyphs: each glyph a name, a colon and words, with a bar before the next.
-pub(super) fn with_glyphs(alloc: Global, subrs: &str, glyphs: &str) -> Result<Sample, Fail> {
-    let mut sample = with_subrs(alloc, subrs)?;
-    for glyph in glyphs.split('|') {
-        sample = with_glyph(alloc, sample, glyph)?;
-    }
-    Ok(sample)
-}
-
-/// The sample with one more glyph, if a colon is in these words.
-fn with_glyph(alloc: Global, sample: Sample, glyph: &str) -> Result<Sample, Fail> {
-    match glyph.split_once(':') {
-        Some((name, words)) => {
-            let code = assembled(alloc, words)?;
-            Ok(sample.glyph(name.trim().as_bytes(), code.as_slice())?)
-        }
-        None => Ok(sample),
+fn with_named(alloc: Global, sample: Sample, name: &str, words: &str) -> Result<Sample, Fail> {
+    if name == "key" {
+        Ok(sample.key(words.as_bytes())?)
+    } else if name == "encoding" || name == "subrs" {
+        Ok(with_line(alloc, sample, name, words)?)
+    } else {
+        with_code(alloc, sample, name, words)
     }
 }
 
-/// Subr 4 has seven points of a flex, each after a move by 1 to the right, and Subr 5 has one.
-pub(super) const POINTS: &str = "\
-4: 1 hmoveto 0 2 callothersubr 1 hmoveto 0 2 callothersubr 1 hmoveto 0 2 callothersubr \
-1 hmoveto 0 2 callothersubr 1 hmoveto 0 2 callothersubr 1 hmoveto 0 2 callothersubr \
-1 hmoveto 0 2 callothersubr return |\
-5: 1 hmoveto 0 2 callothersubr return";
+/// The sample with this line in place of the Encoding or before the Subrs.
+fn with_line(alloc: Global, sample: Sample, name: &str, words: &str) -> Result<Sample, AllocError> {
+    let line = format!(in alloc; "{words}\n")?;
+    if name == "subrs" {
+        sample.subrs(line.as_bytes())
+    } else {
+        sample.encoding(line.as_bytes())
+    }
+}
 
-/// Subrs 4 and 5 have 94 stems each, from 0 to 94, each of them a unit wide and right above the one before.
-pub(super) const MANY_STEMS: &str = "\
+/// The sample with one more Subr or glyph.
+fn with_code(alloc: Global, sample: Sample, name: &str, words: &str) -> Result<Sample, Fail> {
+    let code = code_of(alloc, words)?;
+    match name.parse::<u32>() {
+        Ok(number) => Ok(sample.subr(number, code.as_slice())?),
+        Err(_) => Ok(sample.glyph(name.as_bytes(), code.as_slice())?),
+    }
+}
+
+/// The charstring of words, of which those in braces come as often as their first says.
+fn code_of(alloc: Global, words: &str) -> Result<Vec<u8>, Fail> {
+    let mut text = String::new(alloc);
+    for part in words.split('{') {
+        add_repeated(&mut text, part)?;
+    }
+    assembled(alloc, text.as_str())
+}
+
+/// Adds words up to the brace as often as their first says, and the others once.
+fn add_repeated(text: &mut String, part: &str) -> Result<(), Fail> {
+    let Some((block, rest)) = part.split_once('}') else {
+        return Ok(text.push_str(part)?);
+    };
+    let (times, words) = block.split_once(' ').ok_or("words that are repeated")?;
+    for _ in 0..times.parse::<u32>()? {
+        add_words(text, words)?;
+    }
+    Ok(text.push_str(rest)?)
+}
+
+fn add_words(text: &mut String, words: &str) -> Result<(), AllocError> {
+    text.push_str(words)?;
+    text.push_str(" ")
+}
+
+/// The words are a glyph A.
+pub(super) const IN_A: &str = "A: ";
+
+/// The words are a glyph C beside A, of sidebearing 0, and B, of sidebearing 7.
+pub(super) const IN_C: &str = "A: 0 500 hsbw endchar | B: 7 500 hsbw endchar | C: ";
+
+/// The words are a glyph A. Subr 4 has seven points of a flex, each after a move by 1 to the right, and Subr 5 has one.
+pub(super) const WITH_POINTS: &str = "\
+4: {7 1 hmoveto 0 2 callothersubr} return |\
+5: 1 hmoveto 0 2 callothersubr return |\
+A: ";
+
+/// The words are a glyph A. Subrs 4 and 5 have 94 stems each, from 0 to 94, each of them a unit wide and right above
+/// the one before.
+pub(super) const WITH_MANY_STEMS: &str = "\
 3: return |\
 4: 0 1 hstem 1 1 hstem 2 1 hstem 3 1 hstem 4 1 hstem 5 1 hstem 6 1 hstem 7 1 hstem 8 1 hstem \
 9 1 hstem 10 1 hstem 11 1 hstem 12 1 hstem 13 1 hstem 14 1 hstem 15 1 hstem 16 1 hstem 17 1 hstem \
@@ -76,21 +115,14 @@ pub(super) const MANY_STEMS: &str = "\
 63 1 vstem 64 1 vstem 65 1 vstem 66 1 vstem 67 1 vstem 68 1 vstem 69 1 vstem 70 1 vstem 71 1 vstem \
 72 1 vstem 73 1 vstem 74 1 vstem 75 1 vstem 76 1 vstem 77 1 vstem 78 1 vstem 79 1 vstem 80 1 vstem \
 81 1 vstem 82 1 vstem 83 1 vstem 84 1 vstem 85 1 vstem 86 1 vstem 87 1 vstem 88 1 vstem 89 1 vstem \
-90 1 vstem 91 1 vstem 92 1 vstem 93 1 vstem return";
+90 1 vstem 91 1 vstem 92 1 vstem 93 1 vstem return |\
+A: ";
 
-/// Subr 0 is 99,987 steps and a return. Subr 5 is ten times dotsection, and Subrs 4, 3 and 2 call the next one ten
-/// times.
-pub(super) const LONG: &str = "\
-0: 2 callsubr 2 callsubr 2 callsubr 2 callsubr 2 callsubr 2 callsubr 2 callsubr \
-3 callsubr 3 callsubr 3 callsubr 3 callsubr 4 callsubr 4 callsubr 4 callsubr 4 callsubr 4 callsubr \
-4 callsubr 4 callsubr 4 callsubr 4 callsubr 5 callsubr 5 callsubr 5 callsubr 5 callsubr 5 callsubr \
-5 callsubr 5 callsubr 5 callsubr 5 callsubr dotsection dotsection dotsection dotsection dotsection \
-dotsection dotsection dotsection dotsection dotsection return |\
-2: 3 callsubr 3 callsubr 3 callsubr 3 callsubr 3 callsubr 3 callsubr 3 callsubr 3 callsubr \
-3 callsubr 3 callsubr return |\
-3: 4 callsubr 4 callsubr 4 callsubr 4 callsubr 4 callsubr 4 callsubr 4 callsubr 4 callsubr \
-4 callsubr 4 callsubr return |\
-4: 5 callsubr 5 callsubr 5 callsubr 5 callsubr 5 callsubr 5 callsubr 5 callsubr 5 callsubr \
-5 callsubr 5 callsubr return |\
-5: dotsection dotsection dotsection dotsection dotsection \
-dotsection dotsection dotsection dotsection dotsection return";
+/// The words are glyphs. Subr 0 is 99,987 steps and a return. Subr 5 is ten times dotsection, and Subrs 4, 3 and 2 call
+/// the next one ten times.
+pub(super) const WITH_LONG_SUBRS: &str = "\
+0: {7 2 callsubr} {4 3 callsubr} {9 4 callsubr} {9 5 callsubr} {10 dotsection} return |\
+2: {10 3 callsubr} return |\
+3: {10 4 callsubr} return |\
+4: {10 5 callsubr} return |\
+5: {10 dotsection} return |";

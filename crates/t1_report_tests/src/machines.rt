@@ -3,11 +3,12 @@
 
 ghost use Rattle.std.specs.Prelude.{◌<◌, length};
 
+use crate::answers::{Asked, answer_to, assert_answer};
 use std::alloc::{AllocError, Global};
 use std::test::Fail;
 use t1_char::{Edition, Machine, Step, Turn, expand};
-use t1_font::{Font, OpenFont};
-use t1_samples::{Charstrings, FontFile, Sample, TRAILER, font_of};
+use t1_font::Font;
+use t1_samples::{Charstrings, FontFile, Sample, TRAILER};
 
 /// For each glyph of a font: the machine's steps are those of the list, and then it ends, or returns the limit.
 pub(super) fn assert_same_steps(alloc: Global, font: &Font<'_>) -> Result<(), Fail> {
@@ -24,14 +25,12 @@ fn has_same_steps(alloc: Global, font: &Font<'_>, glyph: usize) -> Result<bool, 
     requires { glyph < length font.now.glyphs }
 {
     let steps = expand(alloc, font, glyph, Edition::One)?;
-    Ok(has_steps(
-        Machine::start(&*font, glyph, Edition::One),
-        steps.as_slice(),
-    ))
+    let mut machine = Machine::start(&*font, glyph, Edition::One);
+    Ok(has_steps(&mut machine, steps.as_slice()))
 }
 
 /// Whether these are the machine's steps up to the first past the limit.
-fn has_steps(mut machine: Machine<'_>, steps: &[Step]) -> bool {
+fn has_steps(machine: &mut Machine<'_>, steps: &[Step]) -> bool {
     for listed in steps {
         if !is_returned(machine.step(), listed) {
             return false;
@@ -70,11 +69,12 @@ enum Kind {
     DigitInFront,
 }
 
-const KINDS: &[Kind] = &[
-    Kind::Pfb,
-    Kind::PfbWithoutEnd,
-    Kind::PfaHexadecimal,
-    Kind::DigitInFront,
+/// Kinds of files, and the faults of a font in each.
+const KINDS: &[(Kind, &str)] = &[
+    (Kind::Pfb, ""),
+    (Kind::PfbWithoutEnd, "file 0 F01"),
+    (Kind::PfaHexadecimal, ""),
+    (Kind::DigitInFront, ""),
 ];
 
 /// A file of such a kind, of these texts.
@@ -104,18 +104,17 @@ fn font_in(alloc: Global, kind: Kind) -> Result<Vec<u8>, AllocError> {
     file_of(alloc, clear.as_slice(), private.as_slice(), kind)
 }
 
-/// The same of the font of a file.
-fn assert_same_steps_in(alloc: Global, bytes: &[u8]) -> Result<(), Fail> {
-    let mut file = OpenFont::open(alloc, bytes)?;
-    let font = font_of(alloc, &mut file)?;
-    assert_same_steps(alloc, &font)
+/// The faults of a font in a file of such a kind.
+fn faults_in(alloc: Global, kind: Kind) -> Result<String, Fail> {
+    let file = font_in(alloc, kind)?;
+    answer_to(alloc, file.as_slice(), "", Asked::Faults)
 }
 
 #[test]
 fn fonts_in_each_kind_of_file(rt: HostRuntime) -> Result<(), Fail> {
-    for kind in KINDS {
-        let bytes = font_in(rt.alloc(), *kind)?;
-        assert_same_steps_in(rt.alloc(), bytes.as_slice())?;
+    for (kind, faults) in KINDS {
+        let found = faults_in(rt.alloc(), *kind);
+        assert_answer(&rt, found, faults, Asked::Faults, "a kind of file", "")?;
     }
     Ok(())
 }

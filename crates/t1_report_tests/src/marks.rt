@@ -1,121 +1,155 @@
-//! Marks at a fault, between places where none is, and past every unit, step and rule. No chapter of the
+//! Walks from marks at a fault, between places where none is, and past every unit, step and rule. No chapter of the
 //! standard has marks.
 
-ghost use Rattle.t1_rules.specs.Components.{AreOf};
-
-use crate::walks::FOUR_FAULTS;
-use std::alloc::{AllocError, Global};
+use crate::answers::{Asked, Case, assert_after, assert_cases};
+use crate::walks::Place;
+use std::alloc::Global;
+use std::process::Abort;
 use std::test::Fail;
-use t1_char::Edition;
-use t1_font::{Font, OpenFont, Unread};
-use t1_report::{Fault, Mark, Waivers, Walk};
-use t1_rules::{Sidebearings, rule_code};
-use t1_samples::{Sample, font_of, opened};
+
+/// A glyph of five steps and four faults.
+const FOUR_FAULTS: &str = "A: 32001 0 hmoveto closepath endchar";
+
+/// A font whose glyph A is empty.
+const EMPTY: &str = "A:";
+
+/// A font whose glyph A takes more than 10^20 steps, of which 100,001 are looked at, the last of them in the last Subr.
+pub(super) const TEN_SUBRS: &str = "\
+subrs: /Subrs 10 array | \
+0: {100 1 callsubr} return | 1: {100 2 callsubr} return | 2: {100 3 callsubr} return | \
+3: {100 4 callsubr} return | 4: {100 5 callsubr} return | 5: {100 6 callsubr} return | \
+6: {100 7 callsubr} return | 7: {100 8 callsubr} return | 8: {100 9 callsubr} return | \
+9: {100 dotsection} return | A: 0 500 hsbw 0 callsubr endchar";
+
+/// Six answers after marks, each with how often steps were requested: from the mark's glyph on, and for the waivers from
+/// the mark's on. Steps are requested five times for .notdef, and 100,001 times for a glyph whose calls go on after the
+/// limit.
+const TURNS: &[Case] = &[
+    (
+        FOUR_FAULTS,
+        "",
+        Asked::Turns(0, (0, 0, 0)),
+        "1 C05 8, 2 C07 8, 3 W01 8, 4 P03 9, none 11, none 11, ",
+    ),
+    (
+        FOUR_FAULTS,
+        "",
+        Asked::Turns(0, (2, 3, 31)),
+        "1 C07 3, 2 W01 3, 3 P03 4, none 6, none 6, none 6, ",
+    ),
+    (
+        FOUR_FAULTS,
+        "",
+        Asked::Turns(2, (2, 3, 32)),
+        "3 W01 3, 4 P03 4, none 6, none 6, none 6, none 6, ",
+    ),
+    (
+        FOUR_FAULTS,
+        "",
+        Asked::Turns(u64::MAX, (2, 3, 41)),
+        "18446744073709551615 P03 4, none 6, none 6, none 6, none 6, none 6, ",
+    ),
+    (
+        FOUR_FAULTS,
+        "",
+        Asked::Turns(7, (4_000_000_000, 0, 0)),
+        "none 0, none 0, none 0, none 0, none 0, none 0, ",
+    ),
+    (
+        FOUR_FAULTS,
+        "",
+        Asked::Turns(0, (1, 4_000_000_000, 255)),
+        "1 C05 8, 2 C07 8, 3 W01 8, 4 P03 9, none 11, none 11, ",
+    ),
+    (
+        FOUR_FAULTS,
+        "",
+        Asked::Turns(0, (0, 4_000_000_000, 255)),
+        "1 C05 8, 2 C07 8, 3 W01 8, 4 P03 9, none 11, none 11, ",
+    ),
+    (
+        EMPTY,
+        "A GE01\nA C05\nB C05\nA C05\n",
+        Asked::Turns(1, (3, 2, 70)),
+        "2 U01 2, none 2, none 2, none 2, none 2, none 2, ",
+    ),
+    (
+        EMPTY,
+        "A GE01\nA C05\nB C05\nA C05\n",
+        Asked::Turns(0, (3, 2, 69)),
+        "1 U01 2, 2 U01 2, none 2, none 2, none 2, none 2, ",
+    ),
+    (
+        EMPTY,
+        "A GE01\nA C05\nB C05\nA C05\n",
+        Asked::Turns(5, (3, 0, 0)),
+        "6 U01 3, 7 U01 3, none 3, none 3, none 3, none 3, ",
+    ),
+    (
+        EMPTY,
+        "A GE01\nA C05\nB C05\nA C05\n",
+        Asked::Turns(5, (3, 4, 0)),
+        "none 0, none 0, none 0, none 0, none 0, none 0, ",
+    ),
+    (
+        EMPTY,
+        "A GE01\nA C05\nB C05\nA C05\n",
+        Asked::Turns(5, (4, 0, 0)),
+        "none 0, none 0, none 0, none 0, none 0, none 0, ",
+    ),
+    (
+        EMPTY,
+        "A GE01\n",
+        Asked::Turns(7, (2, 1, 39)),
+        "none 3, none 3, none 3, none 3, none 3, none 3, ",
+    ),
+    (
+        EMPTY,
+        "A C05\n",
+        Asked::Turns(0, (0, 0, 0)),
+        "1 GE01 6, 2 U01 9, none 9, none 9, none 9, none 9, ",
+    ),
+    (
+        TEN_SUBRS,
+        "",
+        Asked::Turns(0, (0, 0, 0)),
+        "1 L01 100006, none 100006, none 100006, none 100006, none 100006, none 100006, ",
+    ),
+    (
+        TEN_SUBRS,
+        "",
+        Asked::Turns(0, (2, 100_001, 68)),
+        "1 L01 100001, none 100001, none 100001, none 100001, none 100001, none 100001, ",
+    ),
+    (
+        TEN_SUBRS,
+        "",
+        Asked::Turns(1, (2, 100_001, 69)),
+        "none 100001, none 100001, none 100001, none 100001, none 100001, none 100001, ",
+    ),
+];
+
+#[test]
+fn walks_from_any_mark(rt: HostRuntime) -> Result<(), Fail> {
+    assert_cases(&rt, rt.alloc(), TURNS)
+}
 
 /// A font of seven faults. It has Z07 of its BlueValues and Z01 of its StdHW; GE01 is of the empty glyph B. Glyph
 /// A, which is unit 2 and has five steps, has C05, C07, W01 and P03. The glyph .notdef has four steps.
-fn seven_faults(alloc: Global) -> Result<OpenFont, Unread> {
-    let sample = Sample::new(alloc)?
-        .key(b"/BlueValues [0 26] def /StdHW 30 def")?
-        .glyph(b"A", FOUR_FAULTS)?
-        .glyph(b"B", b"")?;
-    opened(alloc, &sample)
-}
+const SEVEN_FAULTS: &str = "\
+key: /BlueValues [0 26] def /StdHW 30 def | A: 32001 0 hmoveto closepath endchar | B:";
 
-/// A unit, a step, and the number of a rule.
-type Place = (u32, u32, u8);
-
-/// The mark of a place.
-fn mark_at(number: u64, place: Place) -> Mark {
-    let (unit, step, rule) = place;
-    Mark {
-        number,
-        unit,
-        step,
-        rule,
-    }
-}
-
-/// Adds the rule of a walk's next fault, or `none`, and the mark after it.
-fn push_answer(alloc: Global, text: &mut String, walk: &mut Walk<'_>) -> Result<(), AllocError> {
-    text.push_str(code_of(walk.next()))?;
-    push_mark(alloc, text, walk.mark())
-}
-
-/// The code of a fault's rule, or `none`.
-fn code_of(answer: Option<Fault>) -> &'static str {
-    match answer {
-        Some(fault) => rule_code(fault.rule),
-        None => "none",
-    }
-}
-
-/// Adds a mark.
-fn push_mark(alloc: Global, text: &mut String, mark: Mark) -> Result<(), AllocError> {
-    let Mark {
-        number,
-        unit,
-        step,
-        rule,
-    } = mark;
-    let words = format!(in alloc; " {number} {unit} {step} {rule}, ")?;
-    text.push_str(words.as_str())
-}
-
-/// Two answers of a walk.
-fn two_answers<'a>(
+/// The first answers after a mark of the font of seven faults, each with the mark after it.
+fn assert_marks(
+    rt: &impl Abort,
     alloc: Global,
-    font: &'a Font<'a>,
-    sidebearings: &'a Sidebearings,
-    mark: Mark,
-) -> Result<String, AllocError>
-    requires { AreOf font.now sidebearings.now }
-{
-    let waivers = Waivers::none();
-    let mut walk = Walk::resume(&*font, &*sidebearings, &waivers, mark);
-    let mut text = String::new(alloc);
-    push_answer(alloc, &mut text, &mut walk)?;
-    push_answer(alloc, &mut text, &mut walk)?;
-    Ok(text)
-}
-
-/// Two answers after a mark.
-fn two_answers_after(alloc: Global, font: &Font<'_>, mark: Mark) -> Result<String, AllocError> {
-    let sidebearings = Sidebearings::prepare(alloc, font, Edition::One)?;
-    two_answers(alloc, &*font, &sidebearings, mark)
-}
-
-/// Whether a walk returns no fault in three calls, and keeps its mark.
-fn returns_nothing<'a>(font: &'a Font<'a>, sidebearings: &'a Sidebearings, mark: Mark) -> bool
-    requires { AreOf font.now sidebearings.now }
-{
-    let waivers = Waivers::none();
-    let mut walk = Walk::resume(&*font, &*sidebearings, &waivers, mark);
-    let mut nothing = walk.mark() == mark;
-    for _call in 0..3 {
-        nothing = nothing && walk.next().is_none() && walk.mark() == mark;
-    }
-    nothing
-}
-
-/// Whether no fault is after a mark.
-fn is_last(alloc: Global, font: &Font<'_>, mark: Mark) -> Result<bool, AllocError> {
-    let sidebearings = Sidebearings::prepare(alloc, font, Edition::One)?;
-    Ok(returns_nothing(&*font, &sidebearings, mark))
-}
-
-/// The two answers after a mark, of the font of seven faults.
-fn answers_of_seven(alloc: Global, mark: Mark) -> Result<String, Fail> {
-    let mut file = seven_faults(alloc)?;
-    let font = font_of(alloc, &mut file)?;
-    Ok(two_answers_after(alloc, &font, mark)?)
-}
-
-/// Whether no fault is after a mark, of the font of seven faults.
-fn is_last_of_seven(alloc: Global, mark: Mark) -> Result<bool, Fail> {
-    let mut file = seven_faults(alloc)?;
-    let font = font_of(alloc, &mut file)?;
-    Ok(is_last(alloc, &font, mark)?)
+    number: u64,
+    place: Place,
+    count: u32,
+    want: &str,
+) -> Result<(), Fail> {
+    let asked = Asked::Marks(number, place, count);
+    assert_after(rt, alloc, SEVEN_FAULTS, "", asked, want)
 }
 
 /// Places, and the two answers after the mark of each with number 5. The last step of the font's last key
@@ -182,8 +216,7 @@ const PLACES: &[(&[Place], &str)] = &[
 fn walks_from_any_place(rt: HostRuntime) -> Result<(), Fail> {
     for (places, want) in PLACES {
         for place in places.iter() {
-            let found = answers_of_seven(rt.alloc(), mark_at(5, *place))?;
-            assert_eq!(rt; found.as_str(), *want, "after {place:?}");
+            assert_marks(&rt, rt.alloc(), 5, *place, 2, want)?;
         }
     }
     Ok(())
@@ -209,8 +242,7 @@ const NUMBERS: &[(u64, &str)] = &[
 #[test]
 fn walks_from_any_number(rt: HostRuntime) -> Result<(), Fail> {
     for (number, want) in NUMBERS {
-        let found = answers_of_seven(rt.alloc(), mark_at(*number, (2, 4, 44)))?;
-        assert_eq!(rt; found.as_str(), *want, "after {number}");
+        assert_marks(&rt, rt.alloc(), *number, (2, 4, 44), 2, want)?;
     }
     Ok(())
 }
@@ -240,12 +272,19 @@ const PAST: &[Place] = &[
 /// Numbers of the marks there.
 const MARK_NUMBERS: &[u64] = &[0, 7, u64::MAX];
 
+/// After such a mark no fault is returned, three times, and the mark stays.
+fn assert_last(rt: &impl Abort, alloc: Global, number: u64, place: Place) -> Result<(), Fail> {
+    let (unit, step, rule) = place;
+    let none = format!(in alloc; "none {number} {unit} {step} {rule}, ")?;
+    let want = format!(in alloc; "{none}{none}{none}")?;
+    assert_marks(rt, alloc, number, place, 3, want.as_str())
+}
+
 #[test]
 fn walks_from_past_the_last_fault(rt: HostRuntime) -> Result<(), Fail> {
     for place in PAST {
         for number in MARK_NUMBERS {
-            let mark = mark_at(*number, *place);
-            assert!(rt; is_last_of_seven(rt.alloc(), mark)?, "{mark:?}");
+            assert_last(&rt, rt.alloc(), *number, *place)?;
         }
     }
     Ok(())

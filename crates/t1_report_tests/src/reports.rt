@@ -4,27 +4,25 @@ ghost use Rattle.std.specs.Prelude.{◌≡◌, true};
 ghost use Rattle.t1_report.specs.Faults.{fault_value};
 ghost use Rattle.t1_report.specs.Lines.{IsInFont};
 
-use crate::fonts::{POINTS, with_glyphs};
 use crate::machines::assert_same_steps;
 use crate::walks::assert_walks;
 use std::alloc::{AllocError, Global};
-use std::process::Abort;
 use std::test::Fail;
 use t1_char::Edition;
-use t1_font::{Font, OpenFont};
+use t1_font::Font;
 use t1_io::{Out, Sink};
 use t1_report::{Fault, Waivers, report, write_fault};
 use t1_rules::{Rule, rule_text};
-use t1_samples::{Sample, add_fault, font_of};
+use t1_samples::add_fault;
 
-/// Whether a fault has a line: it is at a key of the font, in a glyph, or is that of a waiver.
+/// Whether a fault has a line: it is at a key of the font, with no path, in a glyph, or is that of a waiver.
 fn has_line(font: &Font<'_>, waivers: &Waivers<'_>, fault: &Fault) -> bool
     ensures { result ≡ true → IsInFont font.now waivers.now (fault_value fault.now) }
 {
     let unit = fault.unit as usize;
     let glyphs = font.glyphs().len();
     if unit == 0 {
-        fault.step / 65_536 <= 21
+        fault.step / 65_536 <= 21 && fault.path.is_empty()
     } else if unit > glyphs {
         unit == glyphs + 1
             && matches!(fault.rule, Rule::U01)
@@ -167,116 +165,10 @@ const LONG: usize = 3_200;
 
 /// The faults of the report of a file's font; a machine executes its glyphs as the report's lists say, and walks
 /// give the report of a short file, from each mark on.
-fn reported(alloc: Global, font: &Font<'_>, length: usize) -> Result<Vec<Fault>, Fail> {
+pub(super) fn reported(alloc: Global, font: &Font<'_>, length: usize) -> Result<Vec<Fault>, Fail> {
     assert_same_steps(alloc, font)?;
     if length < LONG {
         assert_walks(alloc, font)?;
     }
     Ok(report(alloc, font, &Waivers::none(), Edition::One)?)
-}
-
-/// The faults of a file's font in short.
-pub(super) fn faults_of_file(alloc: Global, bytes: &[u8]) -> Result<String, Fail> {
-    let mut file = OpenFont::open(alloc, bytes)?;
-    let font = font_of(alloc, &mut file)?;
-    reported_in_short(alloc, &font, bytes.len())
-}
-
-/// The faults of the font of a file of that length in short.
-fn reported_in_short(alloc: Global, font: &Font<'_>, length: usize) -> Result<String, Fail> {
-    let faults = reported(alloc, font, length)?;
-    in_short(alloc, font, &Waivers::none(), faults.as_slice())
-}
-
-/// The faults of a sample in short.
-pub(super) fn faults_of_sample(alloc: Global, sample: &Sample) -> Result<String, Fail> {
-    faults_of_file(alloc, sample.pfb()?.as_slice())
-}
-
-/// The lines of a sample's report.
-pub(super) fn lines_of_sample(alloc: Global, sample: &Sample) -> Result<String, Fail> {
-    lines_of_file(alloc, sample.pfb()?.as_slice())
-}
-
-fn lines_of_file(alloc: Global, bytes: &[u8]) -> Result<String, Fail> {
-    let mut file = OpenFont::open(alloc, bytes)?;
-    let font = font_of(alloc, &mut file)?;
-    reported_lines(alloc, &font, bytes.len())
-}
-
-/// The lines of the report of the font of a file of that length.
-fn reported_lines(alloc: Global, font: &Font<'_>, length: usize) -> Result<String, Fail> {
-    let faults = reported(alloc, font, length)?;
-    lines_of(alloc, font, &Waivers::none(), faults.as_slice())
-}
-
-/// What is in a font before a row's words: Subrs and glyphs, up to the name of the last glyph.
-#[derive(Clone, Copy)]
-pub(super) struct Front {
-    pub(super) subrs: &'static str,
-    pub(super) glyphs: &'static str,
-}
-
-/// The words are glyphs, each with its name.
-pub(super) const NO_FRONT: Front = Front {
-    subrs: "",
-    glyphs: "",
-};
-
-/// The words are a glyph A.
-pub(super) const IN_A: Front = Front {
-    subrs: "",
-    glyphs: "A: ",
-};
-
-/// The words are a glyph C beside A, of sidebearing 0, and B, of sidebearing 7.
-pub(super) const IN_C: Front = Front {
-    subrs: "",
-    glyphs: "A: 0 500 hsbw endchar | B: 7 500 hsbw endchar | C: ",
-};
-
-/// The words are a glyph A that may call the points of a flex.
-pub(super) const WITH_POINTS: Front = Front {
-    subrs: POINTS,
-    glyphs: "A: ",
-};
-
-/// The faults of a font with these words after a prefix.
-fn faults_after(alloc: Global, front: Front, words: &str) -> Result<String, Fail> {
-    let before = front.glyphs;
-    let glyphs = format!(in alloc; "{before}{words}")?;
-    faults_of_font(alloc, front.subrs, glyphs.as_str())
-}
-
-/// The faults of a font with Subrs and glyphs.
-fn faults_of_font(alloc: Global, subrs: &str, glyphs: &str) -> Result<String, Fail> {
-    let sample = with_glyphs(alloc, subrs, glyphs)?;
-    faults_of_sample(alloc, &sample)
-}
-
-/// Fonts with words after the same prefix break the rules beside them.
-pub(super) fn assert_faults(
-    rt: &impl Abort,
-    alloc: Global,
-    front: Front,
-    cases: &[(&str, &str)],
-) -> Result<(), Fail> {
-    for (words, faults) in cases {
-        let found = faults_after(alloc, front, words)?;
-        assert_eq!(rt; found.as_str(), *faults, "{words}");
-    }
-    Ok(())
-}
-
-/// Fonts with Subrs and glyphs break the rules beside them.
-pub(super) fn assert_fonts(
-    rt: &impl Abort,
-    alloc: Global,
-    cases: &[(&str, &str, &str)],
-) -> Result<(), Fail> {
-    for (subrs, glyphs, faults) in cases {
-        let found = faults_of_font(alloc, subrs, glyphs)?;
-        assert_eq!(rt; found.as_str(), *faults, "{subrs} {glyphs}");
-    }
-    Ok(())
 }

@@ -4,13 +4,11 @@
 ghost use Rattle.t1_rules.specs.Components.{AreOf};
 
 use std::alloc::{AllocError, Global};
-use std::process::Abort;
 use std::test::Fail;
 use t1_char::Edition;
-use t1_font::{Font, OpenFont, Unread};
+use t1_font::Font;
 use t1_report::{Fault, Mark, Waivers, Walk, report};
 use t1_rules::{Sidebearings, rule_code};
-use t1_samples::{Sample, font_of, opened};
 
 /// A walk of this font returns its report, and one that is resumed after each of its faults returns the rest.
 pub(super) fn assert_walks(alloc: Global, font: &Font<'_>) -> Result<(), Fail> {
@@ -43,7 +41,7 @@ fn returns_all<'a>(font: &'a Font<'a>, sidebearings: &'a Sidebearings, faults: &
 }
 
 /// The mark before all faults.
-pub(super) const FIRST: Mark = Mark {
+const FIRST: Mark = Mark {
     number: 0,
     unit: 0,
     step: 0,
@@ -90,22 +88,22 @@ pub(super) fn walked(
     all_returned(alloc, &*font, &sidebearings, &*waivers)
 }
 
-/// The faults of a font's report, which a walk returns too, and how often the walk requested steps.
+/// The faults of a font's report, which a walk returns too.
 pub(super) fn both(
     alloc: Global,
     font: &Font<'_>,
     waivers: &Waivers<'_>,
     edition: Edition,
-) -> Result<(Vec<Fault>, u64), Fail> {
+) -> Result<Vec<Fault>, Fail> {
     let faults = report(alloc, font, waivers, edition)?;
-    let (given, turns) = walked(alloc, font, waivers, edition)?;
+    let (given, _turns) = walked(alloc, font, waivers, edition)?;
     if given.as_slice() != faults.as_slice() {
         return Err(Fail::from("a walk isn't the report"));
     }
-    Ok((faults, turns))
+    Ok(faults)
 }
 
-/// The faults up to the answer that there is none more, which is returned again.
+/// The faults up to the answer that there is none more, which is returned again, and how often steps were requested.
 fn all_returned<'a>(
     alloc: Global,
     font: &'a Font<'a>,
@@ -118,6 +116,12 @@ fn all_returned<'a>(
     if walk.mark() != FIRST || walk.turns() != 0 {
         return Err(Fail::from("a walk doesn't begin before all faults"));
     }
+    let faults = returned_by(alloc, &mut walk);
+    with_turns(faults, walk.next().is_some(), walk.turns())
+}
+
+/// The faults of a walk up to the answer that there is none more.
+fn returned_by(alloc: Global, walk: &mut Walk<'_>) -> Result<Vec<Fault>, AllocError> {
     let mut faults = Vec::new(alloc);
     for _call in 0..=MOST_FAULTS {
         match walk.next() {
@@ -125,10 +129,19 @@ fn all_returned<'a>(
             None => break,
         }
     }
-    if walk.next().is_some() {
-        return Err(Fail::from("a walk returns more faults, or one after the last"));
+    Ok(faults)
+}
+
+/// Faults and how often steps were requested, unless there are more.
+pub(super) fn with_turns(
+    faults: Result<Vec<Fault>, AllocError>,
+    more: bool,
+    turns: u64,
+) -> Result<(Vec<Fault>, u64), Fail> {
+    if more {
+        return Err(Fail::from("more faults, or one after the last"));
     }
-    Ok((faults, walk.turns()))
+    Ok((faults?, turns))
 }
 
 /// Whether just these faults are after a mark.
@@ -142,6 +155,10 @@ fn returns_faults<'a>(
 {
     let waivers = Waivers::none();
     let mut walk = Walk::resume(&*font, &*sidebearings, &waivers, mark);
+    returns_just(&mut walk, faults)
+}
+
+fn returns_just(walk: &mut Walk<'_>, faults: &[Fault]) -> bool {
     for fault in faults {
         if walk.next().as_ref() != Some(fault) {
             return false;
@@ -150,151 +167,134 @@ fn returns_faults<'a>(
     walk.next().is_none() && walk.next().is_none()
 }
 
-/// The glyph of the number 32001, 0, hmoveto, closepath, endchar.
-pub(super) const FOUR_FAULTS: &[u8] = b"\xff\x00\x00\x7d\x01\x8b\x16\x09\x0e";
+/// A unit, a step, and the number of a rule.
+pub(super) type Place = (u32, u32, u8);
 
-/// Marks, the faults after them, and how often steps were requested after each.
-const MARKS: &[(Mark, &str)] = &[
-    (
-        FIRST,
-        "1 C05 8, 2 C07 8, 3 W01 8, 4 P03 9, none 11, none 11, ",
-    ),
-    (
-        Mark {
-            number: 0,
-            unit: 2,
-            step: 3,
-            rule: 31,
-        },
-        "1 C07 3, 2 W01 3, 3 P03 4, none 6, none 6, none 6, ",
-    ),
-    (
-        Mark {
-            number: 2,
-            unit: 2,
-            step: 3,
-            rule: 32,
-        },
-        "3 W01 3, 4 P03 4, none 6, none 6, none 6, none 6, ",
-    ),
-    (
-        Mark {
-            number: u64::MAX,
-            unit: 2,
-            step: 3,
-            rule: 41,
-        },
-        "18446744073709551615 P03 4, none 6, none 6, none 6, none 6, none 6, ",
-    ),
-    (
-        Mark {
-            number: 7,
-            unit: 4_000_000_000,
-            step: 0,
-            rule: 0,
-        },
-        "none 0, none 0, none 0, none 0, none 0, none 0, ",
-    ),
-    (
-        Mark {
-            number: 0,
-            unit: 1,
-            step: 4_000_000_000,
-            rule: 255,
-        },
-        "1 C05 8, 2 C07 8, 3 W01 8, 4 P03 9, none 11, none 11, ",
-    ),
-    (
-        Mark {
-            number: 0,
-            unit: 0,
-            step: 4_000_000_000,
-            rule: 255,
-        },
-        "1 C05 8, 2 C07 8, 3 W01 8, 4 P03 9, none 11, none 11, ",
-    ),
-];
+/// The mark of a number and a place.
+pub(super) fn mark_at(number: u64, place: Place) -> Mark {
+    let (unit, step, rule) = place;
+    Mark {
+        number,
+        unit,
+        step,
+        rule,
+    }
+}
 
-/// Six answers of a walk, each with how often steps were requested.
-pub(super) fn six_answers<'a>(
+/// What is written of the answers of a walk.
+#[derive(Clone, Copy)]
+pub(super) enum Shown {
+    /// A fault's number, its rule, and how often steps were requested.
+    Turns,
+    /// A fault's rule, and the mark after it.
+    Marks,
+}
+
+/// So many answers of a walk after a mark.
+pub(super) fn answers_after(
+    alloc: Global,
+    font: &Font<'_>,
+    waivers: &Waivers<'_>,
+    mark: Mark,
+    shown: Shown,
+    count: u32,
+) -> Result<String, Fail> {
+    let sidebearings = Sidebearings::prepare(alloc, font, Edition::One)?;
+    answers_by(alloc, &*font, &sidebearings, &*waivers, mark, shown, count)
+}
+
+fn answers_by<'a>(
     alloc: Global,
     font: &'a Font<'a>,
     sidebearings: &'a Sidebearings,
     waivers: &'a Waivers<'a>,
     mark: Mark,
-) -> Result<String, AllocError>
+    shown: Shown,
+    count: u32,
+) -> Result<String, Fail>
     requires { AreOf font.now sidebearings.now }
 {
     let mut walk = Walk::resume(font, sidebearings, waivers, mark);
+    match walk.mark() == mark {
+        true => Ok(answers_of(alloc, &mut walk, shown, count)?),
+        false => Err(Fail::from("another mark")),
+    }
+}
+
+fn answers_of(
+    alloc: Global,
+    walk: &mut Walk<'_>,
+    shown: Shown,
+    count: u32,
+) -> Result<String, AllocError> {
     let mut text = String::new(alloc);
-    for _call in 0..6 {
-        push_answer(alloc, &mut text, walk.next())?;
-        push_turns(alloc, &mut text, walk.turns())?;
+    for _call in 0..count {
+        push_answer(alloc, &mut text, walk, shown)?;
     }
     Ok(text)
 }
 
-/// Adds a fault's number and rule, or `none`.
-fn push_answer(alloc: Global, text: &mut String, answer: Option<Fault>) -> Result<(), AllocError> {
-    match answer {
-        Some(fault) => push_fault(alloc, text, fault.number, rule_code(fault.rule)),
-        None => text.push_str("none "),
+/// Adds the next answer.
+fn push_answer(
+    alloc: Global,
+    text: &mut String,
+    walk: &mut Walk<'_>,
+    shown: Shown,
+) -> Result<(), AllocError> {
+    let fault = walk.next();
+    match shown {
+        Shown::Turns => push_turns(alloc, text, fault, walk.turns()),
+        Shown::Marks => push_mark(alloc, text, fault, walk.mark()),
     }
 }
 
-fn push_fault(alloc: Global, text: &mut String, number: u64, code: &str) -> Result<(), AllocError> {
-    let fault = format!(in alloc; "{number} {code} ")?;
-    text.push_str(fault.as_str())
-}
-
-/// Adds how often steps were requested.
-fn push_turns(alloc: Global, text: &mut String, turns: u64) -> Result<(), AllocError> {
-    let count = format!(in alloc; "{turns}, ")?;
-    text.push_str(count.as_str())
-}
-
-/// Six answers after a mark, each with how often steps were requested.
-pub(super) fn six_answers_in(
+/// Adds a fault's number and rule, or `none`, and how often steps were requested.
+fn push_turns(
     alloc: Global,
-    font: &Font<'_>,
+    text: &mut String,
+    fault: Option<Fault>,
+    turns: u64,
+) -> Result<(), AllocError> {
+    if let Some(fault) = &fault {
+        push_number(alloc, text, fault.number)?;
+        text.push_str(" ")?;
+    }
+    text.push_str(code_of(&fault))?;
+    text.push_str(" ")?;
+    push_number(alloc, text, turns)?;
+    text.push_str(", ")
+}
+
+/// Adds a number in digits.
+fn push_number(alloc: Global, text: &mut String, number: u64) -> Result<(), AllocError> {
+    let digits = format!(in alloc; "{number}")?;
+    text.push_str(digits.as_str())
+}
+
+/// Adds a fault's rule, or `none`, and a mark.
+fn push_mark(
+    alloc: Global,
+    text: &mut String,
+    fault: Option<Fault>,
     mark: Mark,
-) -> Result<String, AllocError> {
-    let sidebearings = Sidebearings::prepare(alloc, font, Edition::One)?;
-    six_answers(alloc, &*font, &sidebearings, &Waivers::none(), mark)
-}
-
-/// The six answers after each mark are those beside it.
-fn assert_answers_in(
-    rt: &impl Abort,
-    alloc: Global,
-    font: &Font<'_>,
-    cases: &[(Mark, &str)],
-) -> Result<(), Fail> {
-    for (mark, want) in cases {
-        let found = six_answers_in(alloc, font, *mark)?;
-        assert_eq!(rt; found.as_str(), *want, "from {mark:?}");
+) -> Result<(), AllocError> {
+    text.push_str(code_of(&fault))?;
+    for number in [
+        mark.number,
+        mark.unit as u64,
+        mark.step as u64,
+        mark.rule as u64,
+    ] {
+        text.push_str(" ")?;
+        push_number(alloc, text, number)?;
     }
-    Ok(())
+    text.push_str(", ")
 }
 
-/// The same of the font of a file.
-pub(super) fn assert_answers(
-    rt: &impl Abort,
-    alloc: Global,
-    file: &mut OpenFont,
-    cases: &[(Mark, &str)],
-) -> Result<(), Fail> {
-    let font = font_of(alloc, file)?;
-    assert_answers_in(rt, alloc, &font, cases)
-}
-
-/// A font with this glyph A.
-pub(super) fn with_glyph(alloc: Global, glyph: &[u8]) -> Result<OpenFont, Unread> {
-    opened(alloc, &Sample::new(alloc)?.glyph(b"A", glyph)?)
-}
-
-#[test]
-fn walks_from_any_mark(rt: HostRuntime) -> Result<(), Fail> {
-    let mut file = with_glyph(rt.alloc(), FOUR_FAULTS)?;
-    assert_answers(&rt, rt.alloc(), &mut file, MARKS)
+/// The code of a fault's rule, or `none`.
+fn code_of(fault: &Option<Fault>) -> &'static str {
+    match fault {
+        Some(fault) => rule_code(fault.rule),
+        None => "none",
+    }
 }

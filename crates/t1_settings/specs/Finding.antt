@@ -4,7 +4,11 @@ use Rattle.std.specs.Global.{Global}
 use Rattle.std.specs.Path.{path_file_name, path_join, path_parent}
 use Rattle.std.specs.Str.{bytes_eq}
 use Rattle.std.specs.declared.vec.Vec.{Vec}
+use Rattle.std.specs.IoError.{error_kind}
+use Rattle.std.specs.declared.io.Error.{Error}
+use Rattle.t1_names.specs.Causes.{cause_of}
 use Rattle.t1_names.specs.Words.{Trims, is_input}
+use Rattle.t1_names.specs.declared.causes.Cause.{Cause}
 use Rattle.t1_settings.specs.declared.finding.Found.{Found}
 use Rattle.t1_settings.specs.declared.finding.Unfound.{Unfound}
 use Rattle.t1_settings.specs.declared.finding.Unfound.TheVariants.{CannotRead, Memory}
@@ -13,18 +17,18 @@ use Rattle.t1_settings.specs.declared.finding.Unfound.TheVariants.{CannotRead, M
 pub record Files : Type 1 where
   -- A file has this text.
   pub Has : List ℕ → List ℕ → Type 0
-  -- It is there, and can't be read.
-  pub CannotRead : List ℕ → Type 0
+  -- It is there, and can't be read for this cause.
+  pub CannotRead : List ℕ → Cause → Type 0
   -- There is no such file.
   pub HasNone : List ℕ → Type 0
   -- A name leads to a folder, or it doesn't.
   pub Leads : List ℕ → Bool → Type 0
 
 -- By what a system says: which names lead to folders, and what reading a file returns, None where there is none.
-abbrev pub files_by : {E : Type 0} → (List ℕ → Bool → Type 0) → (List ℕ → Option (Result (Vec ℕ Global) E) → Type 0) → Files
-files_by {E} Leads Gives = record {
+abbrev pub files_by : (List ℕ → Bool → Type 0) → (List ℕ → Option (Result (Vec ℕ Global) Error) → Type 0) → Files
+files_by Leads Gives = record {
   Has = λ name text. (bytes : Vec ℕ Global) × Gives name (Some (Ok bytes)) × (bytes.items ≡ text);
-  CannotRead = λ name. (error : E) × Gives name (Some (Err error));
+  CannotRead = λ name cause. (error : Error) × Gives name (Some (Err error)) × (cause_of (error_kind error) ≡ cause);
   HasNone = λ name. Gives name None;
   Leads = Leads;
 }
@@ -45,15 +49,15 @@ pub data IsNearest (files : Files) : List ℕ → Option (List ℕ × List ℕ) 
       (folder next : List ℕ) → (found : Option (List ℕ × List ℕ)) → files.HasNone (file_in folder) → above folder ≡ Some next
       → IsNearest files next found → IsNearest files folder found
 
--- The nearest one can't be read.
-pub data IsUnread (files : Files) : List ℕ → List ℕ → Type 0 where
-  here : (folder : List ℕ) → files.CannotRead (file_in folder) → IsUnread files folder (file_in folder)
+-- The nearest one can't be read, for a cause.
+pub data IsUnread (files : Files) : List ℕ → List ℕ → Cause → Type 0 where
+  here : (folder : List ℕ) → (cause : Cause) → files.CannotRead (file_in folder) cause → IsUnread files folder (file_in folder) cause
   higher :
-      (folder next name : List ℕ) → files.HasNone (file_in folder) → above folder ≡ Some next → IsUnread files next name
-      → IsUnread files folder name
+      (folder next name : List ℕ) → (cause : Cause) → files.HasNone (file_in folder) → above folder ≡ Some next → IsUnread files next name cause
+      → IsUnread files folder name cause
 
 abbrev pub IsUnreadOr : Files → List ℕ → Unfound → Type 0
-IsUnreadOr files folder (CannotRead name) = IsUnread files folder (string_bytes name)
+IsUnreadOr files folder (CannotRead name cause) = IsUnread files folder (string_bytes name) cause
 IsUnreadOr files folder Memory = Unit {0}
 
 abbrev pub found_value : Found → List ℕ × List ℕ

@@ -1,5 +1,7 @@
 -- The settings of a run, or what is wrong with them.
 use Rattle.std.specs.Prelude.{◌≡◌, ◌++◌, ℕ, List, Option, None, Some, Ok, Err, codes, decimal, map, string_bytes}
+use Rattle.t1_names.specs.Causes.{cause_text}
+use Rattle.t1_names.specs.declared.causes.Cause.{Cause}
 use Rattle.t1_settings.specs.Finding.{BeginsAt, Files, IsNearest, IsUnread, file_in}
 use Rattle.t1_settings.specs.Keys.{name_of, wanted_of}
 use Rattle.t1_settings.specs.Paths.{setting_below}
@@ -36,8 +38,8 @@ pub data AreSettled (files : Files) (path : Option (List ℕ)) (settings : Optio
 abbrev pub told_text : List ℕ → List ℕ → List ℕ
 told_text name rest = codes "t1check-all: " ++ (name ++ rest)
 
-abbrev pub unread_text : List ℕ → List ℕ
-unread_text name = told_text name (codes " can't be read\n")
+abbrev pub unread_text : List ℕ → Cause → List ℕ
+unread_text name cause = told_text name (codes " can't be read" ++ (cause_text cause ++ codes "\n"))
 
 abbrev pub no_toml_text : List ℕ → ℕ → List ℕ
 no_toml_text name line = told_text name (codes ":" ++ (decimal line ++ codes ": not TOML\n"))
@@ -57,7 +59,8 @@ pub data IsWrongIn (found : List ℕ × List ℕ) (told : List ℕ) : Type 0 whe
 -- The settings can't be read, or something is wrong with them, and this is reported.
 pub data AreUnsettled (files : Files) (path : Option (List ℕ)) (told : List ℕ) : Type 0 where
   unread :
-      (start name : List ℕ) → BeginsAt files path start → IsUnread files start name → told ≡ unread_text name → AreUnsettled files path told
+      (start name : List ℕ) → (cause : Cause) → BeginsAt files path start → IsUnread files start name cause → told ≡ unread_text name cause
+      → AreUnsettled files path told
   wrong_in :
       (start : List ℕ) → (found : List ℕ × List ℕ) → BeginsAt files path start → IsNearest files start (Some found) → IsWrongIn found told
       → AreUnsettled files path told

@@ -6,7 +6,7 @@ ghost use Rattle.t1_settings.specs.Finding.{BeginsAt, IsNearest, IsUnreadOr, abo
 use crate::paths::below;
 use std::alloc::{AllocError, Global};
 use std::path::Path;
-use t1_names::{FileSystem, is_input, trim_word};
+use t1_names::{Cause, FileSystem, is_input, trim_word};
 
 /// A settings file.
 #[derive(Drop)]
@@ -20,8 +20,8 @@ pub struct Found {
 /// Why none was found.
 #[derive(Drop)]
 pub enum Unfound {
-    /// The nearest one, of this name, can't be read.
-    CannotRead(String),
+    /// The nearest one, of this name, can't be read for this cause.
+    CannotRead(String, Cause),
     /// Memory ran out.
     Memory,
 }
@@ -42,7 +42,7 @@ pub fn find_settings<F: FileSystem>(
         };
         match files.text(name.as_str()) {
             Some(Ok(text)) => return found_in(alloc, folder, text),
-            Some(Err(_)) => return Err(Unfound::CannotRead(name)),
+            Some(Err(error)) => return Err(Unfound::CannotRead(name, Cause::of(&error))),
             None => {}
         }
         match above(folder) {

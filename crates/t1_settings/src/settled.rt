@@ -48,7 +48,9 @@ pub fn settings_for<F: FileSystem>(
             Err(unsettled) => Err(unsettled),
         },
         Ok(None) => Ok(None),
-        Err(Unfound::CannotRead(name)) => Err(told(unread_text(alloc, name.as_str()))),
+        Err(Unfound::CannotRead(name, cause)) => {
+            Err(told(unread_text(alloc, name.as_str(), cause)))
+        }
         Err(Unfound::Memory) => Err(Unsettled::Memory),
     }
 }

@@ -5,6 +5,7 @@ ghost use Rattle.t1_settings.specs.Settled.{no_toml_text, told_text, unknown_key
 
 use crate::keys::{Key, wanted_of};
 use std::alloc::{AllocError, Global};
+use t1_names::Cause;
 
 /// A sentence on a settings file.
 fn told_text(alloc: Global, name: &str, rest: &str) -> Result<String, AllocError>
@@ -16,11 +17,14 @@ fn told_text(alloc: Global, name: &str, rest: &str) -> Result<String, AllocError
     Ok(text)
 }
 
-/// It can't be read.
-pub(crate) fn unread_text(alloc: Global, name: &str) -> Result<String, AllocError>
-    ensures { IfOk result (λ text. string_bytes text ≡ unread_text name.now) }
+/// It can't be read, for this cause.
+pub(crate) fn unread_text(alloc: Global, name: &str, cause: Cause) -> Result<String, AllocError>
+    ensures { IfOk result (λ text. string_bytes text ≡ unread_text name.now cause) }
 {
-    told_text(alloc, name, " can't be read\n")
+    let mut rest = String::from_str(alloc, " can't be read")?;
+    rest.push_str(cause.text())?;
+    rest.push_str("\n")?;
+    told_text(alloc, name, rest.as_str())
 }
 
 /// It is no TOML, as is seen in this line.

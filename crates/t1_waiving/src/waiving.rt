@@ -11,12 +11,13 @@ use std::alloc::{AllocError, Global};
 use t1_char::Edition;
 use t1_font::Font;
 use t1_many::{
-    FontFiles, Form, Lost, Recipient, Taken, WaiverFiles, check_all, hand_failure, hand_report,
+    FontError, FontFiles, Form, Lost, Recipient, Taken, WaiverFiles, check_all, hand_failure,
+    hand_report,
 };
 use t1_names::is_input;
 use t1_report::{Waivers, a_font_has_one_report, waivers_leave_out_what_they_say};
 use t1_rules::{Mask, Sidebearings};
-use t1_run::{Failure, Status};
+use t1_run::Status;
 
 /// Reports the lines of these rules, in a form, but those of glyphs: of these it keeps the waivers. Of standard input, beside which none are
 /// written, it reports all.
@@ -61,8 +62,8 @@ impl<F: Form> Recipient for Waiving<F> {
         Ok(hand_report(&mut self.form, name, font, sidebearings, waivers, &outside))
     }
 
-    fn failure(&mut self, name: &str, failure: Failure) -> Taken {
-        hand_failure(&mut self.form, name, failure)
+    fn failure(&mut self, name: &str, error: FontError) -> Taken {
+        hand_failure(&mut self.form, name, error)
     }
 }
 

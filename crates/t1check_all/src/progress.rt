@@ -12,6 +12,10 @@ pub(crate) struct Progress {
     is_terminal: bool,
     /// Whether what is written on the output goes to a terminal too.
     shares_output: bool,
+    /// How many fonts there are, where that is to be shown.
+    fonts: Cell<Option<usize>>,
+    /// How many were begun.
+    begun: Cell<usize>,
     /// Whether the line is shown.
     is_shown: Cell<bool>,
     /// Whether the last that was written on a terminal ended its line.
@@ -25,13 +29,29 @@ impl Progress {
             errors,
             is_terminal: errors.is_terminal(),
             shares_output: out.is_terminal(),
+            fonts: Cell::new(None),
+            begun: Cell::new(0),
             is_shown: Cell::new(false),
             is_at_line: Cell::new(true),
         }
     }
 
+    /// So many fonts are checked from now on, and it is shown how many were begun.
+    pub(crate) fn expect(&self, fonts: usize) {
+        self.fonts.set(Some(fonts));
+    }
+
+    /// A font more is begun.
+    pub(crate) fn begin_font(&self) {
+        let font = self.begun.get().saturating_add(1);
+        self.begun.set(font);
+        if let Some(fonts) = self.fonts.get() {
+            self.show(font, fonts);
+        }
+    }
+
     /// Shows that font `font` of so many is begun, unless a line on a terminal was written in part alone. Where that fails nothing is lost.
-    pub(crate) fn show(&self, font: usize, fonts: usize) {
+    fn show(&self, font: usize, fonts: usize) {
         if !self.is_terminal || (self.shares_output && !self.is_at_line.get()) {
             return;
         }

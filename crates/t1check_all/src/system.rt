@@ -10,28 +10,19 @@ use std::{fs, io};
 use t1_answer_all::FileStore;
 use t1_io::In;
 use t1_many::FontFiles;
-use t1_names::{Entry, FileSystem, Listing, is_font_name};
+use t1_names::{Entry, FileSystem, Listing, is_font_name, is_input};
 
 /// The system's files.
 #[derive(Drop)]
 pub(crate) struct System<'a> {
     rt: &'a HostRuntime,
     progress: &'a Progress,
-    /// How many fonts were begun.
-    begun: usize,
-    /// How many there are, where progress is to be shown.
-    fonts: Option<usize>,
 }
 
 impl<'a> System<'a> {
     /// Before a run.
     pub(crate) fn new(rt: &'a HostRuntime, progress: &'a Progress) -> System<'a> {
-        System {
-            rt,
-            progress,
-            begun: 0,
-            fonts: None,
-        }
+        System { rt, progress }
     }
 }
 
@@ -61,7 +52,7 @@ impl<'a> FileSystem for System<'a> {
     }
 
     fn list_text(&self, name: &str) -> io::Result<Vec<u8>> {
-        if name != "-" {
+        if !is_input(name) {
             return fs::read(self.rt, name);
         }
         let mut text = Vec::new(self.rt.alloc());
@@ -83,10 +74,7 @@ impl<'a> FontFiles for System<'a> {
     } };
 
     fn open_font(&mut self, name: &str) -> io::Result<In<FontReader>> {
-        self.begun = self.begun.saturating_add(1);
-        if let Some(fonts) = self.fonts {
-            self.progress.show(self.begun, fonts);
-        }
+        self.progress.begin_font();
         Ok(In::new(open_font(self.rt, name)?))
     }
 
@@ -107,7 +95,7 @@ impl<'a> FileStore for System<'a> {
     ghost has = { λ _ _ _. Unit {0} };
 
     fn expect(&mut self, fonts: usize) {
-        self.fonts = Some(fonts);
+        self.progress.expect(fonts);
     }
 
     fn replace(&mut self, name: &str, text: &[u8]) -> io::Result<()> {

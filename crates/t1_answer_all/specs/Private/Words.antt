@@ -2,13 +2,13 @@
 use Rattle.std.specs.Prelude.{◌≡◌, ◌+◌, ◌-◌, ◌^◌, ◌++◌, ℕ, List, map, min, string_bytes}
 use Rattle.std.specs.Global.{Global}
 use Rattle.std.specs.List.{AllZip}
-use Rattle.std.specs.declared.io.ErrorKind.{ErrorKind}
 use Rattle.std.specs.declared.vec.Vec.{Vec}
 use Rattle.t1_answer_all.specs.Places.{Texts}
 use Rattle.t1_answer_all.specs.Usage.{unreadable_text}
 use Rattle.t1_answer_all.specs.Words.{undecoded_of, words_of}
 use Rattle.t1_answer_all.specs.declared.words.Words.{Words}
 use Rattle.t1_names.specs.Lists.{unreadable_in, words_in}
+use Rattle.t1_names.specs.declared.causes.Cause.{Cause}
 
 -- The lists have texts, and these are their words after those of the command line.
 pub record AreWordsOf (lists : Texts) (paths files : List (List ℕ)) (words : Words) : Type 0 where
@@ -22,7 +22,7 @@ abbrev pub IsText : Texts → List ℕ → Vec ℕ Global → Type 0
 IsText lists file text = lists.Has file text.items
 
 abbrev pub IsNoText : Texts → List ℕ → List ℕ → Type 0
-IsNoText lists file told = (cause : ErrorKind) × lists.CannotRead file cause × (told ≡ unreadable_text file cause)
+IsNoText lists file told = (cause : Cause) × lists.CannotRead file cause × (told ≡ unreadable_text file cause)
 
 -- The words of one list more.
 pub record AddsList (text : List ℕ) (old new : Words) : Type 0 where

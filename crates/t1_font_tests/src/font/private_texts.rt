@@ -18,6 +18,10 @@ const BROKEN: &[(&str, Unread)] = &[
         "/BlueValues [[[[[[[[[[[[[[[[[[[[[[[[[[[[[[[[[]]]]]]]]]]]]]]]]]]]]]]]]]]]]]]]]]",
         Unread::Unclosed,
     ),
+    (
+        "/MinFeature {{{{{{{{{{{{{{{{{{{{{{{{{{{{{{{{{}}}}}}}}}}}}}}}}}}}}}}}}}}}}}}}}} def",
+        Unread::Unclosed,
+    ),
     ("/FontType (", Unread::Unclosed),
     ("/password (", Unread::Unclosed),
     ("/lenIV (", Unread::Unclosed),

@@ -5,6 +5,7 @@ use Rattle.std.specs.List.{AllByRecursion}
 use Rattle.t1_known.specs.Keys.{has_key, key_of}
 use Rattle.t1_known.specs.Lines.{lines_of}
 use Rattle.t1_known.specs.Reads.{IsLineOf}
+use Rattle.t1_known.specs.declared.known.Line.{Line}
 use Rattle.t1_known.specs.declared.known.NotKnown.{NotKnown}
 use Rattle.t1_known.specs.declared.known.NotKnown.TheVariants.{Memory, NoRow, Twice}
 use Rattle.t1_many.specs.KnownFaults.{IsRow, RowValue}
@@ -39,10 +40,10 @@ pub record IsKnownKey (line : List ℕ) (rows : List RowValue) : Type 0 where
   pub twice : has_key rows (key_of row) ≡ true
 
 -- What becomes of the rows by a line that has to be one.
-abbrev pub Adds : List ℕ → List Entry → List Entry → Result (Unit {0}) NotKnown → Type 0
-Adds line old new (Ok done) = KeepsLine line old new
-Adds line old new (Err (NoRow at)) = (at.now ≡ line) × IsNoRow line
-Adds line old new (Err (Twice at)) = (at.now ≡ line) × IsKnownKey line (rows_now old)
+abbrev pub Adds : Line → List Entry → List Entry → Result (Unit {0}) NotKnown → Type 0
+Adds line old new (Ok done) = KeepsLine line.text.now old new
+Adds line old new (Err (NoRow at)) = (at ≡ line) × IsNoRow line.text.now
+Adds line old new (Err (Twice at)) = (at ≡ line) × IsKnownKey line.text.now (rows_now old)
 Adds line old new (Err Memory) = Unit {0}
 
 -- The first line of a text, and what follows it.

@@ -8,6 +8,9 @@ use Rattle.t1_report.specs.Waivers.{waivers_of}
 use Rattle.t1_run.specs.FontFiles.{with_reason}
 use Rattle.t1_run.specs.WaiverFiles.{AreWaived, IsHeard, as_waivers}
 use Rattle.t1_run.specs.declared.failure.Failure.{Failure}
+use Rattle.t1_many.specs.FontErrors.{error_of}
+use Rattle.t1_many.specs.declared.font_error.FontError.{FontError}
+use Rattle.t1_names.specs.declared.causes.Cause.{Cause}
 use Rattle.t1_many.specs.Calls.{Calls}
 use Rattle.t1_many.specs.Files.{ChecksIn, Given, IsFound}
 use Rattle.t1_many.specs.Outcomes.{Entry, Outcome, Report, failed, reported}
@@ -51,16 +54,21 @@ abbrev pub Checks : {R : Type 0} → (R → R → Entry → Result Found Lost �
 Checks takes edition name given old new (Ok taken) =
     (report : Report) × IsFound edition given (reported report)
     × takes old new (record { name = name; outcome = reported report }) taken
-Checks takes edition name given old new (Err failure) = IsFound edition given (failed failure) × (new ≡ old)
+Checks takes edition name given old new (Err failure) = IsFound edition given (failed (error_of failure)) × (new ≡ old)
 
 -- The same, with all that was done to the files.
 abbrev pub ChecksNamed : {R F : Type 0} → (R → R → Entry → Result Found Lost → Type 0) → Calls F → WaiverFiles → Edition → List ℕ → F → F → R → R
-    → Result (Result Found Lost) Failure → Type 0
+    → Result (Result Found Lost) FontError → Type 0
 ChecksNamed takes calls beside edition name files files' old new (Ok taken) =
     (report : Report) × ChecksIn calls beside edition name files files' (reported report)
     × takes old new (record { name = name; outcome = reported report }) taken
-ChecksNamed takes calls beside edition name files files' old new (Err failure) =
-    ChecksIn calls beside edition name files files' (failed failure) × (new ≡ old)
+ChecksNamed takes calls beside edition name files files' old new (Err error) =
+    ChecksIn calls beside edition name files files' (failed error) × (new ≡ old)
+
+-- What a check gave, or why there is no report.
+abbrev pub or_error : {T : Type 0} → Result T Failure → Result T FontError
+or_error (Ok taken) = Ok taken
+or_error (Err failure) = Err (error_of failure)
 
 -- How the check of a font ended was taken.
 abbrev pub TakesOne : {R F : Type 0} → (R → R → Entry → Result Found Lost → Type 0) → Calls F → WaiverFiles → Edition → List ℕ → F → F → R → R
@@ -69,6 +77,6 @@ TakesOne takes calls beside edition name files files' old new taken =
     (outcome : Outcome) × ChecksIn calls beside edition name files files' outcome × takes old new (record { name = name; outcome = outcome }) taken
 
 -- A font's waivers were asked for, if they are to be: they have a file that could be opened or not, or none.
-abbrev pub AsksWaivers : {F : Type 0} → Calls F → Bool → List ℕ → F → F → Option (Option SourceState) → Type 0
+abbrev pub AsksWaivers : {F : Type 0} → Calls F → Bool → List ℕ → F → F → Option (Result SourceState Cause) → Type 0
 AsksWaivers calls true name old new opened = calls.OpensWaivers old new name opened
 AsksWaivers calls false name old new opened = (new ≡ old) × (opened ≡ None)

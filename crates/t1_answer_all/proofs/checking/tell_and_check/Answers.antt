@@ -9,7 +9,7 @@ returns g c =
     omega (arith, c.len.ensures, c.args.fonts.now.names.ok, length-map c.args.fonts.now.names.items string_bytes) in (
       g.E.Sink.state c.tell_unlisted.new.errors,
       told_either _ _ _ c.tell_unlisted.result
-          (rw (c.unlisted.ensures.undecoded, c.unlisted.ensures.passed_over, c.unlisted.ensures.unsearched) at c.tell_unlisted.ensures),
+          (rw (c.unlisted.ensures.undecoded, c.unlisted.ensures.unsearched) at c.tell_unlisted.ensures),
       c.expect_if.new.files,
       (rw (c.is_quiet.ensures, count) at c.expect_if.ensures),
       c.check_listed.ensures,

@@ -1,5 +1,5 @@
 use Rattle.std.proofs.Common.{inl, inr, refl, string_bytes}
-use Rattle.std.specs.declared.io.ErrorKind.TheVariants.{NotFound}
+use Rattle.t1_names.specs.declared.causes.Cause.TheVariants.{NoFile}
 use Rattle.t1_answer_all.proofs.Told.{told_so}
 use Rattle.t1_answer_all.proofs.known.text_of_known.Goals as goal
 use Rattle.t1_answer_all.specs.Known.{IsNotKnownText}
@@ -15,9 +15,9 @@ pub returns-in-None-clause-none : goal.returns-in-None-clause-none
 returns-in-None-clause-none g c =
     rw c.in-Beyond.is
     (told_so (IsNotKnownText (known_by (g.F.FileSystem.has_text c.args.files.now)) (Beyond c.in-Beyond.name))
-    (unreadable_text (string_bytes c.in-Beyond.name) NotFound) c.unreadable-in-None.result
+    (unreadable_text (string_bytes c.in-Beyond.name) NoFile) c.unreadable-in-None.result
     (rw c.as_str-in-None.ensures.value at c.unreadable-in-None.ensures)
-    (NotFound, inr (rw c.as_str.ensures.value at c.in-None.ensures, refl), refl))
+    (NoFile, inr (rw c.as_str.ensures.value at c.in-None.ensures, refl), refl))
 
 pub returns-in-Some-Ok-text-clause-text : goal.returns-in-Some-Ok-text-clause-text
 returns-in-Some-Ok-text-clause-text g c =

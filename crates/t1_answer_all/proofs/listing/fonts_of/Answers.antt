@@ -14,12 +14,11 @@ returns-then-is_empty-clause-none g c =
         names = map string_bytes c.in_ok-named.named.names.items;
         unsearched = map string_bytes c.in_ok-named.named.unsearched.items;
         undecoded = c.in_ok-words.words.undecoded;
-        passed_over = c.in_ok-named.named.passed_over;
       };
       named =
           named_by given c.args.options.now _ _ _ (ap (map string_bytes) c.as_slice.ensures.value) (ap (map string_bytes) c.as_slice-2.ensures.value)
           (ap (map string_bytes) c.as_slice-3.ensures.value) c.in_ok-words.words c.in_ok-words.ensures.words c.in_ok-globs.globs.items
-          c.in_ok-globs.ensures _ (ap (map string_bytes) c.as_slice-4.ensures.value) _ c.as_slice-5.ensures.value _ _ _ c.in_ok-named.ensures;
+          c.in_ok-globs.ensures _ (ap (map string_bytes) c.as_slice-4.ensures.value) _ c.as_slice-5.ensures.value _ _ c.in_ok-named.ensures;
       none = empty_names c.in_ok-named.named.names.items _ c.in_ok-named.named.names.ok.0 (sym c.is_empty.ensures ∙ c.if-is_empty.true);
       told_is = refl;
     }))
@@ -32,7 +31,7 @@ returns-clause-fonts g c =
       named =
           named_by given c.args.options.now _ _ _ (ap (map string_bytes) c.as_slice.ensures.value) (ap (map string_bytes) c.as_slice-2.ensures.value)
           (ap (map string_bytes) c.as_slice-3.ensures.value) c.in_ok-words.words c.in_ok-words.ensures.words c.in_ok-globs.globs.items
-          c.in_ok-globs.ensures _ (ap (map string_bytes) c.as_slice-4.ensures.value) _ c.as_slice-5.ensures.value _ _ _ c.in_ok-named.ensures;
+          c.in_ok-globs.ensures _ (ap (map string_bytes) c.as_slice-4.ensures.value) _ c.as_slice-5.ensures.value _ _ c.in_ok-named.ensures;
       some = some_names c.in_ok-named.named.names.items _ c.in_ok-named.named.names.ok.0 (sym c.is_empty.ensures ∙ c.if-is_empty.false);
       part = c.in_ok-part_of.ensures;
     }

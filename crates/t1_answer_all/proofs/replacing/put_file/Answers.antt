@@ -4,5 +4,5 @@ use Rattle.t1_answer_all.specs.Replacing.PutsFile.{unwritten}
 
 pub returns-in-Err : goal.returns-in-Err
 returns-in-Err g c =
-    unwritten (rw c.in-Err.is at c.replace.ensures)
-    (c.tell_parts.result, rw (c.as_bytes.ensures.value, c.as_bytes-in-Err.ensures.value) at c.tell_parts.ensures) refl
+    unwritten _ (rw c.in-Err.is at c.replace.ensures)
+    (c.tell_unwritten.result, rw (c.text.ensures, c.of.ensures) at c.tell_unwritten.ensures) refl

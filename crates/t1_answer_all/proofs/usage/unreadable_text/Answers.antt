@@ -1,6 +1,6 @@
 use Rattle.std.proofs.Common.{◌++◌, ◌∙◌, ℕ, List, ap, ap₂, append_assoc, codes}
 use Rattle.t1_answer_all.proofs.usage.unreadable_text.Goals as goal
-use Rattle.t1_answer_all.specs.Usage.{cause_text}
+use Rattle.t1_names.specs.Causes.{cause_text}
 
 pub returns : goal.returns
 returns c =
@@ -14,6 +14,6 @@ returns c =
     ∙ ap₂ (λ (s t : List ℕ). s ++ t)
     (c.in_ok-push_str-2.ensures.bytes
     ∙ ap (λ (s : List ℕ). s ++ says) (c.in_ok-push_str.ensures.bytes ∙ ap (λ (s : List ℕ). s ++ c.args.file.now) c.in_ok-text.ensures.ok))
-    c.cause_text.ensures)
+    c.text.ensures)
     ∙ append_assoc ((before ++ c.args.file.now) ++ says) cause behind ∙ append_assoc (before ++ c.args.file.now) says (cause ++ behind)
     ∙ append_assoc before c.args.file.now (says ++ (cause ++ behind))

@@ -10,5 +10,5 @@ returns-in-Ok-clause-text g c = (c.in-Ok.text, c.in-Ok.ensures, refl)
 
 pub returns-in-Err-clause-none : goal.returns-in-Err-clause-none
 returns-in-Err-clause-none g c =
-    told_so (IsNoText (texts_by (g.F.FileSystem.has_list c.args.files.now)) c.args.list.now) (unreadable_text c.args.list.now c.kind.result)
-    c.unreadable.result c.unreadable.ensures (c.kind.result, (c.in-Err.error, c.in-Err.ensures, sym c.kind.ensures), refl)
+    told_so (IsNoText (texts_by (g.F.FileSystem.has_list c.args.files.now)) c.args.list.now) (unreadable_text c.args.list.now c.of.result)
+    c.unreadable.result c.unreadable.ensures (c.of.result, (c.in-Err.error, c.in-Err.ensures, sym c.of.ensures), refl)

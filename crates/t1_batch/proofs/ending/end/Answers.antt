@@ -1,27 +1,21 @@
 use Rattle.std.proofs.Common.{List, Option, subst, sym, ◌∙◌, ℕ}
-use Rattle.t1_batch.proofs.EndingTexts.{read_by, rest_failed, short_failed}
+use Rattle.t1_batch.proofs.EndingTexts.{rest_failed, short_failed}
 use Rattle.t1_batch.proofs.ending.end.Goals as goal
 use Rattle.t1_batch.specs.Endings.{AreFoundBy, CountsRows, wanted_value}
 use Rattle.t1_batch.specs.Modes.{mode_value}
 use Rattle.t1_io.proofs.SinkLemmas.{Wrote-trans}
-use Rattle.t1_batch.specs.Private.Updates.{AreReadBy}
-use Rattle.t1_known.specs.declared.readings.Reading.{Reading as Text}
 use Rattle.t1_many.specs.declared.readings.Reading.{Reading as Kept}
 
 pub returns-in_err-tell_mismatches : goal.returns-in_err-tell_mismatches
 returns-in_err-tell_mismatches g c = λ all found.
-    let are = subst (λ (ts : List Text). AreReadBy (mode_value c.args.mode) ts all) (sym c.as_slice-texts.ensures.value)
-    (read_by (mode_value c.args.mode) c.as_slice.result.now c.in-Ok.readings.items all c.in-Ok.ensures
-    (subst (λ (ks : List Kept). AreFoundBy (mode_value c.args.mode) ks all) (sym c.as_slice.ensures.value) found)) in
+    let are = subst (λ (ks : List Kept). AreFoundBy (mode_value c.args.mode) ks all) (sym c.as_slice-readings.ensures.value) found in
     short_failed (mode_value c.args.mode) (wanted_value c.args.wanted) c.args.quiet c.args.found.now.tally all c.args.found.now.kept _
     (c.in_ok-remade.ensures all are).0 _ _ (g.E.Sink.state c.args.errors.now) c.in_err-tell_mismatches.field-0.0
     c.from_residual-in_err-tell_mismatches.result c.from_residual-in_err-tell_mismatches.ensures.1 (c.in_err-tell_mismatches.ensures all are)
 
 pub returns-in_err-status : goal.returns-in_err-status
 returns-in_err-status g c = λ all found.
-    let are = subst (λ (ts : List Text). AreReadBy (mode_value c.args.mode) ts all) (sym c.as_slice-texts.ensures.value)
-    (read_by (mode_value c.args.mode) c.as_slice.result.now c.in-Ok.readings.items all c.in-Ok.ensures
-    (subst (λ (ks : List Kept). AreFoundBy (mode_value c.args.mode) ks all) (sym c.as_slice.ensures.value) found)) in
+    let are = subst (λ (ks : List Kept). AreFoundBy (mode_value c.args.mode) ks all) (sym c.as_slice-readings.ensures.value) found in
     rest_failed (mode_value c.args.mode) (wanted_value c.args.wanted) c.args.quiet c.args.found.now.tally all c.args.found.now.kept
     c.rows_in-rows.result
     (subst (λ (rows : Option ℕ). CountsRows (mode_value c.args.mode) (wanted_value c.args.wanted).choice all rows) (sym c.rows_in-rows.ensures)
@@ -30,9 +24,7 @@ returns-in_err-status g c = λ all found.
 
 pub returns : goal.returns
 returns g c = λ all found.
-    let are = subst (λ (ts : List Text). AreReadBy (mode_value c.args.mode) ts all) (sym c.as_slice-texts.ensures.value)
-    (read_by (mode_value c.args.mode) c.as_slice.result.now c.in-Ok.readings.items all c.in-Ok.ensures
-    (subst (λ (ks : List Kept). AreFoundBy (mode_value c.args.mode) ks all) (sym c.as_slice.ensures.value) found)) in
+    let are = subst (λ (ks : List Kept). AreFoundBy (mode_value c.args.mode) ks all) (sym c.as_slice-readings.ensures.value) found in
     let remade = c.in_ok-remade.ensures all are in (
       c.rows_in-rows.result,
       subst (λ (rows : Option ℕ). CountsRows (mode_value c.args.mode) (wanted_value c.args.wanted).choice all rows) (sym c.rows_in-rows.ensures) remade.0,

@@ -9,14 +9,7 @@ returns-in_err-give_undecoded g c =
     rw (lost_same {T = Unit {0}} c.from_residual.result c.in_err-give_undecoded.field-0.0 c.from_residual.ensures.1)
     (given-stopped g.T.Formatter.writes _ _ _ _ _ _ _ c.in_err-give_undecoded.ensures)
 
-pub returns-in_err-give_passed_over : goal.returns-in_err-give_passed_over
-returns-in_err-give_passed_over g c =
-    rw (lost_same {T = Unit {0}} c.from_residual-in_err-give_passed_over.result c.in_err-give_passed_over.field-0.0 c.from_residual-in_err-give_passed_over.ensures.1)
-    (given-append g.T.Formatter.writes _ _ _ _ _ _ _ _ _ c.in_ok-give_undecoded.ensures
-    (given-stopped g.T.Formatter.writes _ _ _ _ _ _ _ c.in_err-give_passed_over.ensures))
-
 pub returns : goal.returns
 returns g c =
     rw (map-both unsearched (λ (folder : String Global). string_bytes folder) c.args.unlisted.unsearched.now)
-    (given-append g.T.Formatter.writes _ _ _ _ _ _ _ _ _ c.in_ok-give_undecoded.ensures
-    (given-append g.T.Formatter.writes _ _ _ _ _ _ _ _ _ c.in_ok-give_passed_over.ensures c.give_unsearched.ensures))
+    (given-append g.T.Formatter.writes _ _ _ _ _ _ _ _ _ c.in_ok-give_undecoded.ensures c.give_unsearched.ensures)

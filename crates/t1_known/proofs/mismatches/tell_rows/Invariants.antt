@@ -7,4 +7,4 @@ use Rattle.t1_known.proofs.mismatches.tell_rows.Given as goal
 abbrev pub invariant-loop-key : goal.invariant-loop-key
 invariant-loop-key g l =
     HasTold (g.W.Sink.state l.fn.sink) (g.W.Sink.state l.sink) (flat_map (told_of (choice_of l.only l.except) l.fonts.entries) l.rows.entries)
-    (flat_map (told_of (choice_of l.only l.except) l.fonts.entries) l.key-iterator)
+    (flat_map (told_of (choice_of l.only l.except) l.fonts.entries) l._key-iterator)

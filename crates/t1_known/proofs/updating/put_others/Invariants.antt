@@ -1,5 +1,6 @@
 use Rattle.std.proofs.Common.{ℕ, List, drop}
-use Rattle.t1_known.specs.Private.Updates.{HavePut, IsLeft, behind_text}
+use Rattle.t1_known.specs.Private.Fonts.{IsLeft}
+use Rattle.t1_known.specs.Private.Updates.{HavePut, behind_text}
 use Rattle.t1_known.proofs.updating.put_others.Given as goal
 
 abbrev pub invariant-loop-reading : goal.invariant-loop-reading

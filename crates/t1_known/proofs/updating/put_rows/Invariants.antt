@@ -1,8 +1,9 @@
 use Rattle.std.proofs.Common.{[], List}
 use Rattle.t1_known.specs.Private.Kept.{rows_now}
-use Rattle.t1_known.specs.Private.Updates.{HavePut, IsLeft, updated_text}
+use Rattle.t1_known.specs.Private.Fonts.{IsLeft}
+use Rattle.t1_known.specs.Private.Updates.{HavePut, updated_text}
 use Rattle.t1_known.specs.Readings.{choice_of}
-use Rattle.t1_known.specs.declared.readings.Reading.{Reading}
+use Rattle.t1_many.specs.declared.readings.Reading.{Reading}
 use Rattle.t1_known.proofs.updating.put_rows.Given as goal
 
 abbrev pub invariant-loop-key : goal.invariant-loop-key

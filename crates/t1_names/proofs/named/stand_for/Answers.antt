@@ -5,11 +5,11 @@ use Rattle.t1_names.proofs.named.stand_for.Goals as goal
 pub returns-then-is_folder : goal.returns-then-is_folder
 returns-then-is_folder g c =
     stands_for_below (g.F.FileSystem.leads c.args.files.now) (g.F.FileSystem.lists c.args.files.now) c.args.word.now c.trim_word-trimmed.result.now
-    (sym c.stays.ensures ∙ c.if-stays.false) c.trim_word-trimmed.ensures c.fonts_below.result
+    (sym c.is_input.ensures ∙ c.if-is_input.false) c.trim_word-trimmed.ensures c.fonts_below.result
     (rw c.if-is_folder.true at c.is_folder.ensures) c.fonts_below.ensures
 
 pub returns-else-is_folder : goal.returns-else-is_folder
 returns-else-is_folder g c =
     stands_for_itself (g.F.FileSystem.leads c.args.files.now) (g.F.FileSystem.lists c.args.files.now) c.args.word.now c.trim_word-trimmed.result.now
-    (sym c.stays.ensures ∙ c.if-stays.false) c.trim_word-trimmed.ensures c.alone-else-is_folder.result
+    (sym c.is_input.ensures ∙ c.if-is_input.false) c.trim_word-trimmed.ensures c.alone-else-is_folder.result
     (rw c.if-is_folder.false at c.is_folder.ensures) (rw c.file_name.ensures at c.alone-else-is_folder.ensures)

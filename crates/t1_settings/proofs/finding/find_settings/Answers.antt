@@ -16,9 +16,10 @@ returns-in-Some-Ok-clause-nearest g c =
 
 pub returns-in-Some-Err-clause-unread : goal.returns-in-Some-Err-clause-unread
 returns-in-Some-Err-clause-unread g c =
-    let asked = subst (λ n. g.F.FileSystem.has_text c.args.files.now n (Some (Err c.in-Some-Err.field-0-0))) (c.as_str.ensures.value ∙ c.in-Ok.ensures)
+    let asked = subst (λ n. g.F.FileSystem.has_text c.args.files.now n (Some (Err c.in-Some-Err.error))) (c.as_str.ensures.value ∙ c.in-Ok.ensures)
     (rw (c.in-Some-Err.is ∙ ap Some c.in-Some-Err.field-0-is) at c.text.ensures) in
-    rw c.in-Ok.ensures (c.loop-name.invariant.2 _ (unread_here c.loop-name.folder.now (c.in-Some-Err.field-0-0, asked)))
+    rw c.in-Ok.ensures
+    (c.loop-name.invariant.2 _ _ (unread_here c.loop-name.folder.now _ (c.in-Some-Err.error, asked, sym c.of.ensures)))
 
 pub returns-in-None-above-clause-nearest : goal.returns-in-None-above-clause-nearest
 returns-in-None-above-clause-nearest g c =
@@ -30,5 +31,6 @@ loop-name-preserved g c =
     let asked = subst (λ n. g.F.FileSystem.has_text c.args.files.now n None) (c.as_str.ensures.value ∙ c.in-Ok.ensures) (rw c.in-None.is at c.text.ensures) in (
       search,
       λ found is. c.loop-name.invariant.1 found (higher c.loop-name.folder.now c.in-Some.next.now found asked (sym c.in-Some.ensures.value) is),
-      λ name is. c.loop-name.invariant.2 name (unread_higher c.loop-name.folder.now c.in-Some.next.now name asked (sym c.in-Some.ensures.value) is),
+      λ name cause is. c.loop-name.invariant.2 name cause
+          (unread_higher c.loop-name.folder.now c.in-Some.next.now name cause asked (sym c.in-Some.ensures.value) is),
     )

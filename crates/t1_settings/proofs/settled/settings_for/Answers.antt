@@ -27,5 +27,6 @@ returns-in-Err-CannotRead-clause-unsettled g c =
     told_of
     (AreUnsettled (files_by (g.F.FileSystem.leads c.args.files.now) (g.F.FileSystem.has_text c.args.files.now)) (option_map (λ s. s.now) c.args.path))
     c.unread_text.result _ c.told.result c.unread_text.ensures c.told.ensures
-    (unread c.start_of.result.now (string_bytes c.in-Err-CannotRead.name) c.start_of.ensures
-    (rw c.in-Err-CannotRead.field-0-is at c.in-Err-CannotRead.ensures.unread) (ap unread_text c.as_str.ensures.value))
+    (unread c.start_of.result.now (string_bytes c.in-Err-CannotRead.name) c.in-Err-CannotRead.cause c.start_of.ensures
+    (rw c.in-Err-CannotRead.field-0-is at c.in-Err-CannotRead.ensures.unread)
+    (ap (λ name. unread_text name c.in-Err-CannotRead.cause) c.as_str.ensures.value))

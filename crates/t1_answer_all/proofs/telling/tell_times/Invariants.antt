@@ -1,7 +1,0 @@
-use Rattle.std.proofs.Common.{replicate}
-use Rattle.std.specs.List.{concat}
-use Rattle.t1_io.specs.Devices.{Wrote}
-use Rattle.t1_answer_all.proofs.telling.tell_times.Given as goal
-
-abbrev pub invariant-loop-time : goal.invariant-loop-time
-invariant-loop-time g l = Wrote (g.E.Sink.state l.fn.errors) (g.E.Sink.state l.errors) (concat (replicate l._time l.fn.line))

@@ -1,8 +1,0 @@
-use Rattle.std.proofs.Common.{◌∙◌, ap}
-use Rattle.t1_known.proofs.LeftRows.{taken_from}
-use Rattle.t1_known.specs.Private.Updates.{LeftRows, left_at}
-use Rattle.t1_known.proofs.updating.take_left.Goals as goal
-
-pub returns-clause-left : goal.returns-clause-left
-returns-clause-left c = λ other.
-    ap (λ (left : LeftRows). left_at left other) (c.get_mut.follows.holds _).0 ∙ taken_from c.args.font.now _ c.args.left.now.entries other
