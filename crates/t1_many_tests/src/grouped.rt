@@ -216,28 +216,34 @@ keys.pfb: \x1b[33mZ05 zones too near\x1b[0m \xc3\x97 2: BlueValues
 #[test]
 fn writes_commands(rt: HostRuntime) -> Result<(), Fail> {
     let faulty = font(rt.alloc(), &[b"A", b"B"])?;
-    let files = [("a,b: 50%\n.pfb", faulty.as_slice()), ("cut.pfa", CUT)];
+    let files = [("a,b: 50%.pfb", faulty.as_slice()), ("cut.pfa", CUT)];
     let mut text = Vec::new(rt.alloc());
     let mut told = Vec::new(rt.alloc());
     let status = tell(
         rt.alloc(),
         &files,
-        &["a,b: 50%\n.pfb", "cut.pfa", "absent.pfb"],
+        &["a,b: 50%.pfb", "cut.pfa", "absent.pfb", "two\nlines.pfb"],
         GitHubGroups { reasons: false },
         Out::new(&mut text),
         Out::new(&mut told),
     )?;
     assert_eq!(rt; status, Ok(Status::Failed));
     let lines = b"\
-::error file=a%2Cb%3A 50%25%0A.pfb,line=1,title=P01 drawing without a move::P01 drawing without a move \xc3\x97 2: A, B
-::warning file=a%2Cb%3A 50%25%0A.pfb,line=1,title=P02 path not closed::P02 path not closed \xc3\x97 2: A, B
-::notice file=a%2Cb%3A 50%25%0A.pfb,line=1,title=P03 closepath without a path::P03 closepath without a path \xc3\x97 4: A, B
+::error file=a%2Cb%3A 50%25.pfb,line=1,title=P01 drawing without a move::P01 drawing without a move \xc3\x97 2: A, B
+::warning file=a%2Cb%3A 50%25.pfb,line=1,title=P02 path not closed::P02 path not closed \xc3\x97 2: A, B
+::notice file=a%2Cb%3A 50%25.pfb,line=1,title=P03 closepath without a path::P03 closepath without a path \xc3\x97 4: A, B
 ::error file=cut.pfa,line=1,title=E04 no eexec::refused: E04 no eexec
 ::error file=absent.pfb,line=1,title=not checked::t1check: read failed: no such file or folder
+::error file=two%0Alines.pfb,line=1,title=not checked::t1check: its name has a line end
 ";
     assert!(rt; text.as_slice() == lines.as_slice());
     assert!(rt;
-        told.as_slice() == b"absent.pfb: t1check: read failed: no such file or folder\n".as_slice()
+        told.as_slice()
+            == b"\
+absent.pfb: t1check: read failed: no such file or folder
+two\\nlines.pfb: t1check: its name has a line end
+"
+                .as_slice()
     );
     Ok(())
 }
