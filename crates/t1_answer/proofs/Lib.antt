@@ -3,4 +3,3 @@ pub mod ChosenLines
 pub mod CommandLemmas
 pub mod RunLaws
 pub mod TraceLemmas
-pub mod WaivedLemmas

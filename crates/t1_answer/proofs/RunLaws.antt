@@ -9,17 +9,22 @@ use Rattle.t1_run.specs.declared.status.Status.{Status}
 use Rattle.t1_run.specs.declared.status.Status.TheVariants.{Clean, Failed, Faults, Refused}
 use Rattle.t1_refusals.specs.declared.refusal.Reason.{Reason}
 use Rattle.t1_answer.specs.Answers.{Answer, IsAnswerTo, IsShown, selection, refused, reported, status_of, traced_at}
-use Rattle.t1_answer.specs.Ends.{Ends, Shows}
-use Rattle.t1_answer.specs.Ends.Shows.{no_glyph, reported as was_reported, traced as was_traced, no_room, waivers_refused, waivers_unread}
+use Rattle.t1_answer.specs.Shows.{Shows}
+use Rattle.t1_answer.specs.Shows.Shows.{no_glyph, no_room, reported as was_reported, traced as was_traced}
 use Rattle.t1_answer.specs.Traces.{trace_of}
-use Rattle.t1_answer.specs.Ends.Ends.{no_memory as was_no_memory, read_failed as was_read_failed, refused as was_refused, shown as was_shown}
+use Rattle.t1_answer.specs.Words.{checking}
+use Rattle.t1_run.specs.Opening.{Sinks}
+use Rattle.t1_run.specs.Programs.{Ends, EndsWith}
+use Rattle.t1_run.specs.Programs.Ends.{font_read, font_refused, no_memory as was_no_memory, read_failed as was_read_failed}
+use Rattle.t1_run.specs.Programs.EndsWith.{no_room as no_waiver_room, shown, waivers_refused, waivers_unread}
 use Rattle.t1_run.specs.Telling.Gives.{given, ungiven}
 use Rattle.t1_run.specs.Telling.Tells.{told, untold}
 use Rattle.t1_run.specs.FontFiles.{font_of}
-use Rattle.t1_answer.specs.Laws.Runs.{Answered, Promises, RunsKeepPromises, WentOut, IfKnown, IsSpared}
+use Rattle.t1_answer.specs.Laws.Runs.{Answered, RunsKeepPromises, WentOut, IfKnown, IsSpared}
 use Rattle.t1_answer.specs.Told.{program, told_of, unread_status}
 use Rattle.t1_report.specs.Waivers.{Waiver}
-use Rattle.t1_answer.specs.Waived.{asks_waivers}
+use Rattle.std.specs.Option.{is_some}
+use Rattle.t1_answer.specs.Waived.{asks_waivers, unless_traced}
 use Rattle.t1_run.proofs.FilesRead.{of-any, of-waived, waived-weaker}
 use Rattle.t1_refusals.specs.RefusalCodes.{refusal_code_of}
 use Rattle.t1_refusals.specs.declared.refusal.RefusalCode.{RefusalCode}
@@ -28,7 +33,7 @@ use Rattle.t1_run.specs.declared.failure.Failure.{Failure}
 use Rattle.t1_run.specs.declared.failure.Failure.TheVariants as failure
 use Rattle.t1_run.specs.FontFiles.{AreRead}
 use Rattle.t1_run.specs.Telling.{Gives, Tells}
-use Rattle.t1_run.specs.WaiverFiles.{AreWaived, IfWaived}
+use Rattle.t1_run.specs.WaiverFiles.{AreWaived, IfWaived, IsHeard}
 
 -- The facts one by one, before they are grouped by the status.
 record Facts (options : Options) (left : Option (List ℕ)) (failed : Bool)
@@ -137,10 +142,39 @@ some-any : (P : List ℕ → Type 0) (left : Option (List ℕ)) → ((input : Li
 some-any P None all = tt
 some-any P (Some input) all = all input
 
+-- ---- waivers that are requested
+
+refused_asked : (asked : Bool) (text : Option (List ℕ)) (reason : Reason) → AreWaived asked text (Err reason) → asked ≡ true
+refused_asked true text reason is = refl
+refused_asked false text reason is = cc
+
+untraced : {A B C : Type 0} (f : B → C) (trace : Option A) (waive : Option B) → is_some (option_map f (unless_traced trace waive)) ≡ true
+    → trace ≡ None
+untraced f None waive asked = refl
+untraced f (Some t) waive asked = absurd (true≢false (sym asked))
+
 -- ---- a report or a trace
 
-module _ (options : Options) (left : Option (List ℕ)) (failed : Bool) (waivers waivers' : SourceState) (out out' errors errors' : SinkState) (result : Status)
-    (waivers_sound : waivers.failed ≡ false) (sound : out.failed ≡ false) (errors_sound : errors.failed ≡ false) where
+module _ (options : Options) (source source' waivers waivers' : SourceState) (sinks sinks' : Sinks) (result : Status)
+    (waivers_sound : waivers.failed ≡ false) (sound : sinks.out.failed ≡ false) (errors_sound : sinks.errors.failed ≡ false) where
+  abbrev left : Option (List ℕ)
+  left = source.left
+
+  abbrev failed : Bool
+  failed = source'.failed
+
+  abbrev out : SinkState
+  out = sinks.out
+
+  abbrev out' : SinkState
+  out' = sinks'.out
+
+  abbrev errors : SinkState
+  errors = sinks.errors
+
+  abbrev errors' : SinkState
+  errors' = sinks'.errors
+
   abbrev Answering : Answer → Type 0
   Answering answer = IfKnown options left waivers.left (λ read waived. IsAnswerTo options read waived answer)
 
@@ -337,35 +371,44 @@ module _ (options : Options) (left : Option (List ℕ)) (failed : Bool) (waivers
       → IsShown options font waived name answer → IsShown options font waived trace answer
   shown_by font waived answer trace name same is = subst (λ (n : Option (List ℕ)). IsShown options font waived n answer) (sym same) is
 
-  after_shown : (font : FontValue) → AreRead left (Ok font) → failed ≡ false → Shows options font waivers waivers' out out' errors errors' result
+  after_shown : (font : FontValue) → AreRead left (Ok font) → failed ≡ false → (waived : List Waiver)
+      → AreWaived (asks_waivers options) waivers.left (Ok waived) → IsHeard (asks_waivers options) waivers waivers'
+      → Shows options font waived sinks sinks' result
       → Facts options left failed waivers waivers' out out' errors errors' result
-  after_shown font are unfailed (was_reported none waived is heard faults report gives) =
+  after_shown font are unfailed waived is heard (was_reported none faults report gives) =
       let answer = reported font waived (selection options faults) in
       after_given answer (of-both answer (Ok font) (Ok waived) are is
       (shown_by font (Ok waived) answer _ None (ap (option_map string_bytes) none) (faults, (report, refl)))) unfailed heard.failed
       (spared_by font are unfailed heard.unasked) refl
       (list-not-refused (selection options faults)) (list-not-failed (selection options faults)) gives
-  after_shown font are unfailed (was_traced name is glyph there untouched gives) =
+  after_shown font are unfailed waived is heard (was_traced name named glyph there gives) =
       let answer : Answer = record { output = trace_of options.edition font glyph; told = []; status = Clean } in
       after_given answer (of-font answer (Ok font) are
-      (λ waived. shown_by font waived answer _ (Some name) is (sym (ap (traced_at options.edition font name) there)))) unfailed
-      (same_failed untouched) (spared_whole untouched) refl
+      (λ any. shown_by font any answer _ (Some name) named (sym (ap (traced_at options.edition font name) there)))) unfailed
+      heard.failed (spared_by font are unfailed heard.unasked) refl
       (λ two. cc) clean-failed gives
-  after_shown font are unfailed (no_glyph name is none untouched same tells) =
+  after_shown font are unfailed waived is heard (no_glyph name named none same tells) =
       let answer : Answer = record { output = []; told = no_glyph_line program name; status = Failed } in
       after_told answer (of-font answer (Ok font) are
-      (λ waived. shown_by font waived answer _ (Some name) is (sym (ap (traced_at options.edition font name) none)))) unfailed
-      (same_failed untouched) (spared_whole untouched) refl
+      (λ any. shown_by font any answer _ (Some name) named (sym (ap (traced_at options.edition font name) none)))) unfailed
+      heard.failed (spared_by font are unfailed heard.unasked) refl
       (inr refl) same tells
-  after_shown font are unfailed (waivers_refused none reason is heard same tells) =
+  after_shown font are unfailed waived is heard (no_room none same tells) =
+      after_no_memory unfailed heard.failed (spared_by font are unfailed heard.unasked) same tells
+
+  after_font : (font : FontValue) → AreRead left (Ok font) → failed ≡ false → EndsWith checking options font waivers waivers' sinks sinks' result
+      → Facts options left failed waivers waivers' out out' errors errors' result
+  after_font font are unfailed (shown waived is heard shows) = after_shown font are unfailed waived is heard shows
+  after_font font are unfailed (waivers_refused reason is heard same tells) =
       let answer = refused (told_of reason) in
+      let none : options.trace ≡ None = untraced string_bytes options.trace options.waive (refused_asked _ waivers.left reason is) in
       after_told answer (of-both answer (Ok font) (Err reason) are is (shown_by font (Err reason) answer _ None (ap (option_map string_bytes) none) refl))
       unfailed heard.failed
       (spared_by font are unfailed heard.unasked) refl (inl refl) same tells
-  after_shown font are unfailed (waivers_unread asked broken same tells) =
+  after_font font are unfailed (waivers_unread asked broken same tells) =
       after_failed_read (inr broken) (spared_by font are unfailed (λ unasked. absurd (true≢false (sym asked ∙ unasked)))) same tells
-  after_shown font are unfailed (no_room none heard same tells) =
-      after_no_memory unfailed heard.failed (spared_by font are unfailed heard.unasked) same tells
+  after_font font are unfailed (no_waiver_room asked kept same tells) =
+      after_no_memory unfailed kept (spared_by font are unfailed (λ unasked. absurd (true≢false (sym asked ∙ unasked)))) same tells
 
   after_refusal : (reason : Reason) → AreRead left (Err reason) → failed ≡ false → waivers' ≡ waivers → out' ≡ out
       → Tells (told_of reason) (unread_status reason) errors errors' result
@@ -383,41 +426,37 @@ kind_of : (code : Option RefusalCode) → (failure_status (refused_by code) ≡ 
 kind_of (Some code) = inl refl
 kind_of None = inr refl
 
-facts : (options : Options) (left : Option (List ℕ)) (failed : Bool) (v v' : SourceState) (out out' errors errors' : SinkState) (result : Status)
-    → v.failed ≡ false → out.failed ≡ false → errors.failed ≡ false → Ends options left failed v v' out out' errors errors' result
-    → Facts options left failed v v' out out' errors errors' result
-facts options left failed v v' out out' errors errors' result v_sound sound errors_sound (was_shown font are unfailed shows) =
-    after_shown options left failed v v' out out' errors errors' result v_sound sound errors_sound font are unfailed shows
-facts options left failed v v' out out' errors errors' result v_sound sound errors_sound (was_refused reason are unfailed untouched same tells) =
-    after_refusal options left failed v v' out out' errors errors' result v_sound sound errors_sound reason are unfailed untouched
+facts : (options : Options) (source source' v v' : SourceState) (sinks sinks' : Sinks) (result : Status)
+    → v.failed ≡ false → sinks.out.failed ≡ false → sinks.errors.failed ≡ false → Ends checking options source source' v v' sinks sinks' result
+    → Facts options source.left source'.failed v v' sinks.out sinks'.out sinks.errors sinks'.errors result
+facts options source source' v v' sinks sinks' result v_sound sound errors_sound (font_read font are unfailed ends) =
+    after_font options source source' v v' sinks sinks' result v_sound sound errors_sound font are unfailed ends
+facts options source source' v v' sinks sinks' result v_sound sound errors_sound (font_refused reason are unfailed untouched same tells) =
+    after_refusal options source source' v v' sinks sinks' result v_sound sound errors_sound reason are unfailed untouched
     same tells (kind_of (refusal_code_of reason))
-facts options left failed v v' out out' errors errors' result v_sound sound errors_sound (was_read_failed broken untouched same tells) =
-    after_failed_read options left failed v v' out out' errors errors' result v_sound sound errors_sound (inl broken)
-    (spared_whole options left failed v v' out out' errors errors' result v_sound sound errors_sound untouched) same tells
-facts options left failed v v' out out' errors errors' result v_sound sound errors_sound (was_no_memory unfailed untouched same tells) =
-    after_no_memory options left failed v v' out out' errors errors' result v_sound sound errors_sound unfailed (ap (λ (s : SourceState). s.failed) untouched)
-    (spared_whole options left failed v v' out out' errors errors' result v_sound sound errors_sound untouched) same tells
-
-grouped : (options : Options) (left : Option (List ℕ)) (failed : Bool) (v v' : SourceState) (out out' errors errors' : SinkState) (result : Status)
-    → Facts options left failed v v' out out' errors errors' result → Promises options left failed v v' out out' errors errors' result
-grouped options left failed v v' out out' errors errors' result f = record {
-  broken = f.broken;
-  decided = λ went. record { answer = f.answer went; nothing_waits = f.nothing_waits went };
-  reported = λ either. record { flushed = (f.flushed either).0; flushes = (f.flushed either).1 };
-  untouched = f.untouched;
-  failure = λ three. record {
-    read_failed = f.read_failed;
-    write_failed = f.write_failed;
-    no_memory = f.no_memory three;
-    unwritten = f.unwritten three;
-    unread = f.unread;
-    front = f.front;
-    unflushed = f.unflushed three;
-  };
-  spared = f.spared;
-}
+facts options source source' v v' sinks sinks' result v_sound sound errors_sound (was_read_failed broken untouched same tells) =
+    after_failed_read options source source' v v' sinks sinks' result v_sound sound errors_sound (inl broken)
+    (spared_whole options source source' v v' sinks sinks' result v_sound sound errors_sound untouched) same tells
+facts options source source' v v' sinks sinks' result v_sound sound errors_sound (was_no_memory unfailed untouched same tells) =
+    after_no_memory options source source' v v' sinks sinks' result v_sound sound errors_sound unfailed (ap (λ (s : SourceState). s.failed) untouched)
+    (spared_whole options source source' v v' sinks sinks' result v_sound sound errors_sound untouched) same tells
 
 pub kept : RunsKeepPromises
-kept options left failed v v' out out' errors errors' result v_sound sound errors_sound ends =
-    grouped options left failed v v' out out' errors errors' result
-    (facts options left failed v v' out out' errors errors' result v_sound sound errors_sound ends)
+kept options source source' v v' sinks sinks' result v_sound sound errors_sound ends =
+    let f = facts options source source' v v' sinks sinks' result v_sound sound errors_sound ends in
+    record {
+      broken = f.broken;
+      decided = λ went. record { answer = f.answer went; nothing_waits = f.nothing_waits went };
+      reported = λ either. record { flushed = (f.flushed either).0; flushes = (f.flushed either).1 };
+      untouched = f.untouched;
+      failure = λ three. record {
+        read_failed = f.read_failed;
+        write_failed = f.write_failed;
+        no_memory = f.no_memory three;
+        unwritten = f.unwritten three;
+        unread = f.unread;
+        front = f.front;
+        unflushed = f.unflushed three;
+      };
+      spared = f.spared;
+    }

@@ -1,9 +1,8 @@
 pub mod Answers
 pub mod CommandLine
-pub mod Ends
 pub mod Laws
 pub mod Lines
-pub mod Private
+pub mod Shows
 pub mod Told
 pub mod Traces
 pub mod Waived

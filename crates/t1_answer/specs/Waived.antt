@@ -1,12 +1,17 @@
--- Whether the options request waivers.
-use Rattle.std.specs.Prelude.{Bool, true, false, Option, None, Some}
+-- The waivers that the options request.
+use Rattle.std.specs.Prelude.{Bool, Option, None, Some, option_map, string_bytes}
+use Rattle.std.specs.Option.{is_some}
+use Rattle.clap.specs.Words.{Text}
 use Rattle.t1_answer.specs.declared.asked.Options.{Options}
 
--- Waivers are requested where their file is named and no trace is.
-abbrev pub is_asked : {A B : Type 0} → Option A → Option B → Bool
-is_asked (Some trace) waive = false
-is_asked None None = false
-is_asked None (Some waive) = true
+-- Waivers serve a report, and no trace.
+abbrev pub unless_traced : {A B : Type 0} → Option A → Option B → Option B
+unless_traced None waive = waive
+unless_traced (Some trace) waive = None
+
+-- The file of waivers that is to be read: the one that is named, where no trace is requested.
+abbrev pub waivers_named : Options → Option Text
+waivers_named options = option_map string_bytes (unless_traced options.trace options.waive)
 
 abbrev pub asks_waivers : Options → Bool
-asks_waivers options = is_asked options.trace options.waive
+asks_waivers options = is_some (waivers_named options)

@@ -1,7 +1,17 @@
 //! What the words of the command line request.
-ghost use Rattle.t1_answer.specs.Answers.{traced};
 
+ghost use Rattle.t1_answer.specs.Words.{checking};
+
+use crate::PROGRAM;
+use crate::command_line::options;
+use crate::running::show;
+use std::alloc::Global;
+use std::convert::AsStr;
 use t1_char::Edition;
+use t1_font::Font;
+use t1_io::Sink;
+use t1_report::Waivers;
+use t1_run::{Program, Status, UsageError, borrowed};
 
 /// What the words of the command line request.
 #[derive(Debug, Drop)]
@@ -18,4 +28,38 @@ pub struct Options {
     pub edition: Edition,
     /// The name of the font's file; without it standard input is read.
     pub file: Option<String>,
+}
+
+impl Program for Options {
+    ghost meaning = { checking };
+
+    fn name() -> &'static str {
+        PROGRAM
+    }
+
+    fn read_words<S: AsStr>(alloc: Global, words: &[S]) -> Result<Options, UsageError> {
+        options(alloc, words)
+    }
+
+    fn font(&self) -> Option<&str> {
+        borrowed(&self.file)
+    }
+
+    fn waivers(&self) -> Option<&str> {
+        match &self.trace {
+            None => borrowed(&self.waive),
+            Some(_) => None,
+        }
+    }
+
+    fn show<W: Sink, E: Sink>(
+        &self,
+        alloc: Global,
+        font: &Font<'_>,
+        waivers: &Waivers<'_>,
+        out: &mut W,
+        errors: &mut E,
+    ) -> Status {
+        show(alloc, font, waivers, self, out, errors)
+    }
 }

@@ -1,8 +1,8 @@
 //! The work of t1check: from the words of its command line and the bytes of files to lines and a status.
 //!
-//! [`options`] reads words, and [`explain`] handles those that yield no options. [`run`] reads one font, and the
-//! waivers, and writes the lines that the options request. [`answer`] does all of it, and opens the files that the
-//! words name.
+//! [`options`] reads words. [`Options`] are a [`Program`](t1_run::Program): [`run`](t1_run::run) reads one font, and the
+//! waivers, and writes the lines that the options request. [`answer`](t1_run::answer) does all of it, and opens the files
+//! that the words name.
 //!
 //! Promised: if no read, write or allocation fails, the font's bytes, the waivers' and the options determine what is
 //! printed and the status ([`a_file_has_one_answer`]). If a read or write fails, the status is 3, and what was
@@ -13,21 +13,16 @@
 //! ```
 #![tactic(auto)]
 
-mod answering;
 mod asked;
 mod command_line;
-mod explaining;
 mod laws;
 mod lines;
 mod running;
 mod tracing;
 
-pub use answering::answer;
 pub use asked::Options;
 pub use command_line::options;
-pub use explaining::explain;
 pub use laws::{a_file_has_one_answer, runs_keep_promises};
-pub use running::run;
 
 /// The program's name, before what it prints on standard error.
-const PROGRAM: &str = "t1check";
+pub const PROGRAM: &str = "t1check";

@@ -11,9 +11,9 @@ use std::io;
 use std::io::Read;
 use std::process::Abort;
 use std::test::Fail;
-use t1_answer::{Options, run};
+use t1_answer::Options;
 use t1_io::{Fuse, In, Limit, Out};
-use t1_run::Status;
+use t1_run::{Status, run};
 use t1_samples::END_SEGMENT;
 
 /// A reader that returns a byte a read, without end.
@@ -50,9 +50,9 @@ fn answer_within(
     let mut told = Vec::new(alloc);
     let status = run(
         alloc,
+        options,
         &mut Fuse::source(In::new(file), input),
         &mut In::new(io::empty()),
-        options,
         &mut Fuse::sink(Out::new(&mut text), output),
         &mut Fuse::sink(Out::new(&mut told), errors),
     );

@@ -8,9 +8,8 @@ use crate::devices::FAR;
 use crate::shared::Answer;
 use std::alloc::Global;
 use std::test::Fail;
-use t1_answer::explain;
 use t1_io::{Fuse, Limit, Out};
-use t1_run::{Status, UsageError};
+use t1_run::{Status, UsageError, explain};
 
 /// What is printed for words that parse to no options, over an output with this limit.
 fn explained(alloc: Global, error: &UsageError, output: Limit) -> Answer
@@ -19,6 +18,7 @@ fn explained(alloc: Global, error: &UsageError, output: Limit) -> Answer
     let mut text = Vec::new(alloc);
     let mut told = Vec::new(alloc);
     let status = explain(
+        "t1check",
         error,
         &mut Fuse::sink(Out::new(&mut text), output),
         &mut Out::new(&mut told),

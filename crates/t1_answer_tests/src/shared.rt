@@ -4,10 +4,10 @@ ghost use Rattle.std.specs.Prelude.{◌≡◌, false};
 
 use std::alloc::Global;
 use std::io;
-use t1_answer::{Options, run};
+use t1_answer::Options;
 use t1_char::Edition;
 use t1_io::{In, Out, Sink, Source};
-use t1_run::Status;
+use t1_run::{Status, run};
 
 /// What the program returns and prints.
 #[derive(Drop)]
@@ -51,9 +51,9 @@ pub(crate) fn run_over<R: Source, V: Source, W: Sink>(
     let mut told = Vec::new(alloc);
     let status = run(
         alloc,
+        options,
         font,
         waivers,
-        options,
         output,
         &mut Out::new(&mut told),
     );

@@ -1,5 +1,5 @@
 -- What reading a source to its end returns, and where it stops.
-use Rattle.std.specs.Prelude.{◌≡◌, true, ℕ, ◌<◌, ◌≤◌, ◌+◌, List, length, Option, false}
+use Rattle.std.specs.Prelude.{◌≡◌, true, ℕ, ◌<◌, ◌≤◌, ◌+◌, List, length, false}
 use Rattle.std.specs.Io.KnownBytes.{Consumes, IsAtEnd}
 use Rattle.t1_io.specs.Devices.{SourceState}
 use Rattle.t1_refusals.specs.declared.refusal.Reason.{Reason}

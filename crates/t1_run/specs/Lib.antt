@@ -4,6 +4,7 @@ pub mod FontFiles
 pub mod Input
 pub mod Laws
 pub mod Opening
+pub mod Programs
 pub mod Statuses
 pub mod Telling
 pub mod WaiverFiles

@@ -13,19 +13,25 @@
 #![tactic(auto)]
 
 mod answered;
+mod answering;
 mod failure;
 mod files;
 mod laws;
+mod program;
+mod running;
 mod status;
 mod telling;
 mod usage;
 mod words;
 
 pub use answered::Answered;
+pub use answering::answer;
 pub use failure::Failure;
 pub use files::{LARGEST_FILE, read_font_file, read_waivers};
 pub use laws::each_part_has_its_refusals;
+pub use program::Program;
+pub use running::run;
 pub use status::Status;
 pub use telling::{give, tell, tell_failure, tell_no_glyph, tell_parts, tell_write_failed};
 pub use usage::{UsageError, explain};
-pub use words::{edition, number, owned, parse, usage_error, words_given};
+pub use words::{borrowed, edition, number, owned, parse, usage_error, words_given};

@@ -106,3 +106,13 @@ pub fn owned(alloc: Global, text: Option<&str>) -> Result<Option<String>, AllocE
         None => Ok(None),
     }
 }
+
+/// The text of an argument, if it was given.
+pub fn borrowed(text: &Option<String>) -> Option<&str>
+    ensures { option_map (λ s. s.now) result ≡ option_map string_bytes text.now }
+{
+    match text {
+        Some(text) => Some(text.as_str()),
+        None => None,
+    }
+}

@@ -47,18 +47,18 @@ module _ (words : List Text) (fonts waivers : Folder) (input : SourceState) (sin
 
   by_running : RunsKeepPromises → sinks.out.failed ≡ false → sinks.errors.failed ≡ false
       → (options : Options) → AreTaken words options → (source source' : SourceState) → IsFontOf fonts input (option_map string_bytes options.file) source
-      → (file : Option SourceState) → RunsOn (checking words) options (opening_of waivers) source source' file sinks sinks' result
+      → (file : Option SourceState) → RunsOn checking options (opening_of waivers) source source' file sinks sinks' result
       → IsAnswered words fonts waivers input sinks sinks' result
   by_running keep out_sound errors_sound options taken source source' of file (ran v v' opening ends) =
       answered options taken source of v (of_waivers _ v v' file opening)
-      ((keep options source.left source'.failed v v' sinks.out sinks'.out sinks.errors sinks'.errors result
+      ((keep options source source' v v' sinks sinks' result
       (sound_waivers _ v v' file opening) out_sound errors_sound ends).decided went).answer
   by_running keep out_sound errors_sound options taken source source' of file (no_waivers name named cannot same none kept tells) =
       absurd (went (three _ _ _ _ tells))
 
 pub all_answered : RunsKeepPromises → WordsAndFilesAreAnswered
 all_answered keep words fonts waivers input input' files sinks sinks' result input_sound out_sound errors_sound
-    (explained none same (error, (refused, explains))) went =
+    (explained error refused none same explains) went =
     by_explaining words fonts waivers input sinks sinks' result went error refused explains
 all_answered keep words fonts waivers input input' files sinks sinks' result input_sound out_sound errors_sound
     (read_input options taken unnamed none runs) went =

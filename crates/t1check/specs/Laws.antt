@@ -3,7 +3,8 @@ use Rattle.std.specs.Prelude.{◌≡◌, ◌≢◌, ℕ, false, List, Option, No
 use Rattle.clap.specs.Words.{Text}
 use Rattle.t1_answer.specs.CommandLine.{t1check}
 use Rattle.t1_answer.specs.Laws.Runs.{Answered, IfKnown}
-use Rattle.t1_answer.specs.Words.{AreTaken, checking, waivers_named}
+use Rattle.t1_answer.specs.Waived.{waivers_named}
+use Rattle.t1_answer.specs.Words.{AreTaken, checking}
 use Rattle.t1_answer.specs.declared.asked.Options.{Options}
 use Rattle.t1_io.specs.Devices.{Delivered, SourceState}
 use Rattle.t1_run.specs.Answering.{Answers}
@@ -49,5 +50,5 @@ abbrev pub WordsAndFilesAreAnswered : Type 0
 WordsAndFilesAreAnswered =
     (words : List Text) (fonts waivers : Folder) (input input' : SourceState) (files : Files) (sinks sinks' : Sinks) (result : Status)
     → input.failed ≡ false → sinks.out.failed ≡ false → sinks.errors.failed ≡ false
-    → Answers (checking words) (opening_of fonts) (opening_of waivers) input input' files sinks sinks' result → result ≢ Failed
+    → Answers checking words (opening_of fonts) (opening_of waivers) input input' files sinks sinks' result → result ≢ Failed
     → IsAnswered words fonts waivers input sinks sinks' result

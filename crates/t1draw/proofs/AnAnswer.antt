@@ -8,7 +8,8 @@ use Rattle.t1_report.specs.Waivers.{Waiver}
 use Rattle.t1_rules.specs.Components.{glyph_named}
 use Rattle.t1_run.proofs.FewRead.{AreFew, HasFew, of_file, of_text}
 use Rattle.t1_run.specs.FontFiles.{font_of}
-use Rattle.t1draw.specs.Ends.{asks_waivers}
+use Rattle.t1_run.specs.Programs.{asks_waivers}
+use Rattle.t1draw.specs.Answers.{drawing}
 use Rattle.t1draw.specs.Laws.{Answer, HasAnAnswer, IsAnswerAt, IsAnswerTo, Wish, waived_by, wish_of}
 use Rattle.t1draw.specs.Laws.Answer.{NoGlyph, Picture, Unread as NotRead}
 
@@ -31,4 +32,4 @@ has_to has wish (Ok font) (Ok waivers) few are = has_at has wish font waivers (g
 
 pub an_answer : HasPicture → FontsWithinLimits → HasAnAnswer
 an_answer has limits options file text =
-    has_to has (wish_of options) (font_of file) (waived_by (asks_waivers options) text) (of_file limits file) (of_asked (asks_waivers options) text)
+    has_to has (wish_of options) (font_of file) (waived_by (asks_waivers drawing options) text) (of_file limits file) (of_asked (asks_waivers drawing options) text)

@@ -2,4 +2,3 @@ pub mod AnAnswer
 pub mod CommandLemmas
 pub mod GlyphWordLemmas
 pub mod OneAnswer
-pub mod Readings

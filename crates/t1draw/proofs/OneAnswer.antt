@@ -1,5 +1,5 @@
 -- Options, a font's file and the text of waivers have one answer.
-use Rattle.std.proofs.Common.{◌≡◌, ℕ, Bool, List, Option, None, Some, Result, Ok, Err, option_and_then, option_map, string_bytes, ap, arith, refl, subst, sym, ◌∙◌}
+use Rattle.std.proofs.Common.{◌≡◌, ℕ, Bool, List, Option, None, Some, Result, Ok, Err, option_and_then, ap, arith, refl, subst, sym, ◌∙◌}
 use Rattle.std.proofs.lemmas.Bool.{false≢true}
 use Rattle.std.specs.Option.{is_some}
 use Rattle.clap.specs.Words.{Text}
@@ -11,9 +11,10 @@ use Rattle.t1_picture.specs.Laws.{HasNoOtherPicture}
 use Rattle.t1_report.specs.Waivers.{Waiver}
 use Rattle.t1_rules.specs.Components.{glyph_named}
 use Rattle.t1_run.specs.FontFiles.{font_of}
+use Rattle.t1_run.specs.Programs.{asks_waivers}
 use Rattle.t1_run.specs.Words.{AreNumber, IsEditionOrFirst}
 use Rattle.t1draw.specs.CommandLine.{AreGiven, glyph_word}
-use Rattle.t1draw.specs.Ends.{asks_waivers}
+use Rattle.t1draw.specs.Answers.{drawing}
 use Rattle.t1_forms.specs.NameWords.{name_of_word}
 use Rattle.t1draw.specs.Laws.{Answer, HasNoOtherAnswer, IsAnswerAt, IsAnswerTo, Wish, waived_by, wish_of}
 use Rattle.t1draw.specs.Laws.Answer.{Picture}
@@ -56,11 +57,6 @@ one_some : {A : Type 0} (o : Option A) (x y : A) → o ≡ Some x → o ≡ Some
 unfolding some_or
 one_some o x y is is' = ap (some_or x) (sym is ∙ is')
 
--- whether there is a name is determined by its bytes
-named : {S : Type 0} (bytes : S → List ℕ) (o : Option S) → is_some (option_map bytes o) ≡ is_some o
-named bytes None = refl
-named bytes (Some s) = refl
-
 same_wish : (words : List Text) (options options' : Options) → AreGiven words options → AreGiven words options' → wish_of options' ≡ wish_of options
 same_wish words options options' given given' =
     let edition = one_edition _ options'.edition options.edition given'.edition given.edition in
@@ -69,12 +65,12 @@ same_wish words options options' given given' =
     rw (edition, step, glyph) refl
 
 same_asking : (words : List Text) (options options' : Options) → AreGiven words options → AreGiven words options'
-    → asks_waivers options' ≡ asks_waivers options
+    → asks_waivers drawing options' ≡ asks_waivers drawing options
 same_asking words options options' given given' =
-    sym (named string_bytes options'.waive) ∙ ap is_some (given'.waive ∙ sym given.waive) ∙ named string_bytes options.waive
+    ap is_some (given'.waive ∙ sym given.waive)
 
 pub one_answer : HasNoOtherPicture → HasNoOtherAnswer
 one_answer no_other words options options' file text a b given given' is is' =
-    one_to no_other (wish_of options) (font_of file) (waived_by (asks_waivers options) text) a b is
+    one_to no_other (wish_of options) (font_of file) (waived_by (asks_waivers drawing options) text) a b is
     (subst (λ (asked : Bool). IsAnswerTo (wish_of options) (font_of file) (waived_by asked text) b) (same_asking words options options' given given')
-    (subst (λ (wish : Wish). IsAnswerTo wish (font_of file) (waived_by (asks_waivers options') text) b) (same_wish words options options' given given') is'))
+    (subst (λ (wish : Wish). IsAnswerTo wish (font_of file) (waived_by (asks_waivers drawing options') text) b) (same_wish words options options' given given') is'))

@@ -1,12 +1,12 @@
 -- The command line: its arguments as clap sees them, and the options that words give by clap's rules.
-use Rattle.std.specs.Prelude.{◌≡◌, List, [], Option, None, Some, option_and_then, option_map, codes, string_bytes, true}
+use Rattle.std.specs.Prelude.{◌≡◌, ℕ, List, [], Option, None, Some, option_and_then, option_map, codes, string_bytes, true}
 use Rattle.clap.specs.Words.{App, Rule, Text, fault_of, first_of, matches_of, new_app, new_rule, with_rule}
 use Rattle.clap.specs.declared.builder.action.ArgAction.TheVariants.{Set}
 use Rattle.clap.specs.declared.builder.value_parser.ValueParser.TheVariants as parser
 use Rattle.t1_run.specs.Words.{AreNumber, AreRefused, IsEditionOrFirst, edition_rule, waive_rule}
+use Rattle.t1_run.specs.declared.usage.UsageError.{UsageError}
+use Rattle.t1_run.specs.declared.usage.UsageError.TheVariants.{Usage}
 use Rattle.t1_forms.specs.NameWords.{name_of_word}
-use Rattle.t1draw.specs.declared.command_line.NoOptions.{NoOptions}
-use Rattle.t1draw.specs.declared.command_line.NoOptions.TheVariants.{Usage, BadName}
 use Rattle.t1draw.specs.declared.command_line.Options.{Options}
 
 -- --step N, N a number of 64 bits from 1 on
@@ -57,7 +57,12 @@ pub record NamesNothing (words : List Text) : Type 0 where
   pub given : glyph_word words ≡ Some word
   pub no_name : name_of_word word ≡ None
 
+-- What is printed for a GLYPH that is no name.
+abbrev pub bad_name_text : List ℕ
+bad_name_text =
+    codes "error: in GLYPH a backslash stands in front of another one, or of x and two hexadecimal digits\n\nFor more information, try '--help'.\n"
+
 -- The words give no options: clap's rules refuse them, help was requested, or memory ran out; or GLYPH is no name.
-abbrev pub AreUntaken : List Text → NoOptions → Type 0
-AreUntaken words (Usage error) = AreRefused t1draw words error
-AreUntaken words BadName = NamesNothing words
+pub data AreUntaken (words : List Text) (error : UsageError) : Type 0 where
+  refused : AreRefused t1draw words error → AreUntaken words error
+  no_name : (text : _) → NamesNothing words → error ≡ Usage text → string_bytes text ≡ bad_name_text → AreUntaken words error

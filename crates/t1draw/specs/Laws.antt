@@ -8,9 +8,10 @@ use Rattle.t1_picture.specs.Pictures.{IsPictureOf}
 use Rattle.t1_report.specs.Waivers.{Waiver}
 use Rattle.t1_rules.specs.Components.{glyph_named}
 use Rattle.t1_run.specs.FontFiles.{font_of}
+use Rattle.t1_run.specs.Programs.{asks_waivers}
 use Rattle.t1_run.specs.WaiverFiles.{waivers_in}
 use Rattle.t1draw.specs.CommandLine.{AreGiven}
-use Rattle.t1draw.specs.Ends.{asks_waivers}
+use Rattle.t1draw.specs.Answers.{drawing}
 use Rattle.t1draw.specs.declared.command_line.Options.{Options}
 
 -- What is answered where memory is there and no device fails: a picture, why the font or the waivers aren't read, or that the
@@ -49,7 +50,7 @@ waived_by asked text = if asked then waivers_in text else Ok []
 
 -- This is answered to options, the bytes of the font's file and the text of the waivers.
 abbrev pub IsAnswer : Options → List ℕ → List ℕ → Answer → Type 0
-IsAnswer options file text answer = IsAnswerTo (wish_of options) (font_of file) (waived_by (asks_waivers options) text) answer
+IsAnswer options file text answer = IsAnswerTo (wish_of options) (font_of file) (waived_by (asks_waivers drawing options) text) answer
 
 -- There is an answer.
 abbrev pub HasAnAnswer : Type 0

@@ -1,5 +1,5 @@
 pub mod Answers
 pub mod CommandLine
-pub mod Ends
+pub mod Draws
 pub mod Laws
 pub mod Private

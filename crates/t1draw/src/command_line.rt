@@ -2,16 +2,20 @@
 
 ghost use Rattle.std.specs.Prelude.{◌≡◌, map, IfErr, IfOk};
 ghost use Rattle.clap.specs.Words.{app_of};
-ghost use Rattle.t1_run.specs.declared.usage.UsageError.TheVariants.{Memory};
+ghost use Rattle.t1draw.specs.Answers.{drawing};
 ghost use Rattle.t1draw.specs.CommandLine.{AreTaken, AreUntaken, t1draw};
-ghost use Rattle.t1draw.specs.declared.command_line.NoOptions.TheVariants.{Usage};
 
+use crate::PROGRAM;
 use crate::glyph_word::name_in;
+use crate::running::draw;
 use clap::{Arg, ArgAction, Command, value_parser};
 use std::alloc::{AllocError, Global};
 use std::convert::AsStr;
 use t1_char::Edition;
-use t1_run::{UsageError, edition, number, owned, parse};
+use t1_font::Font;
+use t1_io::Sink;
+use t1_report::Waivers;
+use t1_run::{Program, Status, UsageError, borrowed, edition, number, owned, parse};
 
 const ABOUT: &str = "\
 Draws a glyph of an Adobe Type 1 font (PFA or PFB), and the faults that t1check finds in it:
@@ -30,6 +34,13 @@ Examples:
   t1draw A font.pfb >A.svg             draws the glyph A
   t1draw --step 41 A font.pfb >A.svg   draws it up to step 41, whose stretch is thick";
 
+/// What is printed for a glyph's name with a backslash that means nothing.
+const BAD_NAME: &str = "\
+error: in GLYPH a backslash stands in front of another one, or of x and two hexadecimal digits
+
+For more information, try '--help'.
+";
+
 /// What is to be drawn.
 #[derive(Drop)]
 pub struct Options {
@@ -45,33 +56,39 @@ pub struct Options {
     pub font: Option<String>,
 }
 
-/// Why the words of the command line give no options.
-#[derive(Drop)]
-pub enum NoOptions {
-    /// Clap's rules refuse them, help was requested, or memory ran out.
-    Usage(UsageError),
-    /// The words are taken, but GLYPH is no name, as in `\q`.
-    BadName,
-}
+impl Program for Options {
+    ghost meaning = { drawing };
 
-impl From<UsageError> for NoOptions {
-    ghost from_gives = { λ error none. none ≡ Usage error };
-
-    fn from(error: UsageError) -> NoOptions {
-        NoOptions::Usage(error)
+    fn name() -> &'static str {
+        PROGRAM
     }
-}
 
-impl From<AllocError> for NoOptions {
-    ghost from_gives = { λ _ none. none ≡ Usage Memory };
+    fn read_words<S: AsStr>(alloc: Global, words: &[S]) -> Result<Options, UsageError> {
+        read_words(alloc, words)
+    }
 
-    fn from(_error: AllocError) -> NoOptions {
-        NoOptions::Usage(UsageError::Memory)
+    fn font(&self) -> Option<&str> {
+        borrowed(&self.font)
+    }
+
+    fn waivers(&self) -> Option<&str> {
+        borrowed(&self.waive)
+    }
+
+    fn show<W: Sink, E: Sink>(
+        &self,
+        alloc: Global,
+        font: &Font<'_>,
+        waivers: &Waivers<'_>,
+        out: &mut W,
+        errors: &mut E,
+    ) -> Status {
+        draw(alloc, self, font, waivers, out, errors)
     }
 }
 
 /// Reads the words of the command line, the program's name first.
-pub fn read_words<S: AsStr>(alloc: Global, words: &[S]) -> Result<Options, NoOptions>
+pub fn read_words<S: AsStr>(alloc: Global, words: &[S]) -> Result<Options, UsageError>
     ensures taken { IfOk result (AreTaken (map S.text words.now)) }
     ensures untaken { IfErr result (AreUntaken (map S.text words.now)) }
 {
@@ -80,7 +97,7 @@ pub fn read_words<S: AsStr>(alloc: Global, words: &[S]) -> Result<Options, NoOpt
     // This can't fail: the argument is required.
     let word = matches.get_str("glyph").unwrap();
     let Some(glyph) = name_in(alloc, word)? else {
-        return Err(NoOptions::BadName);
+        return Err(UsageError::Usage(String::from_str(alloc, BAD_NAME)?));
     };
     let waive = owned(alloc, matches.get_str("waive"))?;
     let step = number(matches.get_str("step"));

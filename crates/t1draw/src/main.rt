@@ -7,25 +7,21 @@
 //!
 //! Promised, where memory is there and no device fails: the words give options or none, by clap's rules
 //! ([`command_line::read_words`]); where they do, the words, the font's bytes and the waivers' decide the picture, to its last
-//! byte, or what is reported, and the status ([`answering::answer`], [`laws`]). Where the font, the waivers or the words are
+//! byte, or what is reported, and the status ([`answer`], [`laws`]). Where the font, the waivers or the words are
 //! refused, nothing is put on the output; that a read failed is reported only where one did.
 #![tactic(auto)]
 
-mod answering;
 mod command_line;
-mod explaining;
 mod glyph_word;
 mod laws;
 mod running;
 
-use crate::answering::answer;
-use crate::command_line::NoOptions;
-use crate::explaining::explain;
+use crate::command_line::Options;
 use std::fs;
 use std::io::BufWriter;
 use t1_forms::VERSION;
 use t1_io::{In, Out};
-use t1_run::{Failure, Status, give, tell_failure, words_given};
+use t1_run::{Failure, Status, answer, explain, give, tell_failure, words_given};
 
 /// The program's name, before what it prints.
 const PROGRAM: &str = "t1draw";
@@ -59,7 +55,7 @@ fn main(rt: HostRuntime) -> Status {
             }
         }
         Ok(words) => {
-            let answered = answer(
+            let answered = answer::<Options, _, _, _, _, _, _, _>(
                 alloc,
                 words.as_slice(),
                 &mut In::new(rt.stdin()),
@@ -70,6 +66,6 @@ fn main(rt: HostRuntime) -> Status {
             );
             answered.status
         }
-        Err(error) => explain(&NoOptions::Usage(error), &mut out, &mut errors),
+        Err(error) => explain(PROGRAM, &error, &mut out, &mut errors),
     }
 }

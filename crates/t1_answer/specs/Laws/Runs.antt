@@ -9,7 +9,9 @@ use Rattle.t1_run.specs.declared.status.Status.{Status}
 use Rattle.t1_run.specs.declared.status.Status.TheVariants.{Clean, Failed, Faults, Refused}
 use Rattle.t1_refusals.specs.declared.refusal.Reason.{Reason}
 use Rattle.t1_answer.specs.Answers.{Answer, IsAnswerTo}
-use Rattle.t1_answer.specs.Ends.{Ends}
+use Rattle.t1_answer.specs.Words.{checking}
+use Rattle.t1_run.specs.Opening.{Sinks}
+use Rattle.t1_run.specs.Programs.{Ends}
 use Rattle.t1_run.specs.FontFiles.{font_of}
 use Rattle.t1_report.specs.Waivers.{Waiver}
 use Rattle.t1_answer.specs.Waived.{asks_waivers}
@@ -98,8 +100,7 @@ pub record Promises (options : Options) (left : Option (List ℕ)) (failed : Boo
 -- Each way in which a run ends keeps them.
 abbrev pub RunsKeepPromises : Type 0
 RunsKeepPromises =
-    (options : Options) (left : Option (List ℕ)) (failed : Bool) (waivers waivers' : SourceState)
-    (out out' errors errors' : SinkState) (result : Status)
-    → waivers.failed ≡ false → out.failed ≡ false → errors.failed ≡ false
-    → Ends options left failed waivers waivers' out out' errors errors' result
-    → Promises options left failed waivers waivers' out out' errors errors' result
+    (options : Options) (source source' waivers waivers' : SourceState) (sinks sinks' : Sinks) (result : Status)
+    → waivers.failed ≡ false → sinks.out.failed ≡ false → sinks.errors.failed ≡ false
+    → Ends checking options source source' waivers waivers' sinks sinks' result
+    → Promises options source.left source'.failed waivers waivers' sinks.out sinks'.out sinks.errors sinks'.errors result

@@ -6,6 +6,7 @@ use Rattle.clap.specs.declared.parser.matches.ArgMatches.{ArgMatches}
 use Rattle.t1_run.specs.Words.{AreNumber, IsEditionOrFirst, IsNumberArgument, IsPlainApp, IsRequiredArgument, IsTextOfNumber, edition_rule}
 use Rattle.t1_run.proofs.Commands.{by_rules, first_of-found}
 use Rattle.t1draw.specs.CommandLine.{t1draw, glyph_rule, step_rule}
+use Rattle.t1draw.specs.CommandLine.AreUntaken.{no_name}
 use Rattle.t1_forms.specs.NameWords.{name_of_word}
 use Rattle.t1draw.proofs.CommandLemmas.{plain}
 use Rattle.t1draw.proofs.command_line.read_words.Goals as goal
@@ -72,12 +73,12 @@ number-step-requires g c =
 pub returns-in_default-clause-untaken : goal.returns-in_default-clause-untaken
 returns-in_default-clause-untaken g c =
     let parsed = by_rules t1draw c.in_ok-command.ensures c.in_ok-matches.ensures.parsed in
-    record {
+    no_name _ (record {
       faultless = parsed.sound;
       word = c.unwrap-word.result.now;
       given = given_word c.in_ok-matches.matches _ _ _ parsed.rows c.get_str-2.ensures c.unwrap-word.ensures;
       no_name = unnamed _ _ _ c.in_default.not-Some c.in_ok-glyph.ensures;
-    }
+    }) refl c.in_ok-from_str.ensures.ok
 
 pub returns-clause-taken : goal.returns-clause-taken
 returns-clause-taken g c =

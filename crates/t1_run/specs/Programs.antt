@@ -1,0 +1,81 @@
+-- A program that reads one font: what its words mean, and how its run ends.
+use Rattle.std.specs.Prelude.{◌≡◌, ℕ, Bool, true, false, List, Option, Ok, Err}
+use Rattle.std.specs.Option.{is_some}
+use Rattle.clap.specs.Words.{Text}
+use Rattle.t1_font.specs.Fonts.{FontValue}
+use Rattle.t1_io.specs.Devices.{SourceState}
+use Rattle.t1_refusals.specs.declared.refusal.Reason.{Reason}
+use Rattle.t1_report.specs.Waivers.{Waiver}
+use Rattle.t1_run.specs.Failures.{failure_line, failure_of, failure_status, out_of_memory_line, read_failed_line}
+use Rattle.t1_run.specs.FontFiles.{AreRead}
+use Rattle.t1_run.specs.Opening.{Sinks}
+use Rattle.t1_run.specs.Telling.{Tells}
+use Rattle.t1_run.specs.WaiverFiles.{AreWaived, IsHeard}
+use Rattle.t1_run.specs.declared.status.Status.{Status}
+use Rattle.t1_run.specs.declared.status.Status.TheVariants.{Failed, Refused}
+use Rattle.t1_run.specs.declared.usage.UsageError.{UsageError}
+
+-- What a program makes of its words.
+pub record Meaning (Options : Type 0) : Type 1 where
+  -- Its name.
+  pub name : List ℕ
+  -- The words yield these options; or they yield none, for this reason.
+  pub Yields : List Text → Options → Type 0
+  pub Refuses : List Text → UsageError → Type 0
+  -- The name of the font's file, without which standard input is read, and of the file of waivers that is to be read.
+  pub font : Options → Option Text
+  pub waivers : Options → Option Text
+  -- What was requested of a font was printed, by waivers, with this status.
+  pub Shows : Options → FontValue → List Waiver → Sinks → Sinks → Status → Type 0
+
+-- Waivers are requested where their file is named.
+abbrev pub asks_waivers : {Options : Type 0} → Meaning Options → Options → Bool
+asks_waivers program options = is_some (program.waivers options)
+
+-- How a run ends that read this font: the source of waivers before it and after it. The waivers are read first, if they
+-- are requested.
+pub data EndsWith {Options : Type 0} (program : Meaning Options) (options : Options) (font : FontValue) (waivers waivers' : SourceState)
+    (sinks sinks' : Sinks) (result : Status) : Type 0 where
+  shown :
+      (waived : List Waiver) → AreWaived (asks_waivers program options) waivers.left (Ok waived)
+      → IsHeard (asks_waivers program options) waivers waivers' → program.Shows options font waived sinks sinks' result
+      → EndsWith program options font waivers waivers' sinks sinks' result
+  -- status 2
+  waivers_refused :
+      (reason : Reason) → AreWaived (asks_waivers program options) waivers.left (Err reason)
+      → IsHeard (asks_waivers program options) waivers waivers' → sinks'.out ≡ sinks.out
+      → Tells (failure_line program.name (failure_of reason)) Refused sinks.errors sinks'.errors result
+      → EndsWith program options font waivers waivers' sinks sinks' result
+  -- status 3
+  waivers_unread :
+      asks_waivers program options ≡ true → waivers'.failed ≡ true → sinks'.out ≡ sinks.out
+      → Tells (read_failed_line program.name) Failed sinks.errors sinks'.errors result
+      → EndsWith program options font waivers waivers' sinks sinks' result
+  -- status 3
+  no_room :
+      asks_waivers program options ≡ true → waivers'.failed ≡ waivers.failed → sinks'.out ≡ sinks.out
+      → Tells (out_of_memory_line program.name) Failed sinks.errors sinks'.errors result
+      → EndsWith program options font waivers waivers' sinks sinks' result
+
+-- How a run ends: the source of the font before it and after it, and that of waivers.
+pub data Ends {Options : Type 0} (program : Meaning Options) (options : Options) (source source' waivers waivers' : SourceState)
+    (sinks sinks' : Sinks) (result : Status) : Type 0 where
+  font_read :
+      (font : FontValue) → AreRead source.left (Ok font) → source'.failed ≡ false
+      → EndsWith program options font waivers waivers' sinks sinks' result
+      → Ends program options source source' waivers waivers' sinks sinks' result
+  -- status 2
+  font_refused :
+      (reason : Reason) → AreRead source.left (Err reason) → source'.failed ≡ false → waivers' ≡ waivers → sinks'.out ≡ sinks.out
+      → Tells (failure_line program.name (failure_of reason)) (failure_status (failure_of reason)) sinks.errors sinks'.errors result
+      → Ends program options source source' waivers waivers' sinks sinks' result
+  -- status 3
+  read_failed :
+      source'.failed ≡ true → waivers' ≡ waivers → sinks'.out ≡ sinks.out
+      → Tells (read_failed_line program.name) Failed sinks.errors sinks'.errors result
+      → Ends program options source source' waivers waivers' sinks sinks' result
+  -- status 3
+  no_memory :
+      source'.failed ≡ false → waivers' ≡ waivers → sinks'.out ≡ sinks.out
+      → Tells (out_of_memory_line program.name) Failed sinks.errors sinks'.errors result
+      → Ends program options source source' waivers waivers' sinks sinks' result
