@@ -8,7 +8,7 @@ const LAST = 0, MORE = 1, NO_ROOM = 2, REFUSED = 3, MEMORY = 4, NO_GLYPH = 5, BA
 const FORMS = {
   text: { name: 't1_web_lines', words: [0], size: 24 },
   json: { name: 't1_web_lines', words: [1], size: 24 },
-  sarif: { name: 't1_web_document', words: [], size: 712 },
+  sarif: { name: 't1_web_document', words: [], size: 704 },
 };
 
 // How much is handed over at once, if the next line isn't longer.

@@ -170,10 +170,10 @@ numbers_again : (ns : List ℕ) → numbers_in (items_of (map (λ n. number (uns
 numbers_again [] = refl
 numbers_again (n ∷ ns) = ap (λ (ms : List ℕ). n ∷ ms) (numbers_again ns)
 
-abbrev refusals : List RefusalCode
+abbrev pub refusals : List RefusalCode
 refusals = E01 ∷ E02 ∷ E03 ∷ E04 ∷ E05 ∷ E06 ∷ E07 ∷ E08 ∷ E09 ∷ E10 ∷ E11 ∷ E12 ∷ E13 ∷ E14 ∷ E15 ∷ []
 
-abbrev refusal_among : List RefusalCode → List ℕ → Option RefusalCode
+abbrev pub refusal_among : List RefusalCode → List ℕ → Option RefusalCode
 refusal_among [] word = None
 refusal_among (code ∷ others) word = if bytes_eq (refusal_code_of code) word then Some code else refusal_among others word
 

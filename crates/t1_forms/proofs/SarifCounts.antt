@@ -80,6 +80,6 @@ counted (t ∷ ts) state results failures room =
     }
 
 pub all_is_told : AllIsTold
-all_is_told docs ts =
-    let all = counted ts (begun docs) [] [] (omega arith) in
+all_is_told pages ts =
+    let all = counted ts (begun pages) [] [] (omega arith) in
     record { results = omega (arith, all.of_results); failures = omega (arith, all.of_failures); most = all.most }

@@ -58,23 +58,23 @@ stands_failure state results failures d stands = record {
 }
 
 stream-end : (later : Bool) (state : SarifState) (results failures : List Data) → Stands state results failures
-    → runs_text later state.docs (runs_from [] state results failures) ≡ (comma_if later ++ run_begin state.docs) ++ (separated results ++ tellings_text state [])
+    → runs_text later state.pages (runs_from [] state results failures) ≡ (comma_if later ++ run_begin state.pages) ++ (separated results ++ tellings_text state [])
 stream-end later state results failures stands =
     rw (stands.count, stands.text)
-    (ap (λ t. (comma_if later ++ run_begin state.docs) ++ t)
+    (ap (λ t. (comma_if later ++ run_begin state.pages) ++ t)
     (append_assoc (separated results) (run_end (length failures == 0) (separated failures)) (codes "]}\n")))
 
 -- The runs that such a function gives are those that are written of tellings.
 abbrev Streams : List ToldValue → (SarifState → List Data → List Data → List Run) → Type 0
 Streams ts rest =
     (later : Bool) (state : SarifState) (results failures : List Data) → Stands state results failures
-    → runs_text later state.docs (rest state results failures) ≡ (comma_if later ++ run_begin state.docs) ++ (separated results ++ tellings_text state ts)
+    → runs_text later state.pages (rest state results failures) ≡ (comma_if later ++ run_begin state.pages) ++ (separated results ++ tellings_text state ts)
 
 stream-with : (ts : List ToldValue) (rest : SarifState → List Data → List Data → List Run) → Streams ts rest
     → (later : Bool) (state : SarifState) (results failures : List Data) (font : Option (List ℕ)) (what : WhatValue)
     → (reason : Option ReasonValue) → Stands state results failures
-    → runs_text later state.docs (run_step rest state (after_what state font what (what_spelled what)) results failures font what reason)
-    ≡ (comma_if later ++ run_begin state.docs) ++ (separated results ++ tellings_text state (record { font = font; what = what; reason = reason } ∷ ts))
+    → runs_text later state.pages (run_step rest state (after_what state font what (what_spelled what)) results failures font what reason)
+    ≡ (comma_if later ++ run_begin state.pages) ++ (separated results ++ tellings_text state (record { font = font; what = what; reason = reason } ∷ ts))
 stream-with ts rest streams later state results failures font (of_line l) reason stands =
     let d = result_of state font l reason in
     let after = after_what state font (of_line l) (what_spelled (of_line l)) in
@@ -85,10 +85,10 @@ stream-with ts rest streams later state results failures font (of_line l) reason
       text = stands.text;
     }) in
     more
-    ∙ ap (λ t. (comma_if later ++ run_begin state.docs) ++ (t ++ tellings_text after ts)) (separated_push false results d)
-    ∙ ap (λ t. (comma_if later ++ run_begin state.docs) ++ t)
+    ∙ ap (λ t. (comma_if later ++ run_begin state.pages) ++ (t ++ tellings_text after ts)) (separated_push false results d)
+    ∙ ap (λ t. (comma_if later ++ run_begin state.pages) ++ t)
     (append_assoc (separated results) (comma_if (has_items results) ++ compact_text d) (tellings_text after ts))
-    ∙ ap (λ b. (comma_if later ++ run_begin state.docs) ++ (separated results ++ ((comma_if b ++ compact_text d) ++ tellings_text after ts)))
+    ∙ ap (λ b. (comma_if later ++ run_begin state.pages) ++ (separated results ++ ((comma_if b ++ compact_text d) ++ tellings_text after ts)))
     (sym stands.has)
 stream-with ts rest streams later state results failures font (of_unchecked why) reason stands =
     let d = notification_of font why in
@@ -104,14 +104,14 @@ stream-with ts rest streams later state results failures font (of_unchecked why)
           let after = record fresh { failures = compact_text d; failure_count = 1 } in
           let more = streams true after [] (d ∷ []) (stands_failure fresh [] [] d stood) in
           rw (full, kept)
-          (ap (λ t. (comma_if later ++ run_begin state.docs)
+          (ap (λ t. (comma_if later ++ run_begin state.pages)
           ++ ((separated results ++ run_end (length failures == 0) (separated failures)) ++ t)) more
           ∙ rw (stands.count, stands.text)
-          (ap (λ t. (comma_if later ++ run_begin state.docs) ++ t)
+          (ap (λ t. (comma_if later ++ run_begin state.pages) ++ t)
           (append_assoc (separated results) (run_end (length failures == 0) (separated failures))
-          ((44 ∷ run_begin state.docs) ++ tellings_text after ts)
+          ((44 ∷ run_begin state.pages) ++ tellings_text after ts)
           ∙ ap (λ t. separated results ++ t)
-          (sym (append_assoc (run_end (length failures == 0) (separated failures)) (44 ∷ run_begin state.docs) (tellings_text after ts)))))))
+          (sym (append_assoc (run_end (length failures == 0) (separated failures)) (44 ∷ run_begin state.pages) (tellings_text after ts)))))))
     ]
 
 stream : (ts : List ToldValue) → Streams ts (runs_from ts)
@@ -120,7 +120,7 @@ stream (t ∷ ts) later state results failures stands =
     stream-with ts (runs_from ts) (stream ts) later state results failures t.font t.what t.reason stands
 
 pub documents : DocumentsAreOfTheirRuns
-documents docs ts =
-    append_assoc document_begin (run_begin docs) (tellings_text (begun docs) ts)
+documents pages ts =
+    append_assoc document_begin (run_begin pages) (tellings_text (begun pages) ts)
     ∙ ap (λ t. document_begin ++ t)
-    (sym (stream ts false (begun docs) [] [] (record { has = refl; count = refl; some = refl; text = refl })))
+    (sym (stream ts false (begun pages) [] [] (record { has = refl; count = refl; some = refl; text = refl })))

@@ -3,7 +3,6 @@ pub mod Laws
 pub mod NameWords
 pub mod Objects
 pub mod PageValues
-pub mod Pages
 pub mod Percents
 pub mod Private
 pub mod Sarif

@@ -1,24 +1,26 @@
 -- A document of SARIF as it is written: what is before all lines, what one line more adds, and what is after them all.
 -- Static Analysis Results Interchange Format 2.1.0, 3.13, 3.14, 3.20.
-use Rattle.std.specs.Prelude.{ℕ, ◌+◌, ◌==◌, nat_lt, Bool, true, false, if◌then◌else◌, List, [], ◌∷◌, ◌++◌, codes, bytes_eq, replicate, slice_index, slice_set, Option, option_map, string_bytes}
+use Rattle.std.specs.Prelude.{ℕ, ◌+◌, ◌-◌, ◌==◌, nat_lt, Bool, true, false, if◌then◌else◌, List, [], ◌∷◌, ◌++◌, codes, bytes_eq, replicate, slice_index, slice_set, Option, string_bytes}
 use Rattle.serde_json.specs.Written.{comma_if, compact_text}
 use Rattle.t1_io.specs.Devices.{one_more}
-use Rattle.t1_lines.specs.Lines.{LineValue}
-use Rattle.t1_forms.specs.PageValues.{place_among}
-use Rattle.t1_forms.specs.Pages.{page_count, pages}
-use Rattle.t1_forms.specs.SarifObjects.{fingerprint, line_code, notification_object, result_object, tool_object, unit_of}
+use Rattle.t1_lines.specs.Lines.{LineValue, of_fault, of_refusal}
+use Rattle.t1_refusals.specs.declared.refusal.RefusalCode.{RefusalCode}
+use Rattle.t1_refusals.specs.declared.refusal.RefusalCode.TheVariants.{E01, E02, E03, E04, E05, E06, E07, E08, E09, E10, E11, E12, E13, E14, E15}
+use Rattle.t1_rules.specs.Book.{number_of}
+use Rattle.t1_forms.specs.PageValues.{PagesValue, pages_value}
+use Rattle.t1_forms.specs.SarifObjects.{fingerprint, notification_object, result_object, tool_object, unit_of}
 use Rattle.t1_forms.specs.Tellings.{ReasonValue, ToldValue, WhatValue, of_line, of_unchecked}
 use Rattle.t1_forms.specs.declared.sarif.Sarif.{Sarif}
 
 -- What is kept from line to line.
 pub record SarifState : Type 0 where
-  -- The address of the page of all rules.
-  pub docs : Option (List ℕ)
+  -- The pages of rules and refusals.
+  pub pages : PagesValue
   -- Whether the run has a result.
   pub has_results : Bool
   -- The unit of the last result.
   pub unit : List ℕ
-  -- How many results there were of each code since the unit began, by the code's place among the pages.
+  -- How many results there were of each code since the unit began, by the code's number.
   pub counts : List ℕ
   -- Why fonts weren't checked, as text, and how many these are.
   pub failures : List ℕ
@@ -26,7 +28,7 @@ pub record SarifState : Type 0 where
 
 abbrev pub sarif_state : Sarif → SarifState
 sarif_state s = record {
-  docs = option_map (λ docs. docs.now) s.docs;
+  pages = pages_value s.pages;
   has_results = s.has_results;
   unit = string_bytes s.unit;
   counts = s.counts;
@@ -40,9 +42,9 @@ sarif_state s = record {
 abbrev pub most_failures : ℕ
 most_failures = 1000
 
--- What is before the results of a run: the program and its rules.
-unfoldable pub run_begin : Option (List ℕ) → List ℕ
-run_begin docs = codes "{\"tool\":" ++ (compact_text (tool_object docs) ++ codes ",\"results\":[")
+-- What is before the results of a run: the program and the pages of its rules.
+unfoldable pub run_begin : PagesValue → List ℕ
+run_begin pages = codes "{\"tool\":" ++ (compact_text (tool_object pages) ++ codes ",\"results\":[")
 
 -- And after them: whether each font was checked, and which were not.
 abbrev pub truth : Bool → List ℕ
@@ -53,24 +55,52 @@ run_end successful failures =
     codes "],\"invocations\":[{\"executionSuccessful\":"
     ++ (truth successful ++ (codes ",\"toolExecutionNotifications\":[" ++ (failures ++ codes "]}]}")))
 
+-- ---- the numbers of codes
+
+abbrev pub refusal_number : RefusalCode → ℕ
+refusal_number E01 = 0
+refusal_number E02 = 1
+refusal_number E03 = 2
+refusal_number E04 = 3
+refusal_number E05 = 4
+refusal_number E06 = 5
+refusal_number E07 = 6
+refusal_number E08 = 7
+refusal_number E09 = 8
+refusal_number E10 = 9
+refusal_number E11 = 10
+refusal_number E12 = 11
+refusal_number E13 = 12
+refusal_number E14 = 13
+refusal_number E15 = 14
+
+-- First the rules', then the refusals'.
+abbrev pub code_number : LineValue → ℕ
+code_number (of_fault l) = number_of l.rule - 1
+code_number (of_refusal code) = 70 + refusal_number code
+
+-- How many codes there are.
+abbrev pub code_count : ℕ
+code_count = 85
+
 -- ---- the beginning and the end
 
 abbrev pub no_counts : List ℕ
-no_counts = replicate (page_count + 1) 0
+no_counts = replicate code_count 0
 
 -- A document that has no line yet.
-abbrev pub begun : Option (List ℕ) → SarifState
-begun docs = record { docs = docs; has_results = false; unit = []; counts = no_counts; failures = []; failure_count = 0 }
+abbrev pub begun : PagesValue → SarifState
+begun pages = record { pages = pages; has_results = false; unit = []; counts = no_counts; failures = []; failure_count = 0 }
 
 -- A document whose last result is of this unit, where each font was checked.
-abbrev pub resumed : Option (List ℕ) → List ℕ → List ℕ → SarifState
-resumed docs unit counts = record { docs = docs; has_results = true; unit = unit; counts = counts; failures = []; failure_count = 0 }
+abbrev pub resumed : PagesValue → List ℕ → List ℕ → SarifState
+resumed pages unit counts = record { pages = pages; has_results = true; unit = unit; counts = counts; failures = []; failure_count = 0 }
 
 abbrev pub document_begin : List ℕ
 document_begin = codes "{\"$schema\":\"https://json.schemastore.org/sarif-2.1.0.json\",\"version\":\"2.1.0\",\"runs\":["
 
-abbrev pub opening : Option (List ℕ) → List ℕ
-opening docs = document_begin ++ run_begin docs
+abbrev pub opening : PagesValue → List ℕ
+opening pages = document_begin ++ run_begin pages
 
 abbrev pub state_end : SarifState → List ℕ
 state_end state = run_end (state.failure_count == 0) state.failures
@@ -86,19 +116,19 @@ counts_in state unit = if bytes_eq unit state.unit then state.counts else no_cou
 
 -- The ordinal of the next result among those of its unit and its code.
 abbrev pub count_of : SarifState → Option (List ℕ) → LineValue → ℕ
-count_of state font l = one_more (slice_index (counts_in state (unit_of font l)) (place_among pages (line_code l)))
+count_of state font l = one_more (slice_index (counts_in state (unit_of font l)) (code_number l))
 
 abbrev pub result_text : SarifState → Option (List ℕ) → LineValue → List ℕ → Option ReasonValue → List ℕ
 result_text state font l line reason =
     comma_if state.has_results
-    ++ compact_text (result_object font l line reason (fingerprint (unit_of font l) l (count_of state font l)))
+    ++ compact_text (result_object state.pages.list font l line reason (fingerprint (unit_of font l) l (count_of state font l)))
 
 abbrev pub after_result : SarifState → Option (List ℕ) → LineValue → SarifState
 after_result state font l =
     record state {
       has_results = true;
       unit = unit_of font l;
-      counts = slice_set (counts_in state (unit_of font l)) (place_among pages (line_code l)) (count_of state font l);
+      counts = slice_set (counts_in state (unit_of font l)) (code_number l) (count_of state font l);
     }
 
 -- ---- why a font wasn't checked
@@ -110,7 +140,7 @@ with_room state =
     else record state { has_results = false; failures = []; failure_count = 0 }
 
 abbrev pub room_text : SarifState → List ℕ
-room_text state = if nat_lt state.failure_count most_failures then [] else state_end state ++ (44 ∷ run_begin state.docs)
+room_text state = if nat_lt state.failure_count most_failures then [] else state_end state ++ (44 ∷ run_begin state.pages)
 
 abbrev pub with_failure : SarifState → List ℕ → SarifState
 with_failure state text =

@@ -5,9 +5,8 @@ use Rattle.serde_json.specs.Data.{Data}
 use Rattle.serde_json.specs.Written.{comma_if, compact_text}
 use Rattle.t1_rules.specs.Book.{code_of, text_of}
 use Rattle.t1_lines.specs.Lines.{FaultLineValue, IsFaultLine, LineValue, fault_spelled, place_words, spaced}
-use Rattle.t1_forms.specs.PageValues.{place_among}
-use Rattle.t1_forms.specs.Pages.{page_count, pages}
-use Rattle.t1_forms.specs.Sarif.{SarifState, after_result, after_telling, begun, closing, count_of, document_begin, most_failures, opening, run_begin, run_end, telling_text}
+use Rattle.t1_forms.specs.PageValues.{PagesValue}
+use Rattle.t1_forms.specs.Sarif.{SarifState, after_result, after_telling, begun, closing, code_count, count_of, document_begin, most_failures, opening, run_begin, run_end, telling_text}
 use Rattle.t1_forms.specs.Laws.{AreBytes}
 use Rattle.t1_forms.specs.Percents.{decoded}
 use Rattle.t1_io.specs.Devices.{one_more}
@@ -43,18 +42,18 @@ abbrev pub run_rest : Run → List ℕ
 run_rest run = separated run.results ++ run_end (length run.failures == 0) (separated run.failures)
 
 -- Runs with commas between them, and what is after the last one.
-abbrev pub runs_text : Bool → Option (List ℕ) → List Run → List ℕ
-runs_text later docs [] = codes "]}\n"
-runs_text later docs (run ∷ runs) = (comma_if later ++ run_begin docs) ++ (run_rest run ++ runs_text true docs runs)
+abbrev pub runs_text : Bool → PagesValue → List Run → List ℕ
+runs_text later pages [] = codes "]}\n"
+runs_text later pages (run ∷ runs) = (comma_if later ++ run_begin pages) ++ (run_rest run ++ runs_text true pages runs)
 
-abbrev pub document_text : Option (List ℕ) → List Run → List ℕ
-document_text docs runs = document_begin ++ runs_text false docs runs
+abbrev pub document_text : PagesValue → List Run → List ℕ
+document_text pages runs = document_begin ++ runs_text false pages runs
 
 -- ---- the runs of tellings
 
 -- The result of a line.
 abbrev pub result_of : SarifState → Option (List ℕ) → LineValue → Option ReasonValue → Data
-result_of state font l reason = result_object font l (what_spelled (of_line l)) reason (fingerprint (unit_of font l) l (count_of state font l))
+result_of state font l reason = result_object state.pages.list font l (what_spelled (of_line l)) reason (fingerprint (unit_of font l) l (count_of state font l))
 
 abbrev pub notification_of : Option (List ℕ) → List ℕ → Data
 notification_of font reason = notification_object font (what_spelled (of_unchecked reason))
@@ -74,14 +73,15 @@ runs_from [] state results failures = record { results = results; failures = fai
 runs_from (t ∷ ts) state results failures = run_step (runs_from ts) state (after_one state t) results failures t.font t.what t.reason
 
 -- The runs of a document that has reported these.
-abbrev pub runs_of : Option (List ℕ) → List ToldValue → List Run
-runs_of docs ts = runs_from ts (begun docs) [] []
+abbrev pub runs_of : PagesValue → List ToldValue → List Run
+runs_of pages ts = runs_from ts (begun pages) [] []
 
 -- ---- laws
 
 -- What is written from the beginning to the end is the document of the runs.
 abbrev pub DocumentsAreOfTheirRuns : Type 0
-DocumentsAreOfTheirRuns = (docs : Option (List ℕ)) (ts : List ToldValue) → opening docs ++ tellings_text (begun docs) ts ≡ document_text docs (runs_of docs ts)
+DocumentsAreOfTheirRuns =
+    (pages : PagesValue) (ts : List ToldValue) → opening pages ++ tellings_text (begun pages) ts ≡ document_text pages (runs_of pages ts)
 
 abbrev pub line_count : WhatValue → ℕ
 line_count (of_line l) = 1
@@ -99,7 +99,7 @@ pub record IsCounted (runs : List Run) (ts : List ToldValue) : Type 0 where
   pub most : AllByRecursion (λ run. length run.failures ≤ most_failures) runs
 
 abbrev pub AllIsTold : Type 0
-AllIsTold = (docs : Option (List ℕ)) (ts : List ToldValue) → IsCounted (runs_of docs ts) ts
+AllIsTold = (pages : PagesValue) (ts : List ToldValue) → IsCounted (runs_of pages ts) ts
 
 -- What a result shows of a fault is its line without the number: place, code and text of the rule.
 abbrev pub MessagesHaveNoNumber : Type 0
@@ -114,10 +114,10 @@ UrisAreReadBack = (path : List ℕ) → AreBytes path → decoded (flat_map uri_
 -- line is known by stays where lines of other codes, or of other units, come or go.
 pub record CountsGoOn (state : SarifState) (font : Option (List ℕ)) (l other : LineValue) : Type 0 where
   pub begins : bytes_eq (unit_of font l) state.unit ≡ false → count_of state font l ≡ 1
-  pub stays : unit_of font other ≡ unit_of font l → ¬ (place_among pages (line_code l) ≡ place_among pages (line_code other))
+  pub stays : unit_of font other ≡ unit_of font l → ¬ (line_code l ≡ line_code other)
       → count_of (after_result state font other) font l ≡ count_of state font l
-  pub goes_on : unit_of font other ≡ unit_of font l → place_among pages (line_code l) ≡ place_among pages (line_code other)
-      → length state.counts ≡ page_count + 1 → count_of (after_result state font other) font l ≡ one_more (count_of state font l)
+  pub goes_on : unit_of font other ≡ unit_of font l → line_code l ≡ line_code other
+      → length state.counts ≡ code_count → count_of (after_result state font other) font l ≡ one_more (count_of state font l)
 
 abbrev pub CountsAreOfTheirUnits : Type 0
 CountsAreOfTheirUnits = (state : SarifState) (font : Option (List ℕ)) (l other : LineValue) → CountsGoOn state font l other

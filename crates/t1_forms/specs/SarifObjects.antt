@@ -12,8 +12,7 @@ use Rattle.t1_rules.specs.declared.level.Level.{Level}
 use Rattle.t1_rules.specs.declared.level.Level.TheVariants.{Must, Should, Tidy}
 use Rattle.t1_lines.specs.Lines.{LineValue, PlaceValue, at_key, at_step, at_waiver, of_fault, of_refusal}
 use Rattle.t1_forms.specs.Objects.{refusal_code_of}
-use Rattle.t1_forms.specs.PageValues.{PageValue, place_among}
-use Rattle.t1_forms.specs.Pages.{pages}
+use Rattle.t1_forms.specs.PageValues.{PageValue, PagesValue, place_among}
 use Rattle.t1_forms.specs.Shown.{hexadecimal_digit, shown}
 use Rattle.t1_forms.specs.Tellings.{ReasonValue}
 
@@ -59,12 +58,12 @@ page_object docs page = object (with_help_uri docs page.anchor (page_members pag
 abbrev pub version : List ℕ
 version = codes "1.0.0"
 
--- The program, its rules and its version.
-abbrev pub tool_object : Option (List ℕ) → Data
-tool_object docs =
+-- The program, the pages of its rules and its version.
+abbrev pub tool_object : PagesValue → Data
+tool_object pages =
     object (member (codes "driver") (object
     (member (codes "name") (string (codes "t1check"))
-    (member (codes "rules") (array (items_of (map (page_object docs) pages)))
+    (member (codes "rules") (array (items_of (map (page_object pages.docs) pages.list)))
     (member (codes "version") (string version) no_members)))) no_members)
 
 -- ---- places
@@ -163,8 +162,8 @@ unit_of font l = shown (unwrap_or font []) ++ line_unit l
 abbrev pub fingerprint : List ℕ → LineValue → ℕ → List ℕ
 fingerprint unit l count = unit ++ (32 ∷ (line_id l ++ (32 ∷ decimal count)))
 
-abbrev pub result_object : Option (List ℕ) → LineValue → List ℕ → Option ReasonValue → List ℕ → Data
-result_object font l line reason print =
+abbrev pub result_object : List PageValue → Option (List ℕ) → LineValue → List ℕ → Option ReasonValue → List ℕ → Data
+result_object pages font l line reason print =
     object (member (codes "level") (string (line_level l))
     (member (codes "locations") (line_locations font l)
     (member (codes "message") (text_object (and_reason (line_message l line) reason))

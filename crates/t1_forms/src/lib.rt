@@ -10,8 +10,8 @@
 //! - The line of JSON is the compact text of the object that is meant, and nothing else. What is reported differently has different
 //!   objects.
 //! - A command of GitHub is the text that its definition says. What it shows stays in its place, and is read back as it was.
-//! - A document of SARIF is the text that its definition says: runs, each with the rules, a result for each line, and the fonts that
-//!   weren't checked.
+//! - A document of SARIF is the text that its definition says: runs, each with the pages that it was given, a result for each line,
+//!   and the fonts that weren't checked.
 //!
 //! Memory doesn't grow with what is written, but for fonts that weren't checked, of which a document keeps at most a thousand. This is
 //! shown by tests alone.
@@ -32,7 +32,7 @@ mod error;
 mod laws;
 mod names;
 mod objects;
-mod pages;
+mod page;
 mod reason;
 mod sarif;
 mod sarif_laws;
@@ -45,8 +45,9 @@ pub use error::FormatError;
 pub use laws::{
     commands_are_read_back, different_tellings_have_different_objects, shown_names_are_words,
 };
-pub use names::shown;
+pub use names::{push_escaped, shown};
 pub use objects::{object, write_object};
+pub use page::{Page, Pages};
 pub use reason::ToldReason;
 pub use sarif::{RESULT_COUNTS, Sarif};
 pub use sarif_laws::{

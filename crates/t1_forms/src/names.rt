@@ -19,8 +19,8 @@ pub(crate) fn hexadecimal_digit(digit: u8) -> char
     }
 }
 
-/// Appends `\xNN`.
-fn push_escaped(text: &mut String, byte: u8) -> Result<(), AllocError>
+/// Appends a byte as `\xNN`.
+pub fn push_escaped(text: &mut String, byte: u8) -> Result<(), AllocError>
     ensures { OnOk result (string_bytes text.new ≡ string_bytes text.old ++ escaped byte) }
 {
     text.push_str("\\x")?;

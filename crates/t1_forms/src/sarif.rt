@@ -3,25 +3,25 @@
 ghost use Rattle.std.specs.Prelude.{◌≡◌, ◌++◌, ◌<◌, ◌∷◌, IfOk, OnOk, option_map, string_bytes};
 ghost use Rattle.serde_json.specs.Written.{comma_if, compact_text};
 ghost use Rattle.t1_lines.specs.Lines.{line_value};
-ghost use Rattle.t1_forms.specs.Sarif.{after_result, after_telling, begun, closing, counts_in, no_counts, opening, result_text, resumed, room_text, run_begin, run_end, sarif_state, telling_text, with_failure, with_room};
+ghost use Rattle.t1_forms.specs.PageValues.{pages_value};
+ghost use Rattle.t1_forms.specs.Sarif.{after_result, after_telling, begun, closing, code_number, counts_in, no_counts, opening, refusal_number, result_text, resumed, room_text, run_begin, run_end, sarif_state, telling_text, with_failure, with_room};
 ghost use Rattle.t1_forms.specs.SarifObjects.{notification_object, unit_of};
 ghost use Rattle.t1_forms.specs.Tellings.{reason_value, told_value};
 ghost use Rattle.t1_forms.specs.Writing.{WritesLine};
 
-use crate::pages::COUNT;
-use crate::sarif_objects::{
-    fingerprint, line_code, notification_text, place_of, result_text, tool_text, unit_of,
-};
-use crate::{FormatError, Told, ToldReason, What};
+use crate::sarif_objects::{fingerprint, notification_text, result_text, tool_text, unit_of};
+use crate::{FormatError, Pages, Told, ToldReason, What};
 use std::alloc::{AllocError, Global};
 use t1_io::{Sink, put_all};
 use t1_lines::Line;
+use t1_refusals::RefusalCode;
 
 /// How many fonts that weren't checked one run of the document reports. After them the next run begins.
 const MOST_FAILURES: usize = 1000;
 
-/// The places of codes among the pages, and one after them for a code that has none.
-pub const RESULT_COUNTS: usize = COUNT + 1;
+/// How many codes there are, of rules and of refusals. Counts are by the code and not by its page, so that a host can keep them in a
+/// place of a fixed size, whatever pages there are.
+pub const RESULT_COUNTS: usize = 85;
 
 /// A document that is being written.
 ///
@@ -29,8 +29,8 @@ pub const RESULT_COUNTS: usize = COUNT + 1;
 /// until there; after a thousand of these a run is closed and another one begun.
 #[derive(Drop)]
 pub struct Sarif<'a> {
-    /// The address of the page of all rules.
-    docs: Option<&'a str>,
+    /// The pages of rules and refusals.
+    pages: Pages<'a>,
     /// Whether the run has a result.
     has_results: bool,
     /// The unit of the last result.
@@ -44,10 +44,10 @@ pub struct Sarif<'a> {
 
 /// What is before the results of a run.
 #[tactic(auto, unfolding(crate::specs::Sarif::run_begin))]
-fn run_begin(alloc: Global, docs: Option<&str>) -> Result<String, AllocError>
-    ensures { IfOk result (λ s. string_bytes s ≡ run_begin (option_map (λ docs. docs.now) docs.entry)) }
+fn run_begin(alloc: Global, pages: Pages<'_>) -> Result<String, AllocError>
+    ensures { IfOk result (λ s. string_bytes s ≡ run_begin (pages_value pages.entry)) }
 {
-    let tool = tool_text(alloc, docs)?;
+    let tool = tool_text(alloc, pages)?;
     let mut text = String::from_str(alloc, "{\"tool\":")?;
     text.push_str(tool.as_str())?;
     text.push_str(",\"results\":[")?;
@@ -67,10 +67,10 @@ fn run_end(alloc: Global, successful: bool, failures: &str) -> Result<String, Al
 }
 
 /// What is before all lines.
-fn opening(alloc: Global, docs: Option<&str>) -> Result<String, AllocError>
-    ensures { IfOk result (λ s. string_bytes s ≡ opening (option_map (λ docs. docs.now) docs.entry)) }
+fn opening(alloc: Global, pages: Pages<'_>) -> Result<String, AllocError>
+    ensures { IfOk result (λ s. string_bytes s ≡ opening (pages_value pages.entry)) }
 {
-    let run = run_begin(alloc, docs)?;
+    let run = run_begin(alloc, pages)?;
     let mut text = String::from_str(
         alloc,
         "{\"$schema\":\"https://json.schemastore.org/sarif-2.1.0.json\",\"version\":\"2.1.0\",\"runs\":[",
@@ -88,20 +88,39 @@ fn separated(alloc: Global, later: bool, text: &str) -> Result<String, AllocErro
     Ok(separated)
 }
 
+/// The number of a line's code: the rules have 0 to 69, the refusals 70 to 84.
+fn code_number(line: &Line<'_>) -> usize
+    ensures number { result ≡ code_number (line_value line.now) }
+    ensures bound { result < RESULT_COUNTS }
+{
+    match line {
+        Line::Fault(fault) => usize::from(fault.rule.number() - 1),
+        Line::Refusal(code) => 70 + refusal_number(*code),
+    }
+}
+
+/// The number of a refusal, from 0 on.
+fn refusal_number(code: RefusalCode) -> usize
+    ensures number { result ≡ refusal_number code }
+    ensures bound { result < 15 }
+{
+    code as usize
+}
+
 impl<'a> Sarif<'a> {
-    /// Begins a document. `docs` is the address of the page of all rules.
+    /// Begins a document that has these pages.
     pub fn begin<W: Sink>(
         alloc: Global,
         sink: &mut W,
-        docs: Option<&'a str>,
+        pages: Pages<'a>,
     ) -> Result<Sarif<'a>, FormatError>
-        ensures text { WritesLine (W.state sink.old) (W.state sink.new) (opening (option_map (λ docs. docs.now) docs.entry)) result }
-        ensures state { IfOk result (λ s. sarif_state s ≡ begun (option_map (λ docs. docs.now) docs.entry)) }
+        ensures text { WritesLine (W.state sink.old) (W.state sink.new) (opening (pages_value pages.entry)) result }
+        ensures state { IfOk result (λ s. sarif_state s ≡ begun (pages_value pages.entry)) }
     {
-        let text = opening(alloc, docs)?;
+        let text = opening(alloc, pages)?;
         put_all(sink, text.as_bytes())?;
         Ok(Sarif {
-            docs,
+            pages,
             has_results: false,
             unit: String::new(alloc),
             counts: [0; RESULT_COUNTS],
@@ -114,17 +133,17 @@ impl<'a> Sarif<'a> {
     /// [after it](Sarif::counts).
     pub fn resume(
         alloc: Global,
-        docs: Option<&'a str>,
+        pages: Pages<'a>,
         counts: &[u64; RESULT_COUNTS],
         font: Option<&[u8]>,
         line: &Line<'_>,
     ) -> Result<Sarif<'a>, AllocError>
         ensures { IfOk result (λ s. sarif_state s
-            ≡ resumed (option_map (λ docs. docs.now) docs.entry) (unit_of (option_map (λ name. name.now) font.entry) (line_value line.now)) counts.now) }
+            ≡ resumed (pages_value pages.entry) (unit_of (option_map (λ name. name.now) font.entry) (line_value line.now)) counts.now) }
     {
         let unit = unit_of(alloc, font, line)?;
         Ok(Sarif {
-            docs,
+            pages,
             has_results: true,
             unit,
             counts: *counts,
@@ -133,7 +152,8 @@ impl<'a> Sarif<'a> {
         })
     }
 
-    /// How many results there were of each code since the unit of the last one began, by the code's place among the pages.
+    /// How many results there were of each code since the unit of the last one began: the 70 rules, then the 15
+    /// refusals.
     pub fn counts(&self) -> &[u64; RESULT_COUNTS]
         ensures { result.now ≡ (sarif_state self.now).counts }
     {
@@ -168,11 +188,19 @@ impl<'a> Sarif<'a> {
     {
         let unit = unit_of(alloc, font, line)?;
         self.enter(unit);
-        let place = place_of(line_code(line));
-        let count = self.counts[place].saturating_add(1);
-        self.counts[place] = count;
+        let number = code_number(line);
+        let count = self.counts[number].saturating_add(1);
+        self.counts[number] = count;
         let print = fingerprint(alloc, self.unit.as_str(), line, count)?;
-        let result = result_text(alloc, font, line, text, reason, print.as_str())?;
+        let result = result_text(
+            alloc,
+            self.pages.list,
+            font,
+            line,
+            text,
+            reason,
+            print.as_str(),
+        )?;
         let later = self.has_results;
         self.has_results = true;
         separated(alloc, later, result.as_str())
@@ -187,7 +215,7 @@ impl<'a> Sarif<'a> {
         if self.failure_count < MOST_FAILURES {
             return Ok(String::new(alloc));
         }
-        let next = run_begin(alloc, self.docs)?;
+        let next = run_begin(alloc, self.pages)?;
         let mut text = run_end(alloc, self.failure_count == 0, self.failures.as_str())?;
         text.push_str(",")?;
         text.push_str(next.as_str())?;

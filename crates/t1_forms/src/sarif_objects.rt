@@ -6,16 +6,14 @@ ghost use Rattle.serde_json.specs.Data.{object, string};
 ghost use Rattle.serde_json.specs.View.{members_view, view};
 ghost use Rattle.serde_json.specs.Written.{compact_text};
 ghost use Rattle.t1_lines.specs.Lines.{at_step, line_value, place_value};
-ghost use Rattle.t1_forms.specs.PageValues.{page_value, place_among};
-ghost use Rattle.t1_forms.specs.Pages.{pages};
+ghost use Rattle.t1_forms.specs.PageValues.{page_value, pages_value, place_among};
 ghost use Rattle.t1_forms.specs.Shown.{shown};
 ghost use Rattle.t1_forms.specs.Tellings.{reason_value};
 ghost use Rattle.t1_forms.specs.SarifObjects.{and_reason, behind_colon, fault_locations, fingerprint, font_locations, help_object, is_plain_in_uri, level_coded, line_code, level_object, line_id, line_level, line_locations, line_message, line_unit, logical_location, logical_locations, notification_object, one, page_members, page_object, physical_location, place_unit, result_object, sarif_level, text_object, tool_object, unit_of, uri_byte};
 
 use crate::names::hexadecimal_digit;
 use crate::objects::refusal_code;
-use crate::pages::{COUNT, Page, pages};
-use crate::{ToldReason, VERSION, shown};
+use crate::{Page, Pages, ToldReason, VERSION, shown};
 use serde_json::{Map, Value, json, put};
 use std::alloc::{AllocError, Global};
 use t1_lines::{Line, Place};
@@ -114,12 +112,8 @@ fn page_object(alloc: Global, page: &Page, docs: Option<&str>) -> Result<Value, 
 }
 
 /// What is said of all rules and refusals.
-fn page_objects(
-    alloc: Global,
-    pages: &[&'static Page],
-    docs: Option<&str>,
-) -> Result<Vec<Value>, AllocError>
-    ensures { IfOk result (λ vs. map view vs.items ≡ map (page_object (option_map (λ docs. docs.now) docs.entry)) (map (λ page. page_value page.now) pages.now)) }
+fn page_objects(alloc: Global, pages: &[Page], docs: Option<&str>) -> Result<Vec<Value>, AllocError>
+    ensures { IfOk result (λ vs. map view vs.items ≡ map (page_object (option_map (λ docs. docs.now) docs.entry)) (map page_value pages.now)) }
 {
     let mut objects = Vec::new(alloc);
     for page in pages {
@@ -129,10 +123,10 @@ fn page_objects(
 }
 
 /// The program, its rules and its version.
-fn tool_object(alloc: Global, docs: Option<&str>) -> Result<Value, AllocError>
-    ensures { IfOk result (λ v. view v ≡ tool_object (option_map (λ docs. docs.now) docs.entry)) }
+fn tool_object(alloc: Global, pages: Pages<'_>) -> Result<Value, AllocError>
+    ensures { IfOk result (λ v. view v ≡ tool_object (pages_value pages.entry)) }
 {
-    let rules = Value::Array(page_objects(alloc, &pages(), docs)?);
+    let rules = Value::Array(page_objects(alloc, pages.list, pages.docs)?);
     let mut driver = Map::new(alloc);
     put(
         &mut driver,
@@ -153,24 +147,16 @@ fn tool_object(alloc: Global, docs: Option<&str>) -> Result<Value, AllocError>
 }
 
 /// Its text.
-pub(crate) fn tool_text(alloc: Global, docs: Option<&str>) -> Result<String, AllocError>
-    ensures { IfOk result (λ s. string_bytes s ≡ compact_text (tool_object (option_map (λ docs. docs.now) docs.entry))) }
+pub(crate) fn tool_text(alloc: Global, pages: Pages<'_>) -> Result<String, AllocError>
+    ensures { IfOk result (λ s. string_bytes s ≡ compact_text (tool_object (pages_value pages.entry))) }
 {
-    let text = tool_object(alloc, docs)?.to_string(alloc)?;
+    let text = tool_object(alloc, pages)?.to_string(alloc)?;
     Ok(text)
 }
 
-/// The place of a code among the pages; after them all where it has none.
-pub(crate) fn place_of(code: &[u8]) -> usize
-    ensures place { result ≡ place_among pages code.now }
-    ensures bound { result ≤ COUNT }
-{
-    place_among(&pages(), code)
-}
-
-fn place_among(pages: &[&'static Page], code: &[u8]) -> usize
-    ensures place { result ≡ place_among (map (λ page. page_value page.now) pages.now) code.now }
-    ensures bound { result ≤ length pages.now }
+/// The place of a code among pages; after them all where it has none.
+fn place_among(pages: &[Page], code: &[u8]) -> usize
+    ensures { result ≡ place_among (map page_value pages.now) code.now }
 {
     let mut place = 0;
     for page in pages {
@@ -342,7 +328,7 @@ fn line_locations(alloc: Global, font: Option<&[u8]>, line: &Line<'_>) -> Result
 }
 
 /// The code of a rule or a refusal.
-pub(crate) fn line_code(line: &Line<'_>) -> &'static [u8]
+fn line_code(line: &Line<'_>) -> &'static [u8]
     ensures { result.now ≡ line_code (line_value line.now) }
 {
     match line {
@@ -486,6 +472,7 @@ pub(crate) fn fingerprint(
 /// The result of a line.
 fn result_object(
     alloc: Global,
+    pages: &[Page],
     font: Option<&[u8]>,
     line: &Line<'_>,
     text: &[u8],
@@ -493,7 +480,7 @@ fn result_object(
     print: &str,
 ) -> Result<Value, AllocError>
     ensures { IfOk result (λ v. view v
-        ≡ result_object (option_map (λ name. name.now) font.entry) (line_value line.now) text.now
+        ≡ result_object (map page_value pages.now) (option_map (λ name. name.now) font.entry) (line_value line.now) text.now
         (option_map (λ reason. reason_value reason.now) reason.entry) print.now) }
 {
     let message = message(alloc, line, text, reason)?;
@@ -508,7 +495,7 @@ fn result_object(
         &mut members,
         alloc,
         "ruleIndex",
-        Value::from(place_of(line_code(line))),
+        Value::from(place_among(pages, line_code(line))),
     )?;
     put(
         &mut members,
@@ -540,6 +527,7 @@ fn result_object(
 /// Its text.
 pub(crate) fn result_text(
     alloc: Global,
+    pages: &[Page],
     font: Option<&[u8]>,
     line: &Line<'_>,
     text: &[u8],
@@ -547,10 +535,10 @@ pub(crate) fn result_text(
     print: &str,
 ) -> Result<String, AllocError>
     ensures { IfOk result (λ s. string_bytes s
-        ≡ compact_text (result_object (option_map (λ name. name.now) font.entry) (line_value line.now) text.now
+        ≡ compact_text (result_object (map page_value pages.now) (option_map (λ name. name.now) font.entry) (line_value line.now) text.now
         (option_map (λ reason. reason_value reason.now) reason.entry) print.now)) }
 {
-    let text = result_object(alloc, font, line, text, reason, print)?.to_string(alloc)?;
+    let text = result_object(alloc, pages, font, line, text, reason, print)?.to_string(alloc)?;
     Ok(text)
 }
 

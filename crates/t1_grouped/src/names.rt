@@ -1,13 +1,12 @@
 //! Names as text on a terminal.
 
-ghost use Rattle.std.specs.Prelude.{◌≡◌, ◌<◌, ◌++◌, IfOk, OnOk, string_bytes};
+ghost use Rattle.std.specs.Prelude.{◌≡◌, ◌++◌, IfOk, OnOk, string_bytes};
 ghost use Rattle.std.specs.List.{flat_map};
 ghost use Rattle.std.specs.Str.{chars};
-ghost use Rattle.t1_forms.specs.Shown.{escaped, hexadecimal_digit};
 ghost use Rattle.t1_grouped.specs.TerminalNames.{terminal_char, terminal_name};
 
 use std::alloc::{AllocError, Global};
-use t1_forms::shown;
+use t1_forms::{push_escaped, shown};
 
 /// A name as text: control bytes, and what isn't UTF-8, are written as `\xNN`, and `\` twice.
 #[tactic(auto, unfolding(crate::specs::TerminalNames::terminal_name))]
@@ -38,26 +37,5 @@ fn push_char(text: &mut String, c: char) -> Result<(), AllocError>
         push_escaped(text, c as u8)
     } else {
         text.push(c)
-    }
-}
-
-/// Appends `\xNN`.
-fn push_escaped(text: &mut String, byte: u8) -> Result<(), AllocError>
-    ensures { OnOk result (string_bytes text.new ≡ string_bytes text.old ++ escaped byte) }
-{
-    text.push_str("\\x")?;
-    text.push(hexadecimal_digit(byte / 16))?;
-    text.push(hexadecimal_digit(byte % 16))
-}
-
-/// A digit of a hexadecimal number, in upper case.
-fn hexadecimal_digit(digit: u8) -> char
-    requires { digit < 16 }
-    ensures { result ≡ hexadecimal_digit digit }
-{
-    if digit < 10 {
-        char::from(b'0' + digit)
-    } else {
-        char::from(b'A' + (digit - 10))
     }
 }

@@ -1,9 +1,10 @@
 -- Calls one after another hand over the document.
-use Rattle.std.proofs.Common.{◌≡◌, ◌∙◌, ◌<◌, ◌≤◌, ◌+◌, ℕ, suc, List, [], ◌∷◌, ◌++◌, length, map, slice_get, take, drop, None, Some, ap, arith, append_assoc, append-nil, length-append, length-take, refl, subst, sym}
+use Rattle.std.proofs.Common.{◌≡◌, ◌∙◌, ◌<◌, ◌≤◌, ◌+◌, ℕ, suc, List, [], ◌∷◌, ◌++◌, length, map, slice_get, take, drop, Some, ap, arith, append_assoc, append-nil, length-append, length-take, refl, subst, sym}
 use Rattle.std.proofs.Math.Seq.{drop-cons}
 use Rattle.std.proofs.lemmas.List.{take-append-drop, take_all}
 use Rattle.std.proofs.lemmas.Option.{get_or_from_slice_get, slice_get_within}
 use Rattle.std.specs.List.{AllByRecursion, flat_map}
+use Rattle.t1_forms.specs.PageValues.{PagesValue}
 use Rattle.t1_forms.specs.Sarif.{SarifState, begun, closing}
 use Rattle.t1_forms.specs.SarifDocuments.{after_one, tellings_text}
 use Rattle.t1_report.specs.Faults.{FaultValue}
@@ -42,10 +43,10 @@ results_and_end subject state (f ∷ faults) =
 
 -- ---- calls
 
-no_front : (stage : Stage) → ¬ (stage ≡ Nothing) → front stage ≡ []
-no_front Nothing begun = absurd (begun refl)
-no_front Beginning begun = refl
-no_front Results begun = refl
+pub no_front : (pages : PagesValue) (stage : Stage) → ¬ (stage ≡ Nothing) → front pages stage ≡ []
+no_front pages Nothing begun = absurd (begun refl)
+no_front pages Beginning begun = refl
+no_front pages Results begun = refl
 
 -- What calls handed over since a place.
 record AreHanded (subject : Subject) (reached : Reached) (state : SarifState) (mark : Mark) (calls : List Call) (last : Reached) : Type 0 where
@@ -53,7 +54,7 @@ record AreHanded (subject : Subject) (reached : Reached) (state : SarifState) (m
   pub end : Mark
   pub led : LeadTo subject.font subject.waivers mark given end
   pub stands : StandsFor subject last (state_after subject state given) end
-  pub text : flat_map handed_by calls ++ front last.stage ≡ front reached.stage ++ results_of subject state given
+  pub text : flat_map handed_by calls ++ front subject.pages last.stage ≡ front subject.pages reached.stage ++ results_of subject state given
   pub few : length calls ≤ length given + 1
   pub fewer : ¬ (reached.stage ≡ Nothing) → length calls ≤ length given
 
@@ -72,7 +73,7 @@ handed_over subject reached state mark [] last stands is = record {
   end = mark;
   led = refl;
   stands = subst (λ (r : Reached). StandsFor subject r state mark) is stands;
-  text = ap (λ (r : Reached). front r.stage) (sym is) ∙ sym (append-nil (front reached.stage));
+  text = ap (λ (r : Reached). front subject.pages r.stage) (sym is) ∙ sym (append-nil (front subject.pages reached.stage));
   few = omega arith;
   fewer = λ begun. omega arith;
 }
@@ -87,52 +88,52 @@ handed_over subject reached state mark (call ∷ calls) last stands (is, rest) =
       end = later.end;
       led = led_more subject.font subject.waivers mark results.last later.end results.given later.given results.led later.led;
       stands = subst (λ (s : SarifState). StandsFor subject last s later.end) (sym (state_more subject state results.given later.given)) later.stands;
-      text = append_assoc (handed_by call) (flat_map handed_by calls) (front last.stage)
+      text = append_assoc (handed_by call) (flat_map handed_by calls) (front subject.pages last.stage)
           ∙ ap (λ t. handed_by call ++ t) (later.text ∙ ap (λ t. t ++ results_of subject (state_after subject state results.given) later.given)
-          (no_front call.reached.stage here.begun))
+          (no_front subject.pages call.reached.stage here.begun))
           ∙ ap (λ t. t ++ results_of subject (state_after subject state results.given) later.given) results.text
-          ∙ append_assoc (front reached.stage) _ _
-          ∙ ap (λ t. front reached.stage ++ t) (sym (results_more subject state results.given later.given));
+          ∙ append_assoc (front subject.pages reached.stage) _ _
+          ∙ ap (λ t. front subject.pages reached.stage ++ t) (sym (results_more subject state results.given later.given));
       few = omega (arith, count, fewer);
       fewer = λ begun.
-          let one = some_given subject state (front reached.stage) call.room call.count results.given here.some results.within
-          (no_front reached.stage begun) results.text in
+          let one = some_given subject state (front subject.pages reached.stage) call.room call.count results.given here.some results.within
+          (no_front subject.pages reached.stage begun) results.text in
           omega (arith, count, fewer, one);
     }
 
 first_stands : (subject : Subject) (stage : Stage) (at : Mark) (counts : List ℕ) → stage ≡ Nothing → at ≡ first_mark
-    → StandsAt subject stage at counts (begun None) first_mark
+    → StandsAt subject stage at counts (begun subject.pages) first_mark
 first_stands subject Nothing at counts is at_is = (sym at_is, refl)
 first_stands subject Beginning at counts is at_is = (sym at_is, refl)
 first_stands subject Results at counts is at_is = cc
 
 handed : (subject : Subject) (faults : List FaultValue) (calls : List Call) (last : Reached) (are : AreCallsFor subject faults calls last)
-    → AreHanded subject are.first (begun None) first_mark calls last
+    → AreHanded subject are.first (begun subject.pages) first_mark calls last
 handed subject faults calls last are =
-    handed_over subject are.first (begun None) first_mark calls last
+    handed_over subject are.first (begun subject.pages) first_mark calls last
     (first_stands subject are.first.stage are.first.mark are.first.counts are.is_first.0 are.is_first.1) are.are
 
 pub joined : NoneIsGivenAtFirst → GivenAreTheFront → AllAreGivenAtLast → JoinedAreTheDocument
 joined starts fronts ends subject faults calls last after room n are is =
     let before = handed subject faults calls last are in
-    let end = is (state_after subject (begun None) before.given) before.end before.stands in
+    let end = is (state_after subject (begun subject.pages) before.given) before.end before.stands in
     let given = before.given ++ end.given in
     let led = led_more subject.font subject.waivers first_mark before.end end.last before.given end.given before.led end.led in
     let whole = fronts subject.font subject.waivers faults 0 first_mark given end.last are.few are.few_waivers are.report (starts faults) led in
     let all : 0 + length given ≡ length faults = ends subject.font subject.waivers faults (0 + length given) end.last are.report whole.1 end.none in
     let same : given ≡ faults = whole.0 ∙ take_all (length given) faults (omega (arith, all)) in
-    let later = state_after subject (begun None) before.given in
+    let later = state_after subject (begun subject.pages) before.given in
     ap (λ t. flat_map handed_by calls ++ t) end.text
-    ∙ sym (append_assoc (flat_map handed_by calls) (front last.stage) _)
+    ∙ sym (append_assoc (flat_map handed_by calls) (front subject.pages last.stage) _)
     ∙ ap (λ t. t ++ (results_of subject later end.given ++ closing (state_after subject later end.given))) before.text
-    ∙ append_assoc (front are.first.stage) (results_of subject (begun None) before.given) _
-    ∙ ap (λ t. front are.first.stage ++ t) (
-    sym (append_assoc (results_of subject (begun None) before.given) (results_of subject later end.given) _)
-    ∙ ap (λ t. t ++ closing (state_after subject later end.given)) (sym (results_more subject (begun None) before.given end.given))
-    ∙ ap (λ (s : SarifState). results_of subject (begun None) given ++ closing s) (sym (state_more subject (begun None) before.given end.given))
-    ∙ results_and_end subject (begun None) given
-    ∙ ap (λ (fs : List FaultValue). tellings_text (begun None) (map (told_of subject) fs)) same)
-    ∙ ap (λ (stage : Stage). front stage ++ tellings_text (begun None) (map (told_of subject) faults)) are.is_first.0
+    ∙ append_assoc (front subject.pages are.first.stage) (results_of subject (begun subject.pages) before.given) _
+    ∙ ap (λ t. front subject.pages are.first.stage ++ t) (
+    sym (append_assoc (results_of subject (begun subject.pages) before.given) (results_of subject later end.given) _)
+    ∙ ap (λ t. t ++ closing (state_after subject later end.given)) (sym (results_more subject (begun subject.pages) before.given end.given))
+    ∙ ap (λ (s : SarifState). results_of subject (begun subject.pages) given ++ closing s) (sym (state_more subject (begun subject.pages) before.given end.given))
+    ∙ results_and_end subject (begun subject.pages) given
+    ∙ ap (λ (fs : List FaultValue). tellings_text (begun subject.pages) (map (told_of subject) fs)) same)
+    ∙ ap (λ (stage : Stage). front subject.pages stage ++ tellings_text (begun subject.pages) (map (told_of subject) faults)) are.is_first.0
 
 -- ---- parts that fit
 
@@ -165,28 +166,28 @@ split_at faults given fault front is =
 module _ (starts : NoneIsGivenAtFirst) (fronts : GivenAreTheFront) (counts : MarksGoOnCounting) (ends : AllAreGivenAtLast) where
   next_short : (subject : Subject) (faults : List FaultValue) (calls : List Call) (last : Reached) (given : List FaultValue) (end : Mark)
       (text room : List ℕ) → AreCallsFor subject faults calls last → LeadTo subject.font subject.waivers first_mark given end
-      → AllByRecursion (λ part. length part ≤ length room) (parts_from subject (begun None) faults)
-      → IsNextResult subject (state_after subject (begun None) given) end text → length text ≤ length room
+      → AllByRecursion (λ part. length part ≤ length room) (parts_from subject (begun subject.pages) faults)
+      → IsNextResult subject (state_after subject (begun subject.pages) given) end text → length text ≤ length room
   next_short subject faults calls last given end text room are led short (result fault next text_is) =
       let whole = fronts subject.font subject.waivers faults 0 first_mark given end are.few are.few_waivers are.report (starts faults) led in
       let there = (counts subject.font subject.waivers faults (0 + length given) end fault are.few are.few_waivers are.report whole.1 next).0 in
       let is = split_at faults given fault whole.0 (subst (λ (k : ℕ). slice_get faults k ≡ Some fault) (omega arith) there) in
       subst (λ t. length t ≤ length room) (sym text_is)
-      (part_there (λ part. length part ≤ length room) subject (begun None) given (drop (length given + 1) faults) fault
-      (subst (λ (fs : List FaultValue). AllByRecursion (λ part. length part ≤ length room) (parts_from subject (begun None) fs)) (sym is) short))
+      (part_there (λ part. length part ≤ length room) subject (begun subject.pages) given (drop (length given + 1) faults) fault
+      (subst (λ (fs : List FaultValue). AllByRecursion (λ part. length part ≤ length room) (parts_from subject (begun subject.pages) fs)) (sym is) short))
   next_short subject faults calls last given end text room are led short (ending none text_is) =
       let whole = fronts subject.font subject.waivers faults 0 first_mark given end are.few are.few_waivers are.report (starts faults) led in
       let all : 0 + length given ≡ length faults = ends subject.font subject.waivers faults (0 + length given) end are.report whole.1 none in
       let same : given ≡ faults = whole.0 ∙ take_all (length given) faults (omega (arith, all)) in
       subst (λ t. length t ≤ length room)
-      (sym (text_is ∙ ap (λ (fs : List FaultValue). closing (state_after subject (begun None) fs)) same))
-      (end_there (λ part. length part ≤ length room) subject (begun None) faults short)
+      (sym (text_is ∙ ap (λ (fs : List FaultValue). closing (state_after subject (begun subject.pages) fs)) same))
+      (end_there (λ part. length part ≤ length room) subject (begun subject.pages) faults short)
 
   part_short : (subject : Subject) (faults : List FaultValue) (calls : List Call) (last : Reached) (given : List FaultValue) (end : Mark)
       (stage : Stage) (text room : List ℕ) → AreCallsFor subject faults calls last
       → LeadTo subject.font subject.waivers first_mark given end
       → AllByRecursion (λ part. length part ≤ length room) (parts_of subject faults)
-      → IsNextPart subject stage (state_after subject (begun None) given) end text → length text ≤ length room
+      → IsNextPart subject stage (state_after subject (begun subject.pages) given) end text → length text ≤ length room
   part_short subject faults calls last given end Nothing text room are led (first, short) is =
       subst (λ t. length t ≤ length room) (sym is) first
   part_short subject faults calls last given end Beginning text room are led (first, short) is =
@@ -197,7 +198,7 @@ module _ (starts : NoneIsGivenAtFirst) (fronts : GivenAreTheFront) (counts : Mar
   pub fit : PartsFit
   fit subject faults calls last after room are short is =
       let before = handed subject faults calls last are in
-      let full = (is (state_after subject (begun None) before.given) before.end before.stands).1 in
+      let full = (is (state_after subject (begun subject.pages) before.given) before.end before.stands).1 in
       let holds = part_short subject faults calls last before.given before.end last.stage full.text room are before.led short full.is_next in
       let long = full.too_long in
       absurd (omega (arith, holds, long))

@@ -1,5 +1,5 @@
 -- Results that are handed over, one after another.
-use Rattle.std.proofs.Common.{◌≡◌, ◌∙◌, ◌<◌, ◌≤◌, ◌+◌, ◌-◌, ℕ, zero, suc, List, [], ◌∷◌, ◌++◌, length, take, None, ap, arith, append_assoc, append-nil, length-append, refl, subst, sym}
+use Rattle.std.proofs.Common.{◌≡◌, ◌∙◌, ◌<◌, ◌≤◌, ◌+◌, ◌-◌, ℕ, zero, suc, List, [], ◌∷◌, ◌++◌, length, take, ap, arith, append_assoc, append-nil, length-append, refl, subst, sym}
 use Rattle.serde_json.specs.Written.{comma_if, compact_text}
 use Rattle.t1_forms.specs.Sarif.{SarifState, closing, count_of, resumed}
 use Rattle.t1_forms.specs.SarifDocuments.{after_one}
@@ -15,8 +15,9 @@ use Rattle.t1_report.specs.declared.marks.Mark.{Mark}
 use Rattle.t1_pieces.proofs.DocumentPlaces.{kept_after, plain_at}
 use Rattle.t1_pieces.proofs.GivenLines.{led_on}
 use Rattle.t1_pieces.specs.DocumentParts.{IsEndPut, IsRestOf}
-use Rattle.t1_pieces.specs.Documents.{AreAsManyAsFit, IsEndIn, IsFullAt, IsNextPart, IsNextResult, IsPartOf, StandsFor, Subject, fault_unit, front, result_of, results_of, state_after, told_of}
+use Rattle.t1_pieces.specs.Documents.{AreAsManyAsFit, IsEndIn, IsFullAt, IsNextPart, IsNextResult, IsPartOf, StandsFor, Subject, fault_unit, front, result_of, results_of, state_after, subject_for, told_of}
 use Rattle.t1_pieces.specs.Documents.IsNextResult.{ending}
+use Rattle.t1_pieces.specs.declared.documents.DocumentRequest.{DocumentRequest}
 use Rattle.t1_pieces.specs.declared.piece.Piece.{Piece}
 use Rattle.t1_pieces.specs.declared.piece.Piece.TheVariants.{Last, Memory, More, NoRoom, Refused}
 use Rattle.t1_pieces.specs.declared.stage.Reached.{Reached}
@@ -87,7 +88,7 @@ one_so_far subject before state mark at at' mark' state' next room room' text us
   stands = λ stands.
       let plain = plain_at subject at'.stage at'.mark at'.counts state' mark' (so_far.stands stands) in (
         fault,
-        (is_next, refl, next_is ∙ kept_after subject state' fault plain ∙ ap (λ (s : SarifState). resumed None (fault_unit subject fault) s.counts) (sym next_is)),
+        (is_next, refl, next_is ∙ kept_after subject state' fault plain ∙ ap (λ (s : SarifState). resumed subject.pages (fault_unit subject fault) s.counts) (sym next_is)),
       );
   begun = results_differ;
   start = λ none. absurd (omega (arith, none, some));
@@ -178,7 +179,7 @@ end_rest subject before state mark at at' reached reached' mark' state' room roo
 
 -- What is handed over after what was put into a room before is what the call hands over.
 pub rest_is_part : (subject : Subject) (before : List ℕ) (state : SarifState) (mark : Mark) (at reached reached' : Reached) (room : List ℕ)
-    (piece : Piece) → before ≡ front reached.stage → IsRestOf subject before state mark at reached reached' room piece
+    (piece : Piece) → before ≡ front subject.pages reached.stage → IsRestOf subject before state mark at reached reached' room piece
     → IsPartOf subject reached state mark reached' room piece
 rest_is_part subject before state mark at reached reached' room (Last n) is rest =
     subst (λ (b : List ℕ). IsEndIn subject b state mark room n) is rest
@@ -194,16 +195,12 @@ pub result_length : (subject : Subject) (state : SarifState) (fault : FaultValue
 result_length subject state fault =
     let told = told_of subject fault in
     let l = of_fault (line_in subject.font.value subject.waivers fault) in
-    let text = compact_text (result_object told.font l (what_spelled told.what) told.reason
+    let text = compact_text (result_object state.pages.list told.font l (what_spelled told.what) told.reason
     (fingerprint (unit_of told.font l) l (count_of state told.font l))) in
     let whole = length-append (comma_if state.has_results) text in
     omega (arith, whole)
 
--- The font of a name, with waivers.
-abbrev pub subject_of : List ℕ → CheckedFont → List Waiver → Subject
-subject_of name font waivers = record { name = name; font = font; waivers = waivers }
-
-pub same_subject : (name name' : List ℕ) (font font' : CheckedFont) (waivers : List Waiver) → name ≡ name' → font ≡ font'
-    → subject_of name font waivers ≡ subject_of name' font' waivers
-same_subject name name' font font' waivers same is =
-    ap (λ (n : List ℕ). subject_of n font waivers) same ∙ ap (λ (f : CheckedFont). subject_of name' f waivers) is
+pub same_subject : (request request' : DocumentRequest) (font font' : CheckedFont) (waivers : List Waiver) → request ≡ request' → font ≡ font'
+    → subject_for request font waivers ≡ subject_for request' font' waivers
+same_subject request request' font font' waivers same is =
+    ap (λ (r : DocumentRequest). subject_for r font waivers) same ∙ ap (λ (f : CheckedFont). subject_for request' f waivers) is

@@ -6,6 +6,7 @@ use Rattle.t1_char.specs.declared.edition.Edition.{Edition}
 use Rattle.t1_font.specs.FontFiles.{IsUnread, font_in}
 use Rattle.t1_font.specs.Fonts.{FontValue}
 use Rattle.t1_font.specs.declared.unread.Unread.{Unread}
+use Rattle.t1_forms.specs.PageValues.{PagesValue}
 use Rattle.t1_refusals.specs.RefusalCodes.{refusal_code_of}
 use Rattle.t1_refusals.specs.declared.refusal.Reason.{Reason}
 use Rattle.t1_refusals.specs.declared.refusal.Reason.TheVariants.{Font, Waivers, WaiversTooLarge}
@@ -128,17 +129,17 @@ refused_piece form edition (Ok font) (Err reason) mark mark' room piece failure 
 refused_piece form edition (Ok font) (Ok waivers) mark mark' room piece failure code memory is kept by =
     absurd (never failure code is memory)
 
-pub refused_document : (name : List ℕ) (edition : Edition) (read : Result FontValue Reason) (waived : Result (List Waiver) Reason)
+pub refused_document : (pages : PagesValue) (name : List ℕ) (edition : Edition) (read : Result FontValue Reason) (waived : Result (List Waiver) Reason)
     (reached reached' : Reached) (room : List ℕ) (piece : Piece) (failure : Failure) (code : RefusalCode) → IsFailureFor read waived failure
     → failure ≡ Refused code → reached' ≡ reached → IsRefusalBy code room piece
-    → IsDocumentPiece name edition read waived reached reached' room piece
-refused_document name edition (Err reason) waived reached reached' room piece failure code (inl so) is kept by =
+    → IsDocumentPiece pages name edition read waived reached reached' room piece
+refused_document pages name edition (Err reason) waived reached reached' room piece failure code (inl so) is kept by =
     refused code (coded reason code (sym so ∙ is)) by kept
-refused_document name edition (Err reason) waived reached reached' room piece failure code (inr memory) is kept by =
+refused_document pages name edition (Err reason) waived reached reached' room piece failure code (inr memory) is kept by =
     absurd (never failure code is memory)
-refused_document name edition (Ok font) (Err reason) reached reached' room piece failure code (inl so) is kept by =
+refused_document pages name edition (Ok font) (Err reason) reached reached' room piece failure code (inl so) is kept by =
     refused code (coded reason code (sym so ∙ is)) by kept
-refused_document name edition (Ok font) (Err reason) reached reached' room piece failure code (inr memory) is kept by =
+refused_document pages name edition (Ok font) (Err reason) reached reached' room piece failure code (inr memory) is kept by =
     absurd (never failure code is memory)
-refused_document name edition (Ok font) (Ok waivers) reached reached' room piece failure code memory is kept by =
+refused_document pages name edition (Ok font) (Ok waivers) reached reached' room piece failure code memory is kept by =
     absurd (never failure code is memory)

@@ -1,5 +1,5 @@
 -- The statements of laws on documents that are handed over in pieces.
-use Rattle.std.specs.Prelude.{◌≡◌, ◌≤◌, ◌+◌, ℕ, List, [], ◌∷◌, ◌++◌, length, map, take, None}
+use Rattle.std.specs.Prelude.{◌≡◌, ◌≤◌, ◌+◌, ℕ, List, [], ◌∷◌, ◌++◌, length, map, take}
 use Rattle.std.specs.List.{AllByRecursion, flat_map}
 use Rattle.t1_font.specs.Bounds.{most_glyphs}
 use Rattle.t1_forms.specs.Sarif.{SarifState, begun, closing, opening}
@@ -15,7 +15,7 @@ use Rattle.t1_pieces.specs.declared.stage.Stage.TheVariants.{Nothing}
 
 -- The whole document, as t1check-all writes it of these faults.
 abbrev pub document_of : Subject → List FaultValue → List ℕ
-document_of subject faults = opening None ++ tellings_text (begun None) (map (told_of subject) faults)
+document_of subject faults = opening subject.pages ++ tellings_text (begun subject.pages) (map (told_of subject) faults)
 
 -- Its parts: what is before the results, the results, and what is after them.
 abbrev pub parts_from : Subject → SarifState → List FaultValue → List (List ℕ)
@@ -23,7 +23,7 @@ parts_from subject state [] = closing state ∷ []
 parts_from subject state (fault ∷ faults) = result_of subject state fault ∷ parts_from subject (after_one state (told_of subject fault)) faults
 
 abbrev pub parts_of : Subject → List FaultValue → List (List ℕ)
-parts_of subject faults = opening None ∷ parts_from subject (begun None) faults
+parts_of subject faults = opening subject.pages ∷ parts_from subject (begun subject.pages) faults
 
 -- Nothing was handed over.
 abbrev pub IsFirst : Reached → Type 0

@@ -1,15 +1,16 @@
 //! Writes the results of a document.
 
-ghost use Rattle.std.specs.Prelude.{◌≡◌, IfOk, None, Some, true};
+ghost use Rattle.std.specs.Prelude.{◌≡◌, IfOk, Some, true};
+ghost use Rattle.t1_forms.specs.PageValues.{pages_value};
 ghost use Rattle.t1_forms.specs.Sarif.{begun, closing, opening, resumed, sarif_state};
 ghost use Rattle.t1_forms.specs.SarifDocuments.{after_one};
 ghost use Rattle.t1_forms.specs.SarifObjects.{unit_of};
 ghost use Rattle.t1_lines.specs.Lines.{line_in, of_fault};
-ghost use Rattle.t1_many_forms.specs.Formatting.{told_fault};
 ghost use Rattle.t1_report.specs.Faults.{fault_value};
 ghost use Rattle.t1_report.specs.Lines.{IsInFont};
-ghost use Rattle.t1_pieces.specs.Documents.{result_of};
+ghost use Rattle.t1_pieces.specs.Documents.{result_of, subject_for, told_of};
 
+use crate::documents::DocumentRequest;
 use std::alloc::{AllocError, Global};
 use t1_font::Font;
 use t1_forms::{RESULT_COUNTS, Sarif};
@@ -24,7 +25,7 @@ use t1_text::Text;
 #[derive(Drop)]
 pub(crate) struct DocumentWriter<'a> {
     alloc: Global,
-    name: &'a str,
+    request: &'a DocumentRequest<'a>,
     /// Writes results.
     results: Formatted<Sarif<'a>, Text, Text>,
     reasons: ReportReasons<'a>,
@@ -35,21 +36,21 @@ impl<'a> DocumentWriter<'a> {
     /// What is before all results is written.
     pub(crate) fn begin(
         alloc: Global,
-        name: &'a str,
+        request: &'a DocumentRequest<'a>,
         reasons: ReportReasons<'a>,
     ) -> Result<DocumentWriter<'a>, AllocError>
-        ensures text { IfOk result (λ writer. writer.results.out.bytes.items ≡ opening None) }
-        ensures state { IfOk result (λ writer. sarif_state writer.results.formatter ≡ begun None) }
-        ensures name { IfOk result (λ writer. writer.name.now ≡ name.now) }
+        ensures text { IfOk result (λ writer. writer.results.out.bytes.items ≡ opening (pages_value request.now.pages)) }
+        ensures state { IfOk result (λ writer. sarif_state writer.results.formatter ≡ begun (pages_value request.now.pages)) }
+        ensures request { IfOk result (λ writer. writer.request.now ≡ request.now) }
         ensures reasons { IfOk result (λ writer. writer.reasons ≡ reasons.entry) }
     {
         let mut out = Text::new(alloc);
-        let Ok(sarif) = Sarif::begin(alloc, &mut out, None) else {
+        let Ok(sarif) = Sarif::begin(alloc, &mut out, request.pages) else {
             return Err(AllocError);
         };
         Ok(DocumentWriter {
             alloc,
-            name,
+            request,
             results: Formatted::new(alloc, sarif, out, Text::new(alloc), true),
             reasons,
         })
@@ -58,7 +59,7 @@ impl<'a> DocumentWriter<'a> {
     /// The result of a fault was the last that was written, and these are the counts after it.
     pub(crate) fn resume(
         alloc: Global,
-        name: &'a str,
+        request: &'a DocumentRequest<'a>,
         reasons: ReportReasons<'a>,
         counts: &[u64; RESULT_COUNTS],
         font: &Font<'_>,
@@ -66,18 +67,24 @@ impl<'a> DocumentWriter<'a> {
         fault: &Fault,
     ) -> Result<DocumentWriter<'a>, AllocError>
         requires { IsInFont font.now waivers.now (fault_value fault.now) }
-        ensures state { IfOk result (λ writer. sarif_state writer.results.formatter ≡ resumed None
-            (unit_of (Some name.now) (of_fault (line_in font.now waivers.now (fault_value fault.now)))) counts.now) }
-        ensures name { IfOk result (λ writer. writer.name.now ≡ name.now) }
+        ensures state { IfOk result (λ writer. sarif_state writer.results.formatter ≡ resumed (pages_value request.now.pages)
+            (unit_of (Some request.now.name.now) (of_fault (line_in font.now waivers.now (fault_value fault.now)))) counts.now) }
+        ensures request { IfOk result (λ writer. writer.request.now ≡ request.now) }
         ensures reasons { IfOk result (λ writer. writer.reasons ≡ reasons.entry) }
     {
         let line = Line::Fault(fault_line(font, waivers, fault));
-        let sarif = Sarif::resume(alloc, None, counts, Some(name.as_bytes()), &line)?;
+        let sarif = Sarif::resume(
+            alloc,
+            request.pages,
+            counts,
+            Some(request.name.as_bytes()),
+            &line,
+        )?;
         let out = Text::new(alloc);
         let errors = Text::new(alloc);
         Ok(DocumentWriter {
             alloc,
-            name,
+            request,
             results: Formatted::new(alloc, sarif, out, errors, true),
             reasons,
         })
@@ -93,17 +100,18 @@ impl<'a> DocumentWriter<'a> {
         requires in_font { IsInFont font.now waivers.now (fault_value fault.now) }
         requires font { self.old.reasons.value ≡ font.now }
         ensures text { IfOk result (λ _. self.new.results.out.bytes.items
-            ≡ result_of (record { name = self.old.name.now; font = self.old.reasons; waivers = waivers.now })
+            ≡ result_of (subject_for self.old.request.now self.old.reasons waivers.now)
             (sarif_state self.old.results.formatter) (fault_value fault.now)) }
         ensures state { IfOk result (λ _. sarif_state self.new.results.formatter
-            ≡ after_one (sarif_state self.old.results.formatter) (told_fault true self.old.name.now self.old.reasons waivers.now (fault_value fault.now))) }
-        ensures name { self.new.name.now ≡ self.old.name.now }
+            ≡ after_one (sarif_state self.old.results.formatter)
+            (told_of (subject_for self.old.request.now self.old.reasons waivers.now) (fault_value fault.now))) }
+        ensures request { self.new.request.now ≡ self.old.request.now }
         ensures reasons { self.new.reasons ≡ self.old.reasons }
     {
         self.results.out.clear();
         match self
             .results
-            .line(self.name, font, waivers, fault, &mut self.reasons)
+            .line(self.request.name, font, waivers, fault, &mut self.reasons)
         {
             Ok(()) => Ok(()),
             Err(_) => Err(AllocError),

@@ -1,6 +1,7 @@
 //! Handing over a document of SARIF.
 
 ghost use Rattle.std.specs.Prelude.{◌≡◌, IfErr, IfOk, OnErr, length};
+ghost use Rattle.t1_forms.specs.PageValues.{pages_value};
 ghost use Rattle.t1_report.specs.Checked.{checked};
 ghost use Rattle.t1_run.specs.FontFiles.{font_of};
 ghost use Rattle.t1_run.specs.WaiverFiles.{waivers_in};
@@ -15,6 +16,7 @@ use crate::stage::Reached;
 use std::alloc::Global;
 use t1_char::Edition;
 use t1_font::Font;
+use t1_forms::Pages;
 use t1_rules::Sidebearings;
 use t1_run::Failure;
 
@@ -29,6 +31,8 @@ pub struct DocumentRequest<'a> {
     pub edition: Edition,
     /// The font's name, as results have it.
     pub name: &'a str,
+    /// The pages of rules and refusals, as the document has them.
+    pub pages: Pages<'a>,
 }
 
 /// Hands over the document of SARIF 2.1.0 that t1check-all writes of one font, with reasons, from a place on: whole results,
@@ -39,7 +43,7 @@ pub fn document(
     reached: &mut Reached,
     room: &mut [u8],
 ) -> Piece
-    ensures piece { IsDocumentPiece request.now.name.now request.now.edition (font_of request.now.font.now)
+    ensures piece { IsDocumentPiece (pages_value request.now.pages) request.now.name.now request.now.edition (font_of request.now.font.now)
         (waivers_in request.now.waivers.now) reached.old reached.new room.new result }
     ensures length { length room.new ≡ length room.old }
 {
@@ -57,7 +61,7 @@ fn document_of_file(
     reached: &mut Reached,
     room: &mut [u8],
 ) -> Result<Piece, Failure>
-    ensures piece { IfOk result (IsReadDocumentPiece request.now.name.now request.now.edition (font_of request.now.font.now)
+    ensures piece { IfOk result (IsReadDocumentPiece (pages_value request.now.pages) request.now.name.now request.now.edition (font_of request.now.font.now)
         (waivers_in request.now.waivers.now) reached.old reached.new room.new) }
     ensures failed { IfErr result (IsFailureFor (font_of request.now.font.now) (waivers_in request.now.waivers.now)) }
     ensures reached { OnErr result (reached.new ≡ reached.old) }
@@ -78,7 +82,7 @@ fn document_of_font(
     reached: &mut Reached,
     room: &mut [u8],
 ) -> Result<Piece, Failure>
-    ensures piece { IfOk result (IsWaivedDocumentPiece request.now.name.now (checked font.now request.now.edition)
+    ensures piece { IfOk result (IsWaivedDocumentPiece (pages_value request.now.pages) request.now.name.now (checked font.now request.now.edition)
         (waivers_in request.now.waivers.now) reached.old reached.new room.new) }
     ensures failed { IfErr result (IsFailureOf (waivers_in request.now.waivers.now)) }
     ensures reached { OnErr result (reached.new ≡ reached.old) }
@@ -88,7 +92,7 @@ fn document_of_font(
     let sidebearings = Sidebearings::prepare(alloc, font, request.edition)?;
     Ok(fill_document(
         alloc,
-        request.name,
+        request,
         &*font,
         &sidebearings,
         &waivers,

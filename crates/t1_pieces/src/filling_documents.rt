@@ -1,15 +1,17 @@
 //! Filling a room with the results of a report.
 
-ghost use Rattle.std.specs.Prelude.{◌≡◌, ◌≤◌, IfOk, None, length, take};
+ghost use Rattle.std.specs.Prelude.{◌≡◌, ◌≤◌, IfOk, length, take};
+ghost use Rattle.t1_forms.specs.PageValues.{pages_value};
 ghost use Rattle.t1_forms.specs.Sarif.{SarifState, closing, opening, sarif_state};
 ghost use Rattle.t1_report.specs.Checked.{checked};
 ghost use Rattle.t1_report.specs.declared.marks.Mark.{Mark as Marks};
 ghost use Rattle.t1_rules.specs.Components.{AreOf};
-ghost use Rattle.t1_pieces.specs.Documents.{IsDocumentPieceOf, IsPartOf, StandsFor};
+ghost use Rattle.t1_pieces.specs.Documents.{IsDocumentPieceOf, IsPartOf, StandsFor, subject_for};
 ghost use Rattle.t1_pieces.specs.DocumentParts.{IsEndPut, IsRestOf};
 ghost use Rattle.t1_pieces.specs.declared.stage.Stage.TheVariants.{Nothing};
 
 use crate::document_writer::DocumentWriter;
+use crate::documents::DocumentRequest;
 use crate::filling::full;
 use crate::piece::Piece;
 use crate::room::put_after;
@@ -24,7 +26,7 @@ use t1_rules::Sidebearings;
 /// last of them.
 pub(crate) fn fill_document<'a>(
     alloc: Global,
-    name: &'a str,
+    request: &'a DocumentRequest<'a>,
     font: &'a Font<'a>,
     sidebearings: &'a Sidebearings,
     waivers: &'a Waivers<'a>,
@@ -33,12 +35,12 @@ pub(crate) fn fill_document<'a>(
 ) -> Piece
     requires { AreOf font.now sidebearings.now }
     ensures piece { IsDocumentPieceOf
-        (record { name = name.now; font = checked font.now sidebearings.now.edition; waivers = waivers.now }) reached.old reached.new room.new result }
+        (subject_for request.now (checked font.now sidebearings.now.edition) waivers.now) reached.old reached.new room.new result }
     ensures length { length room.new ≡ length room.old }
 {
     let reasons = ReportReasons::new(font, sidebearings);
     let mut walk = Walk::resume(font, sidebearings, waivers, reached.mark);
-    match open(alloc, name, reasons, font, waivers, &mut walk, reached) {
+    match open(alloc, request, reasons, font, waivers, &mut walk, reached) {
         Ok(writer) => fill_opened(writer, font, waivers, walk, reached, room),
         Err(_) => Piece::Memory,
     }
@@ -47,7 +49,7 @@ pub(crate) fn fill_document<'a>(
 /// What writes the results after the last one that was handed over, to which the walk goes on.
 fn open<'a>(
     alloc: Global,
-    name: &'a str,
+    request: &'a DocumentRequest<'a>,
     reasons: ReportReasons<'a>,
     font: &Font<'_>,
     waivers: &Waivers<'_>,
@@ -58,27 +60,27 @@ fn open<'a>(
     requires waivers { walk.old.waivers ≡ waivers.now }
     requires mark { walk.old.mark ≡ reached.now.mark }
     ensures opened { IfOk result (λ writer. (state : SarifState) (mark : Marks)
-        → StandsFor (record { name = name.now; font = walk.old.font; waivers = waivers.now }) reached.now state mark
+        → StandsFor (subject_for request.now walk.old.font waivers.now) reached.now state mark
         → (sarif_state writer.results.formatter ≡ state) × (walk.new.mark ≡ mark)) }
-    ensures text { IfOk result (λ writer. reached.now.stage ≡ Nothing → writer.results.out.bytes.items ≡ opening None) }
-    ensures name { IfOk result (λ writer. writer.name.now ≡ name.now) }
+    ensures text { IfOk result (λ writer. reached.now.stage ≡ Nothing → writer.results.out.bytes.items ≡ opening (pages_value request.now.pages)) }
+    ensures request { IfOk result (λ writer. writer.request.now ≡ request.now) }
     ensures reasons { IfOk result (λ writer. writer.reasons ≡ reasons.entry) }
     ensures font { walk.new.font ≡ walk.old.font }
     ensures waivers { walk.new.waivers ≡ walk.old.waivers }
 {
     match reached.stage {
-        Stage::Nothing | Stage::Beginning => DocumentWriter::begin(alloc, name, reasons),
+        Stage::Nothing | Stage::Beginning => DocumentWriter::begin(alloc, request, reasons),
         Stage::Results => match walk.next() {
             Some(last) => DocumentWriter::resume(
                 alloc,
-                name,
+                request,
                 reasons,
                 &reached.counts,
                 font,
                 waivers,
                 &last,
             ),
-            None => DocumentWriter::begin(alloc, name, reasons),
+            None => DocumentWriter::begin(alloc, request, reasons),
         },
     }
 }
@@ -95,10 +97,10 @@ fn fill_opened(
     requires font { walk.font.value ≡ font.now }
     requires reasons { writer.reasons ≡ walk.font }
     requires waivers { walk.waivers ≡ waivers.now }
-    requires text { reached.old.stage ≡ Nothing → writer.results.out.bytes.items ≡ opening None }
-    ensures piece { StandsFor (record { name = writer.entry.name.now; font = walk.entry.font; waivers = waivers.now }) reached.old
+    requires text { reached.old.stage ≡ Nothing → writer.results.out.bytes.items ≡ opening (pages_value writer.request.now.pages) }
+    ensures piece { StandsFor (subject_for writer.entry.request.now walk.entry.font waivers.now) reached.old
         (sarif_state writer.entry.results.formatter) walk.entry.mark
-        → IsPartOf (record { name = writer.entry.name.now; font = walk.entry.font; waivers = waivers.now }) reached.old
+        → IsPartOf (subject_for writer.entry.request.now walk.entry.font waivers.now) reached.old
         (sarif_state writer.entry.results.formatter) walk.entry.mark reached.new room.new result }
     ensures length { length room.new ≡ length room.old }
 {
@@ -133,9 +135,9 @@ fn fill_results(
     requires within { used ≤ length room.old }
     requires start { used ≡ 0 → at ≡ reached.old }
     requires begun { ¬ (at.stage ≡ Nothing) }
-    ensures rest { StandsFor (record { name = writer.entry.name.now; font = walk.entry.font; waivers = waivers.now }) at
+    ensures rest { StandsFor (subject_for writer.entry.request.now walk.entry.font waivers.now) at
         (sarif_state writer.entry.results.formatter) walk.entry.mark
-        → IsRestOf (record { name = writer.entry.name.now; font = walk.entry.font; waivers = waivers.now }) (take used room.old)
+        → IsRestOf (subject_for writer.entry.request.now walk.entry.font waivers.now) (take used room.old)
         (sarif_state writer.entry.results.formatter) walk.entry.mark at reached.old reached.new room.new result }
     ensures length { length room.new ≡ length room.old }
 {

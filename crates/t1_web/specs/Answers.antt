@@ -1,6 +1,7 @@
 -- What an export hands over.
 use Rattle.std.specs.Prelude.{◌≡◌, ℕ, List, Option, None, Some}
 use Rattle.t1_char.specs.declared.edition.Edition.{Edition}
+use Rattle.t1_forms.specs.PageValues.{PagesValue}
 use Rattle.t1_report.specs.declared.marks.Mark.{Mark}
 use Rattle.t1_run.specs.FontFiles.{font_of}
 use Rattle.t1_run.specs.WaiverFiles.{waivers_in}
@@ -27,16 +28,16 @@ pub data AreHandedOver (form : ℕ) (name : List ℕ) (edition : Edition) (font 
       IsFormOf form name None → mark' ≡ mark → written ≡ 0 → status ≡ 6
       → AreHandedOver form name edition font waivers mark mark' room written status
 
--- Pieces of a font's document, or why there is none.
-pub data IsDocumentHandedOver (name : List ℕ) (edition : Edition) (font waivers : List ℕ) (reached reached' : Reached) (room : List ℕ)
+-- Pieces of a font's document with these pages, or why there is none.
+pub data IsDocumentHandedOver (pages : PagesValue) (name : List ℕ) (edition : Edition) (font waivers : List ℕ) (reached reached' : Reached) (room : List ℕ)
     (written status : ℕ) : Type 0 where
   handed :
-      (piece : Piece) → IsDocumentPiece name edition (font_of font) (waivers_in waivers) reached reached' room piece
+      (piece : Piece) → IsDocumentPiece pages name edition (font_of font) (waivers_in waivers) reached reached' room piece
       → written ≡ bytes_of piece → status ≡ status_of piece
-      → IsDocumentHandedOver name edition font waivers reached reached' room written status
+      → IsDocumentHandedOver pages name edition font waivers reached reached' room written status
   no_name :
       ¬ (IsUtf8 name) → reached' ≡ reached → written ≡ 0 → status ≡ 6
-      → IsDocumentHandedOver name edition font waivers reached reached' room written status
+      → IsDocumentHandedOver pages name edition font waivers reached reached' room written status
 
 -- A picture of a glyph, or why there is none.
 pub record IsPictureHandedOver (edition : Edition) (name : List ℕ) (step : Option ℕ) (font waivers room : List ℕ) (written status : ℕ) : Type 0 where

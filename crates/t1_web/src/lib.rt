@@ -9,6 +9,11 @@
 
 mod numbers;
 
+ghost use Rattle.std.specs.Prelude.{List, None, map};
+ghost use Rattle.t1_forms.specs.PageValues.{PageValue, page_value};
+ghost use Rattle.t1_pieces.specs.Documents.{IsDocumentPiece};
+ghost use Rattle.t1_run.specs.FontFiles.{font_of};
+ghost use Rattle.t1_run.specs.WaiverFiles.{waivers_in};
 ghost use Rattle.t1_web.specs.Answers.{AreHandedOver, IsDocumentHandedOver, IsPictureHandedOver};
 ghost use Rattle.t1_web.specs.Numbers.{edition_of, mark_of, reached_of, step_of};
 
@@ -17,8 +22,9 @@ use crate::numbers::{
     step_of,
 };
 use std::alloc::Global;
-use t1_forms::RESULT_COUNTS;
-use t1_pieces::{DocumentRequest, Reached, Request, Wish, document, lines, picture};
+use t1_forms::{Page, Pages, RESULT_COUNTS};
+use t1_pages::pages;
+use t1_pieces::{DocumentRequest, Piece, Reached, Request, Wish, document, lines, picture};
 use t1_report::Mark;
 
 /// How far a report was handed over, as a host keeps it between calls: zeros first.
@@ -91,7 +97,7 @@ pub extern "C" fn t1_web_lines(
 }
 
 /// Hands over the document of SARIF of the font of a name from a place on, whole results, as many as the room holds, and moves the place to the
-/// last of them.
+/// last of them. It has the pages of t1_pages.
 #[unsafe(no_mangle)]
 pub extern "C" fn t1_web_document(
     alloc: Global,
@@ -103,19 +109,14 @@ pub extern "C" fn t1_web_document(
     room: &mut [u8],
     written: &mut usize,
 ) -> u32
-    ensures { IsDocumentHandedOver name.now (edition_of edition) font.now waivers.now (reached_of reached.old) (reached_of reached.new)
-        room.new written.new result }
+    ensures { (list : List PageValue) × IsDocumentHandedOver (record { list = list; docs = None }) name.now (edition_of edition)
+        font.now waivers.now (reached_of reached.old) (reached_of reached.new) room.new written.new result }
 {
     let Ok(name) = str::from_utf8(name) else {
         *written = 0;
         return NO_NAME;
     };
-    let request = DocumentRequest {
-        font,
-        waivers,
-        edition: edition_of(edition),
-        name,
-    };
+    let list = pages();
     let mut place = Reached {
         stage: stage_of(reached.stage),
         mark: Mark {
@@ -126,7 +127,7 @@ pub extern "C" fn t1_web_document(
         },
         counts: reached.counts,
     };
-    let part = document(alloc, &request, &mut place, room);
+    let part = document_with(alloc, font, waivers, edition, name, &list, &mut place, room);
     reached.stage = stage_number(place.stage);
     reached.number = place.mark.number;
     reached.unit = place.mark.unit;
@@ -135,6 +136,30 @@ pub extern "C" fn t1_web_document(
     reached.counts = place.counts;
     *written = bytes_of(part);
     status_of(part)
+}
+
+/// Hands over the document of a font with these pages.
+fn document_with<'a>(
+    alloc: Global,
+    font: &'a [u8],
+    waivers: &'a [u8],
+    edition: u32,
+    name: &'a str,
+    list: &'a [Page],
+    place: &mut Reached,
+    room: &mut [u8],
+) -> Piece
+    ensures { IsDocumentPiece (record { list = map page_value list.now; docs = None }) name.now (edition_of edition) (font_of font.now)
+        (waivers_in waivers.now) place.old place.new room.new result }
+{
+    let request = DocumentRequest {
+        font,
+        waivers,
+        edition: edition_of(edition),
+        name,
+        pages: Pages { list, docs: None },
+    };
+    document(alloc, &request, place, room)
 }
 
 /// Hands over the picture of the glyph of a name, up to a step or, with the step 0, as a whole. Where the room doesn't hold it, the count is

@@ -4,7 +4,7 @@ use crate::lines::{front, with_glyph};
 use std::alloc::{AllocError, Global};
 use std::test::Fail;
 use t1_char::Edition;
-use t1_forms::{RESULT_COUNTS, Sarif};
+use t1_forms::{Page, Pages, RESULT_COUNTS, Sarif};
 use t1_io::Out;
 use t1_pieces::{DocumentRequest, Piece, Reached, Stage, document};
 use t1_report::Mark;
@@ -12,18 +12,34 @@ use t1_report::Mark;
 /// The glyph of 0, 500, hsbw, closepath, closepath, endchar.
 const TWO_FAULTS: &[u8] = b"\x8b\xf8\x88\x0d\x09\x09\x0e";
 
-/// The results of both closepaths of the font f.pfb. docs/RULES.md has P03 as the 45th of its pages.
+/// The pages of the documents.
+const PAGES: [Page; 2] = [
+    Page {
+        code: "P02",
+        anchor: "p02",
+        title: "path not closed",
+        text: "Cure: `closepath`.",
+    },
+    Page {
+        code: "P03",
+        anchor: "p03",
+        title: "closepath without a path",
+        text: "Cure: take it out.",
+    },
+];
+
+/// The results of both closepaths of the font f.pfb.
 const RESULTS: [&str; 2] = [
     "{\"level\":\"note\",\
 \"locations\":[{\"logicalLocations\":[{\"kind\":\"glyph\",\"name\":\"A\"},{\"kind\":\"step\",\"name\":\"4\"}],\
 \"physicalLocation\":{\"artifactLocation\":{\"uri\":\"f.pfb\"},\"region\":{\"startLine\":1}}}],\
 \"message\":{\"text\":\"glyph A - 4 P03 closepath without a path: nothing is drawn so far\"},\
-\"partialFingerprints\":{\"t1check/v1\":\"f.pfb glyph A P03 1\"},\"ruleId\":\"P03\",\"ruleIndex\":44}",
+\"partialFingerprints\":{\"t1check/v1\":\"f.pfb glyph A P03 1\"},\"ruleId\":\"P03\",\"ruleIndex\":1}",
     ",{\"level\":\"note\",\
 \"locations\":[{\"logicalLocations\":[{\"kind\":\"glyph\",\"name\":\"A\"},{\"kind\":\"step\",\"name\":\"5\"}],\
 \"physicalLocation\":{\"artifactLocation\":{\"uri\":\"f.pfb\"},\"region\":{\"startLine\":1}}}],\
 \"message\":{\"text\":\"glyph A - 5 P03 closepath without a path: nothing is drawn since step 4\"},\
-\"partialFingerprints\":{\"t1check/v1\":\"f.pfb glyph A P03 2\"},\"ruleId\":\"P03\",\"ruleIndex\":44}",
+\"partialFingerprints\":{\"t1check/v1\":\"f.pfb glyph A P03 2\"},\"ruleId\":\"P03\",\"ruleIndex\":1}",
 ];
 
 /// What is after them.
@@ -45,9 +61,17 @@ const FIRST: Reached = Reached {
 /// What is before all results, as every document has it.
 fn opening(alloc: Global) -> Result<Vec<u8>, AllocError> {
     let mut text = Vec::new(alloc);
-    match Sarif::begin(alloc, &mut Out::new(&mut text), None) {
+    match Sarif::begin(alloc, &mut Out::new(&mut text), pages()) {
         Ok(_) => Ok(text),
         Err(_) => Err(AllocError),
+    }
+}
+
+/// The pages, without an address.
+fn pages<'a>() -> Pages<'a> {
+    Pages {
+        list: &PAGES,
+        docs: None,
     }
 }
 
@@ -58,6 +82,7 @@ fn request<'a>(font: &'a [u8], waivers: &'a [u8]) -> DocumentRequest<'a> {
         waivers,
         edition: Edition::One,
         name: "f.pfb",
+        pages: pages(),
     }
 }
 

@@ -7,4 +7,4 @@ use Rattle.t1_forms.proofs.sarif_objects.page_objects.Given as goal
 abbrev pub invariant-loop-page : goal.invariant-loop-page
 invariant-loop-page l =
     map view l.objects.items
-    ≡ map (page_object (option_map (λ docs. docs.now) l.docs)) (map (λ page. page_value page.now) (take l.page-index l.pages))
+    ≡ map (page_object (option_map (λ docs. docs.now) l.docs)) (map page_value (take l.page-index l.pages))

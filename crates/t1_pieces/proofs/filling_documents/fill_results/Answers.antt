@@ -5,7 +5,7 @@ use Rattle.t1_pieces.proofs.DocumentResults.{AreSoFar, end_rest, full_rest, none
 use Rattle.t1_pieces.proofs.GivenLines.{at_walk}
 use Rattle.t1_pieces.proofs.filling_documents.fill_results.Goals as goal
 use Rattle.t1_pieces.specs.DocumentParts.{IsEndPut}
-use Rattle.t1_pieces.specs.Documents.{Subject, result_of, told_of}
+use Rattle.t1_pieces.specs.Documents.{Subject, result_of, subject_for, told_of}
 use Rattle.t1_pieces.specs.Documents.IsNextResult.{result}
 use Rattle.t1_pieces.specs.declared.stage.Reached.{Reached}
 use Rattle.t1_pieces.specs.declared.stage.Stage.TheVariants.{Results}
@@ -20,19 +20,19 @@ pub loop-fault-init : goal.loop-fault-init
 loop-fault-init c = record {
   font = refl;
   waivers = c.requires.waivers;
-  name = refl;
+  request = refl;
   reasons = c.requires.reasons;
   kept = refl;
   size = refl;
   first = λ none. none;
-  so_far = none_so_far (record { name = c.args.writer.name.now; font = c.args.walk.font; waivers = c.args.waivers.now })
+  so_far = none_so_far (subject_for c.args.writer.request.now c.args.walk.font c.args.waivers.now)
       (sarif_state c.args.writer.results.formatter) c.args.walk.mark c.args.at c.args.room.now c.args.used c.requires.within c.requires.begun;
 }
 
 -- All results are handed over.
 pub returns-in_default-clause-rest : goal.returns-in_default-clause-rest
 returns-in_default-clause-rest c = λ stands.
-    let subject : Subject = record { name = c.args.writer.name.now; font = c.args.walk.font; waivers = c.args.waivers.now } in
+    let subject : Subject = subject_for c.args.writer.request.now c.args.walk.font c.args.waivers.now in
     end_rest subject (take c.args.used c.args.room.now) (sarif_state c.args.writer.results.formatter) c.args.walk.mark c.args.at
     c.loop-fault.at c.args.reached.now c.fill_end.new.reached c.loop-fault.walk.mark (sarif_state c.loop-fault.writer.results.formatter)
     c.loop-fault.room c.fill_end.new.room c.loop-fault.used c.fill_end.result c.loop-fault.invariant.so_far
@@ -46,11 +46,11 @@ returns-in_default-clause-rest c = λ stands.
 -- The next result doesn't fit.
 pub returns-then-text-room-clause-rest : goal.returns-then-text-room-clause-rest
 returns-then-text-room-clause-rest c = λ stands.
-    let subject : Subject = record { name = c.args.writer.name.now; font = c.args.walk.font; waivers = c.args.waivers.now } in
+    let subject : Subject = subject_for c.args.writer.request.now c.args.walk.font c.args.waivers.now in
     let state' = sarif_state c.loop-fault.writer.results.formatter in
     let fault = fault_value c.in-Some.fault in
-    let same = same_subject c.loop-fault.writer.name.now c.args.writer.name.now c.loop-fault.writer.reasons c.args.walk.font c.args.waivers.now
-    c.loop-fault.invariant.name c.loop-fault.invariant.reasons in
+    let same = same_subject c.loop-fault.writer.request.now c.args.writer.request.now c.loop-fault.writer.reasons c.args.walk.font c.args.waivers.now
+    c.loop-fault.invariant.request c.loop-fault.invariant.reasons in
     full_rest subject (take c.args.used c.args.room.now) (sarif_state c.args.writer.results.formatter) c.args.walk.mark c.args.at
     c.loop-fault.at c.args.reached.now c.loop-fault.walk.mark state' c.loop-fault.room c.as_bytes-text.result.now c.loop-fault.used c.full.result
     c.loop-fault.invariant.so_far (λ none. c.requires.start (c.loop-fault.invariant.first none))
@@ -63,14 +63,14 @@ returns-then-text-room-clause-rest c = λ stands.
 -- It does.
 pub loop-fault-preserved : goal.loop-fault-preserved
 loop-fault-preserved c =
-    let subject : Subject = record { name = c.args.writer.name.now; font = c.args.walk.font; waivers = c.args.waivers.now } in
+    let subject : Subject = subject_for c.args.writer.request.now c.args.walk.font c.args.waivers.now in
     let before = take c.args.used c.args.room.now in
     let state = sarif_state c.args.writer.results.formatter in
     let state' = sarif_state c.loop-fault.writer.results.formatter in
     let next = sarif_state c.set_result.new.self.results.formatter in
     let fault = fault_value c.in-Some.fault in
-    let same = same_subject c.loop-fault.writer.name.now c.args.writer.name.now c.loop-fault.writer.reasons c.args.walk.font c.args.waivers.now
-    c.loop-fault.invariant.name c.loop-fault.invariant.reasons in
+    let same = same_subject c.loop-fault.writer.request.now c.args.writer.request.now c.loop-fault.writer.reasons c.args.walk.font c.args.waivers.now
+    c.loop-fault.invariant.request c.loop-fault.invariant.reasons in
     let is : c.as_bytes-text.result.now ≡ result_of subject state' fault =
     c.as_bytes-text.ensures ∙ c.in-Ok.ensures.text ∙ ap (λ (s : Subject). result_of s state' fault) same in
     let next_is : next ≡ after_one state' (told_of subject fault) =
@@ -89,7 +89,7 @@ loop-fault-preserved c =
     record {
       font = ap (λ (w : WalkView). w.font) c.in-Some.ensures.state ∙ c.loop-fault.invariant.font;
       waivers = ap (λ (w : WalkView). w.waivers) c.in-Some.ensures.state ∙ c.loop-fault.invariant.waivers;
-      name = c.in-Ok.ensures.name ∙ c.loop-fault.invariant.name;
+      request = c.in-Ok.ensures.request ∙ c.loop-fault.invariant.request;
       reasons = c.in-Ok.ensures.reasons ∙ c.loop-fault.invariant.reasons;
       kept = c.loop-fault.invariant.kept;
       size = c.put_after.ensures.length ∙ c.loop-fault.invariant.size;

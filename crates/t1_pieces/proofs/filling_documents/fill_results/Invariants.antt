@@ -1,18 +1,19 @@
 use Rattle.std.proofs.Common.{◌≡◌, ◌-◌, length, take}
 use Rattle.t1_forms.specs.Sarif.{sarif_state}
 use Rattle.t1_pieces.proofs.DocumentResults.{AreSoFar}
+use Rattle.t1_pieces.specs.Documents.{subject_for}
 use Rattle.t1_pieces.proofs.filling_documents.fill_results.Given as goal
 
 abbrev pub invariant-loop-fault : goal.invariant-loop-fault
 invariant-loop-fault l = record {
   font : l.walk.font ≡ l.fn.walk.font;
   waivers : l.walk.waivers ≡ l.waivers;
-  name : l.writer.name.now ≡ l.fn.writer.name.now;
+  request : l.writer.request.now ≡ l.fn.writer.request.now;
   reasons : l.writer.reasons ≡ l.fn.walk.font;
   kept : l.reached ≡ l.fn.reached;
   size : length l.room ≡ length l.fn.room;
   first : l.used ≡ 0 → l.fn.used ≡ 0;
-  so_far : AreSoFar (record { name = l.fn.writer.name.now; font = l.fn.walk.font; waivers = l.waivers }) (take l.fn.used l.fn.room)
+  so_far : AreSoFar (subject_for l.fn.writer.request.now l.fn.walk.font l.waivers) (take l.fn.used l.fn.room)
       (sarif_state l.fn.writer.results.formatter) l.fn.walk.mark l.fn.at l.at l.walk.mark (sarif_state l.writer.results.formatter) l.room l.used;
 }
 

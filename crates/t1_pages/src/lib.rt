@@ -1,1304 +1,1031 @@
 //! The pages of rules and refusals, as docs/RULES.md has them. Made by pages.sh; what is changed here is lost.
+#![tactic(auto)]
 
-ghost use Rattle.std.specs.Prelude.{◌≡◌, map};
-ghost use Rattle.t1_forms.specs.PageValues.{page_value};
-ghost use Rattle.t1_forms.specs.Pages.{pages, page_0, page_1, page_2, page_3, page_4, page_5, page_6, page_7, page_8, page_9, page_10, page_11, page_12, page_13, page_14, page_15, page_16, page_17, page_18, page_19, page_20, page_21, page_22, page_23, page_24, page_25, page_26, page_27, page_28, page_29, page_30, page_31, page_32, page_33, page_34, page_35, page_36, page_37, page_38, page_39, page_40, page_41, page_42, page_43, page_44, page_45, page_46, page_47, page_48, page_49, page_50, page_51, page_52, page_53, page_54, page_55, page_56, page_57, page_58, page_59, page_60, page_61, page_62, page_63, page_64, page_65, page_66, page_67, page_68, page_69, page_70, page_71, page_72, page_73, page_74, page_75, page_76, page_77, page_78, page_79, page_80, page_81, page_82, page_83, page_84};
+use t1_forms::Page;
 
-/// The page of a rule or a refusal.
-pub(crate) struct Page {
-    /// `F01`.
-    pub(crate) code: &'static str,
-    /// Where its heading stands: `f01-no-end-segment`.
-    pub(crate) anchor: &'static str,
-    /// What is told in a line, and the heading behind the code.
-    pub(crate) title: &'static str,
-    /// What stands below the heading, in Markdown.
-    pub(crate) text: &'static str,
-}
-
-/// How many pages there are.
-pub(crate) const COUNT: usize = 85;
-
-static PAGE_0: Page = Page {
+static F01: Page = Page {
     code: "F01",
     anchor: "f01-no-end-segment",
     title: "no end segment",
     text: "Level *should*: outlines are read, but a downloader may wait, and the file may have been cut.\n\nThe file was cut, or written by a tool that leaves the mark out. Printers' downloaders wait for it.\nExample: a PFB file without its last two bytes, `80 03`.\n\n    1: font file 0 F01 no end segment\n\nCure: write the two bytes `80 03` at the end; if other bytes are missing as well, take the font from its source again.",
 };
 
-#[tactic(auto, unfolding(crate::specs::Pages::page_0))]
-fn page_0() -> &'static Page
-    ensures { page_value result.now ≡ page_0 }
-{
-    &PAGE_0
+fn f01() -> &'static Page {
+    &F01
 }
 
-static PAGE_1: Page = Page {
+static F02: Page = Page {
     code: "F02",
     anchor: "f02-bytes-after-the-end-segment",
     title: "bytes after the end segment",
     text: "Level *tidy*: nothing reads these bytes.\n\nNothing reads these bytes: two files were put together, or a transfer filled the file up. Example: one more byte `0A` after `80 03`.\n\n    1: font file 0 F02 bytes after the end segment\n\nCure: look at what is after `80 03`, then cut the file after these two bytes.",
 };
 
-#[tactic(auto, unfolding(crate::specs::Pages::page_1))]
-fn page_1() -> &'static Page
-    ensures { page_value result.now ≡ page_1 }
-{
-    &PAGE_1
+fn f02() -> &'static Page {
+    &F02
 }
 
-static PAGE_2: Page = Page {
+static F03: Page = Page {
     code: "F03",
     anchor: "f03-fonttype-is-not-1",
     title: "FontType is not 1",
     text: "Level *must*: an interpreter refuses the font, or doesn't read its charstrings. Ghostscript refuses it.\n\nBy this number a PostScript interpreter decides how it reads glyphs. With another one it doesn't use the charstrings, or refuses the font.\n\n    /FontType 3 def\n    1: font FontType 0 F03 FontType is not 1\n       FontType is 3; 1 is needed\n\nCure: `/FontType 1 def` in the clear text.",
 };
 
-#[tactic(auto, unfolding(crate::specs::Pages::page_2))]
-fn page_2() -> &'static Page
-    ensures { page_value result.now ≡ page_2 }
-{
-    &PAGE_2
+fn f03() -> &'static Page {
+    &F03
 }
 
-static PAGE_3: Page = Page {
+static F04: Page = Page {
     code: "F04",
     anchor: "f04-painttype-is-not-0-or-2",
     title: "PaintType is not 0 or 2",
     text: "Level *must*: interpreters paint something else, or nothing.\n\n0 means that outlines are filled, 2 that they are stroked with the width StrokeWidth. Type 1 fonts have no other way to be painted, so\ninterpreters fail, or paint something else than was meant.\n\n    /PaintType 1 def\n    1: font PaintType 0 F04 PaintType is not 0 or 2\n       PaintType is 1; 0 or 2 is needed\n\nCure: `/PaintType 0 def`.",
 };
 
-#[tactic(auto, unfolding(crate::specs::Pages::page_3))]
-fn page_3() -> &'static Page
-    ensures { page_value result.now ≡ page_3 }
-{
-    &PAGE_3
+fn f04() -> &'static Page {
+    &F04
 }
 
-static PAGE_4: Page = Page {
+static F05: Page = Page {
     code: "F05",
     anchor: "f05-uniqueid-out-of-range",
     title: "UniqueID out of range",
     text: "Level *must*: an interpreter may refuse the font, as Ghostscript does below 0, or print another font's glyphs.\n\nA printer keeps drawn glyphs under this number, which has 24 bits. With a number past them an interpreter fails, or mixes up fonts.\nThe entry may be absent, in both dictionaries.\n\n    /UniqueID 16777216 def\n    1: font UniqueID 0 F05 UniqueID out of range\n       UniqueID is 16777216; 0 to 16777215 is needed\n\nCure: a registered number, one from 4000000 to 4999999 (which are for private use), or no UniqueID in either dictionary.",
 };
 
-#[tactic(auto, unfolding(crate::specs::Pages::page_4))]
-fn page_4() -> &'static Page
-    ensures { page_value result.now ≡ page_4 }
-{
-    &PAGE_4
+fn f05() -> &'static Page {
+    &F05
 }
 
-static PAGE_5: Page = Page {
+static F06: Page = Page {
     code: "F06",
     anchor: "f06-uniqueids-differ",
     title: "UniqueIDs differ",
     text: "Level *must*: a printer may print the glyphs of another font, which it has kept under the number.\n\nThe font's dictionary and Private have to name the same number. Where they differ the number is no mark of the font: a printer may ignore\nit, and draw each glyph anew, or print another font's glyphs that it has kept. Such a font was often made from another one. Where only one\ndictionary has a number this rule isn't violated.\n\n    /UniqueID 5000793 def     % in the clear text\n    /UniqueID 5000794 def     % in Private\n    1: font PrivateUniqueID 0 F06 UniqueIDs differ\n       5000793 in the clear text, 5000794 in Private\n\nCure: the same number in both, a new one where the glyphs aren't those of the older font. Where Private gives it twice the later one counts: leave the\nwrong one out.",
 };
 
-#[tactic(auto, unfolding(crate::specs::Pages::page_5))]
-fn page_5() -> &'static Page
-    ensures { page_value result.now ≡ page_5 }
-{
-    &PAGE_5
+fn f06() -> &'static Page {
+    &F06
 }
 
-static PAGE_6: Page = Page {
+static F07: Page = Page {
     code: "F07",
     anchor: "f07-password-is-not-5839",
     title: "password is not 5839",
     text: "Level *must*: early interpreters refuse the font.\n\nThe format asks each font for this entry of Private; early interpreters fail without it.\n\n    /password 5838 def\n    1: font password 0 F07 password is not 5839\n       password is 5838; 5839 is needed\n\nCure: `/password 5839 def` in Private.",
 };
 
-#[tactic(auto, unfolding(crate::specs::Pages::page_6))]
-fn page_6() -> &'static Page
-    ensures { page_value result.now ≡ page_6 }
-{
-    &PAGE_6
+fn f07() -> &'static Page {
+    &F07
 }
 
-static PAGE_7: Page = Page {
+static F08: Page = Page {
     code: "F08",
     anchor: "f08-minfeature-is-not-16-16",
     title: "MinFeature is not {16 16}",
     text: "Level *tidy*: the entry has no effect on what is drawn.\n\nThis entry, too, is required so that early interpreters read the font; it has this value alone. An array, `[16 16]`, is taken as well.\n\n    /MinFeature {16} def\n    1: font MinFeature 0 F08 MinFeature is not {16 16}\n       it is a list of 1 number\n\nCure: `/MinFeature {16 16} def` in Private.",
 };
 
-#[tactic(auto, unfolding(crate::specs::Pages::page_7))]
-fn page_7() -> &'static Page
-    ensures { page_value result.now ≡ page_7 }
-{
-    &PAGE_7
+fn f08() -> &'static Page {
+    &F08
 }
 
-static PAGE_8: Page = Page {
+static F09: Page = Page {
     code: "F09",
     anchor: "f09-no-notdef",
     title: "no .notdef",
     text: "Level *must*: where a code has no glyph an interpreter fails.\n\nThis glyph is shown for each code and each name that has none. Without it an interpreter refuses the font, or stops at the first such\ncharacter of a text. Example: `A` is the only glyph.\n\n    /A 9 RD … ND\n    1: font CharStrings 0 F09 no .notdef\n       the only glyph has another name\n\nCure: add a glyph `.notdef`; one with a width and no outline will do.",
 };
 
-#[tactic(auto, unfolding(crate::specs::Pages::page_8))]
-fn page_8() -> &'static Page
-    ensures { page_value result.now ≡ page_8 }
-{
-    &PAGE_8
+fn f09() -> &'static Page {
+    &F09
 }
 
-static PAGE_9: Page = Page {
+static F10: Page = Page {
     code: "F10",
     anchor: "f10-glyph-given-twice",
     title: "glyph given twice",
     text: "Level *must*: some interpreters draw the first of the two, others the last.\n\nPostScript keeps the later one, as t1check does; a reader that stops at the first match shows the earlier one. So the font can look\ndifferent on screen and on paper. The line's index counts names from 0 in the order in which they first appear.\n\n    /.notdef 9 RD … ND\n    /A 9 RD … ND\n    /A 43 RD … ND\n    1: font CharStrings 1 F10 glyph given twice\n       the glyph is A\n\nCure: leave out the one that isn't wanted, and write the smaller number of glyphs before `dict`. This command prints the name at index 1 (with\n`3p` that at index 2, and so on):\n\n    t1disasm font.pfb | sed -n '/\\/CharStrings/,$ s/^\\/\\([^ ]*\\) {$/\\1/p' | awk '!seen[$0]++' | sed -n 2p",
 };
 
-#[tactic(auto, unfolding(crate::specs::Pages::page_9))]
-fn page_9() -> &'static Page
-    ensures { page_value result.now ≡ page_9 }
-{
-    &PAGE_9
+fn f10() -> &'static Page {
+    &F10
 }
 
-static PAGE_10: Page = Page {
+static F11: Page = Page {
     code: "F11",
     anchor: "f11-encoding-of-another-form",
     title: "Encoding of another form",
     text: "Level *must*: an interpreter may refuse the font, or give codes other glyphs.\n\nInstallers and screen drivers, such as Adobe Type Manager, don't execute PostScript: they look for `/Encoding StandardEncoding def` or\nfor a custom Encoding as above (Type 1 Format, chapters 2 and 10). In other forms they find no codes.\n\n    /Encoding ISOLatin1Encoding def\n    1: font Encoding 0 F11 Encoding of another form\n       it is neither StandardEncoding nor an array of 256 names\n\nAn array written out in brackets and one of another size (`128 array`) are such forms too. Cure: write the codes as rows of `256 array`.",
 };
 
-#[tactic(auto, unfolding(crate::specs::Pages::page_10))]
-fn page_10() -> &'static Page
-    ensures { page_value result.now ≡ page_10 }
-{
-    &PAGE_10
+fn f11() -> &'static Page {
+    &F11
 }
 
-static PAGE_11: Page = Page {
+static F12: Page = Page {
     code: "F12",
     anchor: "f12-code-past-255",
     title: "code past 255",
     text: "Level *must*: an interpreter refuses the font, as Ghostscript does, or the code has no glyph.\n\nThe array has the codes 0 to 255. A row with another code stops an interpreter with `rangecheck` or `typecheck`: the font isn't loaded.\nt1check skips the row. However many such rows there are, there is one line.\n\n    dup 256 /A put\n    1: font Encoding 0 F12 code past 255\n\nCure: mend the code, or leave the row out; a glyph without a code is still reached by its name.",
 };
 
-#[tactic(auto, unfolding(crate::specs::Pages::page_11))]
-fn page_11() -> &'static Page
-    ensures { page_value result.now ≡ page_11 }
-{
-    &PAGE_11
+fn f12() -> &'static Page {
+    &F12
 }
 
-static PAGE_12: Page = Page {
+static F13: Page = Page {
     code: "F13",
     anchor: "f13-encoded-glyph-missing",
     title: "encoded glyph missing",
     text: "Level *should*: `.notdef` is drawn for the code; a subset may have been cut so on purpose.\n\nThe code prints as `.notdef`. Subsets of fonts often keep the codes of the whole font; that is harmless while no text uses them. In a whole font\nit is mostly a misspelled name. Where a code is set twice its later name counts. Example: no glyph is named `Alpha`.\n\n    dup 65 /Alpha put\n    1: font Encoding 65 F13 encoded glyph missing\n       code 65 names Alpha\n\nHow much it matters: in a subset not at all, so long as its text has no such code. 43 of 1,454 real fonts have 430 such rows.\n\nCure: add the glyph, mend the name, or leave the row out.",
 };
 
-#[tactic(auto, unfolding(crate::specs::Pages::page_12))]
-fn page_12() -> &'static Page
-    ensures { page_value result.now ≡ page_12 }
-{
-    &PAGE_12
+fn f13() -> &'static Page {
+    &F13
 }
 
-static PAGE_13: Page = Page {
+static F14: Page = Page {
     code: "F14",
     anchor: "f14-subr-given-twice-or-past-the-array",
     title: "Subr given twice or past the array",
     text: "Level *must*: an interpreter refuses the font, as Ghostscript does, or calls another Subr.\n\n`/Subrs 5 array` has the numbers 0 to 4. An entry past them stops an interpreter with `rangecheck`, so that the font isn't loaded; other readers\nleave it out, and glyphs that call it break. Of two entries with one number readers take one or the other.\n\n    /Subrs 5 array\n    dup 5 7 RD … NP\n    1: font Subrs 5 F14 Subr given twice or past the array\n       Subr 5 is past the size 5\n\nCure: write the greatest number plus 1 before `array`; leave out, or number anew, the entry that is given twice.",
 };
 
-#[tactic(auto, unfolding(crate::specs::Pages::page_13))]
-fn page_13() -> &'static Page
-    ensures { page_value result.now ≡ page_13 }
-{
-    &PAGE_13
+fn f14() -> &'static Page {
+    &F14
 }
 
-static PAGE_14: Page = Page {
+static Z01: Page = Page {
     code: "Z01",
     anchor: "z01-value-of-another-kind",
     title: "value of another kind",
     text: "Level *must*: an interpreter may refuse the font, as Ghostscript does.\n\nBlueScale, BlueShift and BlueFuzz want a number; the zone lists, StdHW, StdVW, StemSnapH and StemSnapV a list of numbers. An entry of another\nkind stops an interpreter with `typecheck`, or is ignored: the hint is lost. The other rules don't look at its value.\n\n    /StdHW 30 def\n    1: font StdHW 0 Z01 value of another kind\n       it is the number 30; a list of numbers is needed\n\n    /BlueScale 3.9e-2 def\n    1: font BlueScale 0 Z01 value of another kind\n       it is neither a number nor a list of numbers; a number is needed\n\nCure: write `[30]`; write `.039`.",
 };
 
-#[tactic(auto, unfolding(crate::specs::Pages::page_14))]
-fn page_14() -> &'static Page
-    ensures { page_value result.now ≡ page_14 }
-{
-    &PAGE_14
+fn z01() -> &'static Page {
+    &Z01
 }
 
-static PAGE_15: Page = Page {
+static Z02: Page = Page {
     code: "Z02",
     anchor: "z02-too-many-zone-numbers",
     title: "too many zone numbers",
     text: "Level *must*: an interpreter may refuse the font, as Ghostscript does, or leave zones out.\n\nSeven zones fit in BlueValues and FamilyBlues, five in OtherBlues and FamilyOtherBlues. Rasterisers have room for no more, and drop the\nfurther ones or the whole list. INDEX is that of the first number too many.\n\n    /BlueValues [-15 0 400 410 450 460 500 510 540 550 600 610 650 660 700 710] def\n    1: font BlueValues 14 Z02 too many zone numbers\n       16 numbers, 14 at most\n\nCure: keep the zones of the most glyphs (baseline, x-height, capitals, ascenders, figures).",
 };
 
-#[tactic(auto, unfolding(crate::specs::Pages::page_15))]
-fn page_15() -> &'static Page
-    ensures { page_value result.now ≡ page_15 }
-{
-    &PAGE_15
+fn z02() -> &'static Page {
+    &Z02
 }
 
-static PAGE_16: Page = Page {
+static Z03: Page = Page {
     code: "Z03",
     anchor: "z03-odd-count-of-zone-numbers",
     title: "odd count of zone numbers",
     text: "Level *must*: an interpreter may refuse the font, as Ghostscript does.\n\nA bottom or a top is missing, so that all pairs after it may be shifted. Each would then span from one zone's top to the next one's bottom.\n\n    /BlueValues [-15 0 700] def\n    1: font BlueValues 0 Z03 odd count of zone numbers\n       3 numbers\n\nCure: write the missing number; a zone without height has the same number twice.",
 };
 
-#[tactic(auto, unfolding(crate::specs::Pages::page_16))]
-fn page_16() -> &'static Page
-    ensures { page_value result.now ≡ page_16 }
-{
-    &PAGE_16
+fn z03() -> &'static Page {
+    &Z03
 }
 
-static PAGE_17: Page = Page {
+static Z04: Page = Page {
     code: "Z04",
     anchor: "z04-zone-numbers-fall",
     title: "zone numbers fall",
     text: "Level *should*: heights are rounded otherwise than meant.\n\nThe numbers have to rise, within a zone and from zone to zone (equal ones don't break this rule). A zone whose top lies below its bottom\ncatches no edge.\n\n    /BlueValues [-15 0 700 690] def\n    1: font BlueValues 3 Z04 zone numbers fall\n       690 comes after 700\n\nHow much it matters: the zone is lost. Numbers that fall are also too near, so mostly Z05 names the same place, and one cure ends both lines. In\n1,454 real fonts this was so at each of 182 places.\n\nCure: sort the pairs, each with the lower number first. A negative overshoot at the baseline is `-15 0`, not `0 -15`.",
 };
 
-#[tactic(auto, unfolding(crate::specs::Pages::page_17))]
-fn page_17() -> &'static Page
-    ensures { page_value result.now ≡ page_17 }
-{
-    &PAGE_17
+fn z04() -> &'static Page {
+    &Z04
 }
 
-static PAGE_18: Page = Page {
+static Z05: Page = Page {
     code: "Z05",
     anchor: "z05-zones-too-near",
     title: "zones too near",
     text: "Level *should*: edges between the two zones may jump at small sizes.\n\nBlueFuzz widens each zone by so many units below and above. Two zones of a list have to lie D = 2 × BlueFuzz + 1 units apart; else an\nedge may belong to both, and similar glyphs get different heights.\n\n    /BlueValues [-15 0 520 530 532 545] def\n    1: font BlueValues 4 Z05 zones too near\n       from 530 to 532 is 2; 3 is needed; BlueFuzz 0.5 would do\n\n532 − 530 = 2, and D is 3.\n\nHow much it matters: where Z04 names the same place, mend that one. Elsewhere edges in the gap may jump.\n\nCure: make one zone of both, move them apart, or set `/BlueFuzz 0 def`, with which D is 1.",
 };
 
-#[tactic(auto, unfolding(crate::specs::Pages::page_18))]
-fn page_18() -> &'static Page
-    ensures { page_value result.now ≡ page_18 }
-{
-    &PAGE_18
+fn z05() -> &'static Page {
+    &Z05
 }
 
-static PAGE_19: Page = Page {
+static Z06: Page = Page {
     code: "Z06",
     anchor: "z06-zones-of-two-lists-too-near",
     title: "zones of two lists too near",
     text: "Level *should*: edges between the two zones may jump at small sizes.\n\nThe same between a zone of OtherBlues and one of BlueValues, and between a zone of FamilyOtherBlues and one of FamilyBlues. A zone from\na to b and one from c to d are too near where c − b < D and a − d < D, whichever lies below. The line is at the zone of OtherBlues or\nFamilyOtherBlues, once for each such zone.\n\n    /BlueValues [-8 0] def\n    /OtherBlues [-20 -10] def\n    1: font OtherBlues 0 Z06 zones of two lists too near\n       zone -20 to -10 lies 2 below zone -8 to 0; 3 is needed; BlueFuzz 0.5 would do\n\nc − b = −8 + 10 = 2, and D is 3. Cure: as for Z05; with `/BlueFuzz 0 def` this font breaks no rule. A zone that is in both lists is left out of\nOtherBlues, or FamilyOtherBlues.",
 };
 
-#[tactic(auto, unfolding(crate::specs::Pages::page_19))]
-fn page_19() -> &'static Page
-    ensures { page_value result.now ≡ page_19 }
-{
-    &PAGE_19
+fn z06() -> &'static Page {
+    &Z06
 }
 
-static PAGE_20: Page = Page {
+static Z07: Page = Page {
     code: "Z07",
     anchor: "z07-zone-too-high-for-bluescale",
     title: "zone too high for BlueScale",
     text: "Level *should*: at some sizes round letters stand out where they shouldn't.\n\nBlueScale says, in pixels a unit, up to which size overshoots are suppressed: all edges of a zone are then put on one line. A zone that is a whole\npixel high at that size, or more, would lose a difference that could be shown, and heights jump where suppression ends.\n\n    /BlueValues [0 26] def\n    1: font BlueValues 1 Z07 zone too high for BlueScale\n       zone 0 to 26, height 26 times BlueScale 0.039625 is 1.03025; less than 1 is needed; BlueScale 0.038461538 would do\n\n26 × 0.039625 = 1.03025; a height of 25 gives 0.990625 and is right.\n\nHow much it matters: often only a digit was rounded. Of 147 such places in 1,454 real fonts, 109 had a height that times BlueScale gave at least 1\nand less than 1.001. There nothing is seen, and a BlueScale whose last digit is one lower ends the line.\n\nCure: make the zone lower, or BlueScale less than 1 divided by the\nheight of the highest zone, here `/BlueScale .038 def` (26 × .038 = 0.988). Digits after the ninth decimal are cut: 24 × 0.0416666667 is\n24 × 0.041666666 here, 0.999999984, and below 1.",
 };
 
-#[tactic(auto, unfolding(crate::specs::Pages::page_20))]
-fn page_20() -> &'static Page
-    ensures { page_value result.now ≡ page_20 }
-{
-    &PAGE_20
+fn z07() -> &'static Page {
+    &Z07
 }
 
-static PAGE_21: Page = Page {
+static Z08: Page = Page {
     code: "Z08",
     anchor: "z08-not-one-standard-width",
     title: "not one standard width",
     text: "Level *must*: an interpreter may refuse the font, as Ghostscript does where there are two.\n\nThe standard width is a list with one number. A rasteriser takes the first and ignores the rest; without any it has none to go by.\n\n    /StdVW [84 90] def\n    1: font StdVW 0 Z08 not one standard width\n       2 numbers; 1 is needed\n\nCure: keep the most frequent width here, and write the others in StemSnapV (StemSnapH).",
 };
 
-#[tactic(auto, unfolding(crate::specs::Pages::page_21))]
-fn page_21() -> &'static Page
-    ensures { page_value result.now ≡ page_21 }
-{
-    &PAGE_21
+fn z08() -> &'static Page {
+    &Z08
 }
 
-static PAGE_22: Page = Page {
+static Z09: Page = Page {
     code: "Z09",
     anchor: "z09-too-many-stem-snaps",
     title: "too many stem snaps",
     text: "Level *should*: further widths have no effect.\n\nTwelve widths fit. Rasterisers drop the further ones or the whole list. INDEX is that of the first number too many, 12.\n\n    /StemSnapH [20 22 24 26 28 30 32 34 36 38 40 42 44] def\n    1: font StemSnapH 12 Z09 too many stem snaps\n       13 numbers, 12 at most\n\nCure: keep the twelve most frequent widths; those that differ by a unit or two are better given as one.",
 };
 
-#[tactic(auto, unfolding(crate::specs::Pages::page_22))]
-fn page_22() -> &'static Page
-    ensures { page_value result.now ≡ page_22 }
-{
-    &PAGE_22
+fn z09() -> &'static Page {
+    &Z09
 }
 
-static PAGE_23: Page = Page {
+static Z10: Page = Page {
     code: "Z10",
     anchor: "z10-stem-snaps-fall",
     title: "stem snaps fall",
     text: "Level *should*: an interpreter may leave widths out.\n\nThe widths have to rise: a rasteriser that looks for the nearest one in order finds a wrong one else. Only the first 12 are compared.\n\n    /StemSnapV [84 80] def\n    1: font StemSnapV 1 Z10 stem snaps fall\n       80 comes after 84\n\nCure: sort them.",
 };
 
-#[tactic(auto, unfolding(crate::specs::Pages::page_23))]
-fn page_23() -> &'static Page
-    ensures { page_value result.now ≡ page_23 }
-{
-    &PAGE_23
+fn z10() -> &'static Page {
+    &Z10
 }
 
-static PAGE_24: Page = Page {
+static Z11: Page = Page {
     code: "Z11",
     anchor: "z11-standard-width-not-among-the-snaps",
     title: "standard width not among the snaps",
     text: "Level *should*: stems of the usual width may be rounded otherwise than meant.\n\nStems of the standard width would be drawn with another width, as the nearest one in the list: those stems that are most frequent get uneven.\nOnly the first 12 numbers of the list count.\n\n    /StdHW [30] def\n    /StemSnapH [20 40] def\n    1: font StemSnapH 0 Z11 standard width not among the snaps\n       30 is none of the snaps; 20 is nearest\n\nCure: add the width in its place, `[20 30 40]`; or mend StdHW where it was copied from another font.",
 };
 
-#[tactic(auto, unfolding(crate::specs::Pages::page_24))]
-fn page_24() -> &'static Page
-    ensures { page_value result.now ≡ page_24 }
-{
-    &PAGE_24
+fn z11() -> &'static Page {
+    &Z11
 }
 
-static PAGE_25: Page = Page {
+static C01: Page = Page {
     code: "C01",
     anchor: "c01-shorter-than-leniv",
     title: "shorter than lenIV",
     text: "Level *must*: the glyph can't be decrypted.\n\nlenIV says how many random bytes come before each charstring, 4 where nothing else is said. A charstring that hasn't even these has\nno command, and some interpreters read past its end. Example: lenIV is 4, and `A` has three bytes.\n\n    /A 3 RD … ND\n    1: glyph A - 1 C01 shorter than lenIV\n       3 bytes, lenIV is 4\n    2: glyph A - 2 GE01 no endchar\n\nCure: compile the glyph again; where all glyphs have this line, mend lenIV (`/lenIV -1 def` says that charstrings aren't encrypted).",
 };
 
-#[tactic(auto, unfolding(crate::specs::Pages::page_25))]
-fn page_25() -> &'static Page
-    ensures { page_value result.now ≡ page_25 }
-{
-    &PAGE_25
+fn c01() -> &'static Page {
+    &C01
 }
 
-static PAGE_26: Page = Page {
+static C02: Page = Page {
     code: "C02",
     anchor: "c02-breaks-off-in-a-token",
     title: "breaks off in a token",
     text: "Level *must*: the glyph breaks off, or isn't drawn.\n\nThe last number or command isn't whole: bytes are missing, or the length before `RD` is too small. Example: the last three bytes of `A`\nare 255, which begins a number of four more bytes, and two zeros.\n\n    A: 0 500 hsbw, and the bytes 255 0 0\n    1: glyph A - 4 C02 breaks off in a token\n    2: glyph A - 5 GE01 no endchar\n\nCure: compile the glyph again, or take the font from its source again.",
 };
 
-#[tactic(auto, unfolding(crate::specs::Pages::page_26))]
-fn page_26() -> &'static Page
-    ensures { page_value result.now ≡ page_26 }
-{
-    &PAGE_26
+fn c02() -> &'static Page {
+    &C02
 }
 
-static PAGE_27: Page = Page {
+static C03: Page = Page {
     code: "C03",
     anchor: "c03-unknown-command",
     title: "unknown command",
     text: "Level *must*: interpreters stop at the command, or leave it out.\n\nThe byte is no command of Type 1 fonts. Interpreters stop at it, or draw the rest of the glyph wrongly. Commands of Type 2 charstrings, as\n`hhcurveto` (27), are unknown too, and so is each glyph's noise where lenIV is wrong.\n\n    A: 0 500 hsbw unknown 15 endchar\n    1: glyph A - 4 C03 unknown command\n       byte 15\n\nCure: write what was meant in commands of chapter 6; convert a Type 2 charstring with a tool that knows both formats.",
 };
 
-#[tactic(auto, unfolding(crate::specs::Pages::page_27))]
-fn page_27() -> &'static Page
-    ensures { page_value result.now ≡ page_27 }
-{
-    &PAGE_27
+fn c03() -> &'static Page {
+    &C03
 }
 
-static PAGE_28: Page = Page {
+static C04: Page = Page {
     code: "C04",
     anchor: "c04-too-few-arguments",
     title: "too few arguments",
     text: "Level *must*: the glyph isn't drawn, or with numbers that are left from before.\n\nWhat an interpreter takes for the missing number is open: 0, or what an earlier command left in memory. So the glyph differs from one to the\nnext. Here rlineto has one number of its two.\n\n    A: 0 500 hsbw 50 hmoveto 100 rlineto closepath endchar\n    1: glyph A - 7 C04 too few arguments\n       rlineto takes 2 numbers, 1 is on the stack\n\nCure: write the missing number, or the command that was meant, here hlineto.",
 };
 
-#[tactic(auto, unfolding(crate::specs::Pages::page_28))]
-fn page_28() -> &'static Page
-    ensures { page_value result.now ≡ page_28 }
-{
-    &PAGE_28
+fn c04() -> &'static Page {
+    &C04
 }
 
-static PAGE_29: Page = Page {
+static C05: Page = Page {
     code: "C05",
     anchor: "c05-too-many-arguments",
     title: "too many arguments",
     text: "Level *must*: some interpreters take the lowest numbers, others the topmost.\n\nNumbers are left over, so a number or a command was lost, or the wrong command is there. Interpreters disagree on which numbers they\ntake. Here hmoveto takes one.\n\n    A: 0 500 hsbw 50 20 hmoveto 100 hlineto closepath endchar\n    1: glyph A - 6 C05 too many arguments\n       hmoveto takes 1 number, 2 are on the stack\n\nCure: write the command that was meant, here rmoveto, or leave the number out. Numbers before the end of a Subr may be meant for its\ncaller and break no rule there.",
 };
 
-#[tactic(auto, unfolding(crate::specs::Pages::page_29))]
-fn page_29() -> &'static Page
-    ensures { page_value result.now ≡ page_29 }
-{
-    &PAGE_29
+fn c05() -> &'static Page {
+    &C05
 }
 
-static PAGE_30: Page = Page {
+static C06: Page = Page {
     code: "C06",
     anchor: "c06-more-than-24-numbers",
     title: "more than 24 numbers",
     text: "Level *must*: an interpreter's stack overflows, and the glyph isn't drawn.\n\nAn interpreter's stack has 24 places. A further number stops it or is lost, or overwrites memory where the interpreter doesn't guard it.\nEach number past the 24th has its line. Here rlineto is given thirteen pairs of `10 20`, as a Type 2 charstring may have them.\n\n    A: 0 500 hsbw 0 hmoveto 10 20 … 10 20 rlineto closepath endchar\n    1: glyph A - 30 C06 more than 24 numbers\n       the number 10 after 24 numbers, 24 at most\n    2: glyph A - 31 C06 more than 24 numbers\n       the number 20 after 24 numbers, 24 at most\n    3: glyph A - 32 C05 too many arguments\n       rlineto takes 2 numbers, 24 are on the stack\n\nCure: give each command its own numbers, here thirteen times `10 20 rlineto`.",
 };
 
-#[tactic(auto, unfolding(crate::specs::Pages::page_30))]
-fn page_30() -> &'static Page
-    ensures { page_value result.now ≡ page_30 }
-{
-    &PAGE_30
+fn c06() -> &'static Page {
+    &C06
 }
 
-static PAGE_31: Page = Page {
+static C07: Page = Page {
     code: "C07",
     anchor: "c07-number-out-of-range",
     title: "number out of range",
     text: "Level *must*: interpreters refuse the number, or cut it.\n\nThe arguments of a command, as the way of a move or the width of a stem, may be up to 32000 either way. Greater numbers, which the format\nwrites in five bytes, are for div. Interpreters that keep 16 bits for a number draw something else.\n\n    A: 0 500 hsbw 32001 hmoveto endchar\n    1: glyph A - 5 C07 number out of range\n       argument 1 is 32001, 32000 at most\n\nCure: mend the number. A fraction is written by div, as `5 2 div` for 2.5.",
 };
 
-#[tactic(auto, unfolding(crate::specs::Pages::page_31))]
-fn page_31() -> &'static Page
-    ensures { page_value result.now ≡ page_31 }
-{
-    &PAGE_31
+fn c07() -> &'static Page {
+    &C07
 }
 
-static PAGE_32: Page = Page {
+static C08: Page = Page {
     code: "C08",
     anchor: "c08-quotient-out-of-range",
     title: "quotient out of range",
     text: "Level *must*: interpreters refuse the quotient, or cut it.\n\ndiv is there to write fractions, and what it gives has to be in the range of C07.\n\n    A: 0 500 hsbw 64002 2 div hmoveto endchar\n    1: glyph A - 6 C08 quotient out of range\n       64002 divided by 2\n\nCure: mend the numbers. The quotient is first cut to 1/65536: one that is less than 1/65536 past 32000 is 32000 then, and in range.",
 };
 
-#[tactic(auto, unfolding(crate::specs::Pages::page_32))]
-fn page_32() -> &'static Page
-    ensures { page_value result.now ≡ page_32 }
-{
-    &PAGE_32
+fn c08() -> &'static Page {
+    &C08
 }
 
-static PAGE_33: Page = Page {
+static C09: Page = Page {
     code: "C09",
     anchor: "c09-division-by-zero",
     title: "division by zero",
     text: "Level *must*: interpreters stop there, or go on with any number.\n\nAn interpreter stops with an error, or goes on with any number.\n\n    A: 0 500 hsbw 5 0 div hmoveto endchar\n    1: glyph A - 6 C09 division by zero\n       5 divided by 0\n\nCure: mend the divisor; mostly a number was lost, or a fraction was rounded to 0.",
 };
 
-#[tactic(auto, unfolding(crate::specs::Pages::page_33))]
-fn page_33() -> &'static Page
-    ensures { page_value result.now ≡ page_33 }
-{
-    &PAGE_33
+fn c09() -> &'static Page {
+    &C09
 }
 
-static PAGE_34: Page = Page {
+static S01: Page = Page {
     code: "S01",
     anchor: "s01-no-such-subr",
     title: "no such Subr",
     text: "Level *must*: interpreters stop at the call.\n\nThe glyph lacks what the Subr was to draw or to set, and many interpreters drop the whole glyph. Subsets of fonts that leave out a Subr too\nmany have this. A Subr past the array (F14) is there, and is called. Here the font has no Subr 4.\n\n    A: 0 500 hsbw 4 callsubr endchar\n    1: glyph A - 5 S01 no such Subr\n       there is no Subr 4\n\nCure: add the Subr, or mend the number. A number that isn't whole, as by `11 2 div`, names none.",
 };
 
-#[tactic(auto, unfolding(crate::specs::Pages::page_34))]
-fn page_34() -> &'static Page
-    ensures { page_value result.now ≡ page_34 }
-{
-    &PAGE_34
+fn s01() -> &'static Page {
+    &S01
 }
 
-static PAGE_35: Page = Page {
+static S02: Page = Page {
     code: "S02",
     anchor: "s02-calls-nested-too-deep",
     title: "calls nested too deep",
     text: "Level *must*: interpreters stop at the call.\n\nTen calls may be inside one another, and interpreters have room for no more. Mostly a Subr calls itself, straight or by way of others,\nwhich no glyph can want.\n\n    Subr 5: 5 callsubr return\n    A: 0 500 hsbw 5 callsubr endchar\n    1: glyph A 5>5>5>5>5>5>5>5>5>5 25 S02 calls nested too deep\n       10 Subrs are being executed\n\nCure: mend the Subr's number; where chains of Subrs are really so long, put what the innermost ones do in their place.",
 };
 
-#[tactic(auto, unfolding(crate::specs::Pages::page_35))]
-fn page_35() -> &'static Page
-    ensures { page_value result.now ≡ page_35 }
-{
-    &PAGE_35
+fn s02() -> &'static Page {
+    &S02
 }
 
-static PAGE_36: Page = Page {
+static S03: Page = Page {
     code: "S03",
     anchor: "s03-return-outside-a-subr",
     title: "return outside a Subr",
     text: "Level *must*: interpreters stop at the command, or leave it out.\n\n`return` goes back to the charstring that called. In a glyph there is none: interpreters stop with an error, or end the glyph there.\n\n    A: 0 500 hsbw return endchar\n    1: glyph A - 4 S03 return outside a Subr\n       no Subr is being executed\n\nCure: leave it out; where the glyph was to end there, write endchar.",
 };
 
-#[tactic(auto, unfolding(crate::specs::Pages::page_36))]
-fn page_36() -> &'static Page
-    ensures { page_value result.now ≡ page_36 }
-{
-    &PAGE_36
+fn s03() -> &'static Page {
+    &S03
 }
 
-static PAGE_37: Page = Page {
+static S04: Page = Page {
     code: "S04",
     anchor: "s04-subr-without-return",
     title: "Subr without return",
     text: "Level *must*: interpreters stop at its end, or go on in the glyph.\n\nA Subr has to end with `return`, or end the glyph by endchar or seac. Without it an interpreter reads on after the Subr's bytes. The line\nis at the end of the bytes, which a trace writes as `end`; there is one for each call.\n\n    Subr 5: 100 hlineto\n    A: 0 500 hsbw 50 hmoveto 5 callsubr closepath endchar\n    1: glyph A 5 10 S04 Subr without return\n       Subr 5 ends\n\nCure: write `return` at the Subr's end; where its bytes were cut, take it from its source again.",
 };
 
-#[tactic(auto, unfolding(crate::specs::Pages::page_37))]
-fn page_37() -> &'static Page
-    ensures { page_value result.now ≡ page_37 }
-{
-    &PAGE_37
+fn s04() -> &'static Page {
+    &S04
 }
 
-static PAGE_38: Page = Page {
+static GE01: Page = Page {
     code: "GE01",
     anchor: "ge01-no-endchar",
     title: "no endchar",
     text: "Level *must*: interpreters refuse the glyph, or draw what they have.\n\nA glyph has to end with endchar, or with seac. Without it an interpreter reads on after the glyph's bytes, or doesn't fill the outline. An\nempty charstring breaks this rule too.\n\n    A: 0 500 hsbw 50 hmoveto 100 hlineto closepath\n    1: glyph A - 9 GE01 no endchar\n\nCure: write endchar at the end; where the charstring was cut, take the font from its source again.",
 };
 
-#[tactic(auto, unfolding(crate::specs::Pages::page_38))]
-fn page_38() -> &'static Page
-    ensures { page_value result.now ≡ page_38 }
-{
-    &PAGE_38
+fn ge01() -> &'static Page {
+    &GE01
 }
 
-static PAGE_39: Page = Page {
+static GE02: Page = Page {
     code: "GE02",
     anchor: "ge02-tokens-after-the-end",
     title: "tokens after the end",
     text: "Level *tidy*: an interpreter has ended the glyph before.\n\nWhat follows endchar or seac is never executed. Either it is left over, or endchar comes too early and the rest of the outline is\nmissing. In a Subr one `return` may follow, since some tools end each Subr so.\n\n    A: 0 500 hsbw endchar 50 hmoveto 100 hlineto closepath endchar\n    1: glyph A - 4 GE02 tokens after the end\n       the number 50 comes next\n\nHow much it matters: what is left over does no harm, and 19 of 1,454 real fonts have it in 690 places. An endchar that comes too early loses a part\nof the glyph: look at it once.\n\nCure: leave out what follows, as an endchar after seac; or the endchar that comes too early.",
 };
 
-#[tactic(auto, unfolding(crate::specs::Pages::page_39))]
-fn page_39() -> &'static Page
-    ensures { page_value result.now ≡ page_39 }
-{
-    &PAGE_39
+fn ge02() -> &'static Page {
+    &GE02
 }
 
-static PAGE_40: Page = Page {
+static W01: Page = Page {
     code: "W01",
     anchor: "w01-hsbw-or-sbw-not-first",
     title: "hsbw or sbw not first",
     text: "Level *must*: interpreters refuse the glyph, or place it elsewhere.\n\nWithout a width in front an interpreter can't place the glyph: it stops with an error, or sets the glyph over the next one. Numbers, a call\nof a Subr and div may come before hsbw; the first clearing command has to be hsbw or sbw.\n\n    A: 50 hmoveto 100 hlineto closepath endchar\n    1: glyph A - 2 W01 hsbw or sbw not first\n       hmoveto is there\n\nCure: write the sidebearing and the width in front, as `0 500 hsbw`; where they come later, move them there.",
 };
 
-#[tactic(auto, unfolding(crate::specs::Pages::page_40))]
-fn page_40() -> &'static Page
-    ensures { page_value result.now ≡ page_40 }
-{
-    &PAGE_40
+fn w01() -> &'static Page {
+    &W01
 }
 
-static PAGE_41: Page = Page {
+static W02: Page = Page {
     code: "W02",
     anchor: "w02-hsbw-or-sbw-again",
     title: "hsbw or sbw again",
     text: "Level *must*: interpreters draw the rest elsewhere, or refuse the glyph.\n\nA glyph has one width. A second hsbw sets the current point back as well, so that what is drawn after it moves. Where another clearing\ncommand comes before the only hsbw, there are two lines: W01 at that command, and W02 at hsbw.\n\n    A: 0 500 hsbw 0 600 hsbw endchar\n    1: glyph A - 6 W02 hsbw or sbw again\n       step 3 set the width\n\nCure: keep the one that is right; a Subr that is called twice, or for several glyphs, shouldn't have it.",
 };
 
-#[tactic(auto, unfolding(crate::specs::Pages::page_41))]
-fn page_41() -> &'static Page
-    ensures { page_value result.now ≡ page_41 }
-{
-    &PAGE_41
+fn w02() -> &'static Page {
+    &W02
 }
 
-static PAGE_42: Page = Page {
+static P01: Page = Page {
     code: "P01",
     anchor: "p01-drawing-without-a-move",
     title: "drawing without a move",
     text: "Level *must*: interpreters begin the path at different points, or refuse the glyph.\n\nEach path begins with a move (rmoveto, hmoveto, vmoveto), the one after a closepath as well. Without it interpreters stop with an error, or\njoin this path to the one before. Each line and curve of such a path has its line in the report.\n\n    A: 0 500 hsbw 100 hlineto closepath endchar\n    1: glyph A - 5 P01 drawing without a move\n       no move so far\n\nCure: write a move in front; it may be `0 hmoveto`, which stays where it is. Flex counts as one curve: its seven moves begin no path.",
 };
 
-#[tactic(auto, unfolding(crate::specs::Pages::page_42))]
-fn page_42() -> &'static Page
-    ensures { page_value result.now ≡ page_42 }
-{
-    &PAGE_42
+fn p01() -> &'static Page {
+    &P01
 }
 
-static PAGE_43: Page = Page {
+static P02: Page = Page {
     code: "P02",
     anchor: "p02-path-not-closed",
     title: "path not closed",
     text: "Level *should*: a filled path looks the same, and one that is stroked stays open.\n\nclosepath is missing. A path that is filled is closed all the same, but where outlines are stroked (PaintType 2) the corner at its beginning\nstays open. After the last path it has to be there as well, before endchar. The reason says where the path's first line or curve begins, and where\nits last one ends.\n\n    A: 0 500 hsbw 50 hmoveto 100 hlineto endchar\n    1: glyph A - 8 P02 path not closed\n       from 50 0 to 150 0\n\nCure: write closepath before the command that the line names.",
 };
 
-#[tactic(auto, unfolding(crate::specs::Pages::page_43))]
-fn page_43() -> &'static Page
-    ensures { page_value result.now ≡ page_43 }
-{
-    &PAGE_43
+fn p02() -> &'static Page {
+    &P02
 }
 
-static PAGE_44: Page = Page {
+static P03: Page = Page {
     code: "P03",
     anchor: "p03-closepath-without-a-path",
     title: "closepath without a path",
     text: "Level *tidy*: no interpreter draws anything for it.\n\nThere is nothing to close: a closepath occurs twice, or the lines and curves of the path are missing.\n\n    A: 0 500 hsbw 50 hmoveto closepath endchar\n    1: glyph A - 6 P03 closepath without a path\n       nothing is drawn so far\n\nHow much it matters: nothing different is drawn, unless lines are missing. No rule is broken more often: 13,842 times in 135 of 1,454 real fonts, and\n99 of these break no other rule, since some tools write each closepath twice.\n\nCure: leave the closepath out; or write what is missing. A move from which nothing is drawn can go as well, but the next one has to move as far as\nboth did: `50 hmoveto closepath 10 20 rmoveto` becomes `60 20 rmoveto`.",
 };
 
-#[tactic(auto, unfolding(crate::specs::Pages::page_44))]
-fn page_44() -> &'static Page
-    ensures { page_value result.now ≡ page_44 }
-{
-    &PAGE_44
+fn p03() -> &'static Page {
+    &P03
 }
 
-static PAGE_45: Page = Page {
+static H01: Page = Page {
     code: "H01",
     anchor: "h01-stem-after-drawing",
     title: "stem after drawing",
     text: "Level *should*: hints have no effect on what was drawn before.\n\nA stem holds for what is drawn after it. Stems come before the first path. What was drawn before they came has other hints than what\nfollows, and rasterisers either ignore such a stem or distort the outline. Here the stem comes after the path that it was meant for.\n\n    A: 0 500 hsbw 50 hmoveto 100 hlineto closepath 0 20 hstem endchar\n    1: glyph A - 11 H01 stem after drawing\n       drawn at step 7\n\nCure: move the stem before the first path. Where it is meant for later paths alone, put it in a Subr, and replace the hints by that.",
 };
 
-#[tactic(auto, unfolding(crate::specs::Pages::page_45))]
-fn page_45() -> &'static Page
-    ensures { page_value result.now ≡ page_45 }
-{
-    &PAGE_45
+fn h01() -> &'static Page {
+    &H01
 }
 
-static PAGE_46: Page = Page {
+static H02: Page = Page {
     code: "H02",
     anchor: "h02-stems-overlap",
     title: "stems overlap",
     text: "Level *should*: one of the stems has no effect, or both are moved against one another.\n\nOf two stems that overlap a rasteriser can't say which one an edge belongs to: it drops one, or moves an edge twice. Stems that only touch\ndon't overlap. A stem is compared with those of its own command, and with the first 96 of its direction since the glyph's beginning or the last\nhint replacement. The reason has the earliest of these that overlaps, and the step that set it, which may be the same. Here the first stem covers\n0 to 20, the second 15 to 35.\n\n    A: 0 500 hsbw 0 20 hstem 15 20 hstem endchar\n    1: glyph A - 9 H02 stems overlap\n       15 to 35 and 0 to 20, set at step 6, share 5\n\nA stem whose width is exactly -20 or -21 is compared by these numbers in edition 1, and overlaps nothing in edition 2. With\n`10 -20 hstem` for the second stem, which covers -10 to 10, the line is there in edition 1 alone.\n\nCure: put stems that overlap into hint sets of their own, by hint replacement; or leave one out. A Subr of stems that is called without a\nhint replacement adds them to those that hold. Where stems of one edge are meant, check by edition 2.",
 };
 
-#[tactic(auto, unfolding(crate::specs::Pages::page_46))]
-fn page_46() -> &'static Page
-    ensures { page_value result.now ≡ page_46 }
-{
-    &PAGE_46
+fn h02() -> &'static Page {
+    &H02
 }
 
-static PAGE_47: Page = Page {
+static H03: Page = Page {
     code: "H03",
     anchor: "h03-stem-of-zero-width",
     title: "stem of zero width",
     text: "Level *should*: the hint has no effect.\n\nSuch a stem has no stroke. Mostly a width was rounded to 0, or a number was lost: the width of `20 hstem` is 0 as well, with C04 beside it.\n\n    A: 0 500 hsbw 100 0 vstem endchar\n    1: glyph A - 6 H03 stem of zero width\n       the stem is at 100\n\nCure: write the stroke's width, or leave the stem out. Where one edge alone is to be held, give the stem a small width.",
 };
 
-#[tactic(auto, unfolding(crate::specs::Pages::page_47))]
-fn page_47() -> &'static Page
-    ensures { page_value result.now ≡ page_47 }
-{
-    &PAGE_47
+fn h03() -> &'static Page {
+    &H03
 }
 
-static PAGE_48: Page = Page {
+static H04: Page = Page {
     code: "H04",
     anchor: "h04-unequal-stem3",
     title: "unequal stem3",
     text: "Level *should*: the strokes may be drawn unequal at small sizes.\n\nhstem3 and vstem3 are for three strokes that a rasteriser keeps evenly apart, as those of `m` or of the sign `≡`: the outer two have to be\nequally wide, and the middle of the second has to be half-way between their middles. Otherwise it evens out what isn't even. The three are taken\nin the order in which they are written. Here the widths are 30, 30 and 40, and the middles 65, 165 and 270.\n\n    A: 0 500 hsbw 50 30 150 30 250 40 vstem3 endchar\n    1: glyph A - 10 H04 unequal stem3\n       widths 30 30 40, middles 65 165 270\n\nHow much it matters: often a middle was rounded. Of 195 such places in 1,454 real fonts, 169 had outer strokes of equal width and a middle at most\nhalf a unit off.\n\nCure: mend the numbers where the strokes are even, here `250 30` for the third; otherwise write three stems, each by a command of its own.",
 };
 
-#[tactic(auto, unfolding(crate::specs::Pages::page_48))]
-fn page_48() -> &'static Page
-    ensures { page_value result.now ≡ page_48 }
-{
-    &PAGE_48
+fn h04() -> &'static Page {
+    &H04
 }
 
-static PAGE_49: Page = Page {
+static R01: Page = Page {
     code: "R01",
     anchor: "r01-no-pop-after-hint-replacement",
     title: "no pop after hint replacement",
     text: "Level *must*: a number is left over, which a later command takes.\n\nOtherSubr 3 takes a Subr's number and gives back the number to be called: that one, or 3, a Subr that does nothing, where an interpreter\ncan't replace hints. Without pop the answer isn't looked at. The line is at the step after callothersubr, whatever it is.\n\n    A: 0 500 hsbw 5 1 3 callothersubr endchar\n    1: glyph A - 8 R01 no pop after hint replacement\n       endchar is there\n\nCure: write `5 1 3 callothersubr pop callsubr`, with a Subr 5 that sets the stems.",
 };
 
-#[tactic(auto, unfolding(crate::specs::Pages::page_49))]
-fn page_49() -> &'static Page
-    ensures { page_value result.now ≡ page_49 }
-{
-    &PAGE_49
+fn r01() -> &'static Page {
+    &R01
 }
 
-static PAGE_50: Page = Page {
+static R02: Page = Page {
     code: "R02",
     anchor: "r02-no-callsubr-after-hint-replacement",
     title: "no callsubr after hint replacement",
     text: "Level *must*: hints of both parts apply at once, or a number is left over.\n\npop has put the number of the Subr on the stack, and callsubr has to follow at once: some interpreters know a hint replacement by this row of\ncommands. Each step counts, so a `return` in between breaks this rule as well. Here a move takes the number.\n\n    A: 0 500 hsbw 5 1 3 callothersubr pop hmoveto endchar\n    1: glyph A - 9 R02 no callsubr after hint replacement\n       hmoveto is there\n\nCure: write callsubr right after pop. Subr 4, which many fonts have for it, is `1 3 callothersubr pop callsubr return`.",
 };
 
-#[tactic(auto, unfolding(crate::specs::Pages::page_50))]
-fn page_50() -> &'static Page
-    ensures { page_value result.now ≡ page_50 }
-{
-    &PAGE_50
+fn r02() -> &'static Page {
+    &R02
 }
 
-static PAGE_51: Page = Page {
+static X01: Page = Page {
     code: "X01",
     anchor: "x01-flex-inside-flex",
     title: "flex inside flex",
     text: "Level *must*: interpreters lose points of the curves.\n\nA flex can't hold another one. Interpreters count its points anew, or from the first start on, or stop with an error. Here the start occurs\ntwice.\n\n    A: 0 500 hsbw 0 hmoveto 0 1 callothersubr 0 1 callothersubr\n       1 hmoveto 0 2 callothersubr … (seven times) 50 7 0 3 0 callothersubr pop pop setcurrentpoint closepath endchar\n    1: glyph A - 11 X01 flex inside flex\n       the flex began at step 8\n\nCure: leave one start out; where the end of the flex before it is missing, write that.",
 };
 
-#[tactic(auto, unfolding(crate::specs::Pages::page_51))]
-fn page_51() -> &'static Page
-    ensures { page_value result.now ≡ page_51 }
-{
-    &PAGE_51
+fn x01() -> &'static Page {
+    &X01
 }
 
-static PAGE_52: Page = Page {
+static X02: Page = Page {
     code: "X02",
     anchor: "x02-flex-call-outside-flex",
     title: "flex call outside flex",
     text: "Level *must*: interpreters refuse the glyph, or move the point.\n\nA point or an end belongs to no flex: the start is missing, or the end occurs twice. Interpreters take points that were left in memory, or\nstop with an error.\n\n    A: 0 500 hsbw 0 2 callothersubr endchar\n    1: glyph A - 6 X02 flex call outside flex\n       OtherSubr 2 with no arguments, a point of a flex\n\nCure: write the start before the first of the seven moves; or leave the call out.",
 };
 
-#[tactic(auto, unfolding(crate::specs::Pages::page_52))]
-fn page_52() -> &'static Page
-    ensures { page_value result.now ≡ page_52 }
-{
-    &PAGE_52
+fn x02() -> &'static Page {
+    &X02
 }
 
-static PAGE_53: Page = Page {
+static X03: Page = Page {
     code: "X03",
     anchor: "x03-command-inside-flex",
     title: "command inside flex",
     text: "Level *must*: interpreters lose points of the curves, or draw lines between them.\n\nBetween start and end only moves are allowed, with their points. What is drawn there is drawn before the flex, from wherever its moves have\nled, and a stem there is ignored or stops an interpreter. After a start whose end is missing each further clearing command but\na move has this line, endchar too. Here a line comes before the first move.\n\n    A: 0 500 hsbw 0 hmoveto 0 1 callothersubr 5 vlineto\n       1 hmoveto 0 2 callothersubr … (seven times) 50 7 5 3 0 callothersubr pop pop setcurrentpoint closepath endchar\n    1: glyph A - 10 X03 command inside flex\n       the flex began at step 8\n\nCure: move the command before the start or after the end; what belongs to the flex is written as moves.",
 };
 
-#[tactic(auto, unfolding(crate::specs::Pages::page_53))]
-fn page_53() -> &'static Page
-    ensures { page_value result.now ≡ page_53 }
-{
-    &PAGE_53
+fn x03() -> &'static Page {
+    &X03
 }
 
-static PAGE_54: Page = Page {
+static X04: Page = Page {
     code: "X04",
     anchor: "x04-flex-points-are-not-seven-pairs",
     title: "flex points are not seven pairs",
     text: "Level *must*: interpreters draw other curves, or refuse the glyph.\n\nEach point comes after one move, and there are seven of both: a reference point, and six points of two curves. Interpreters draw from what\nthey have counted, so one too many or too few spoils the rest of the glyph. A move without its point has a line at each later point and at\nthe end. Here there are six of both.\n\n    A: 0 500 hsbw 0 hmoveto 0 1 callothersubr\n       1 hmoveto 0 2 callothersubr … (six times) 50 6 0 3 0 callothersubr pop pop setcurrentpoint closepath endchar\n    1: glyph A - 44 X04 flex points are not seven pairs\n       6 moves and 6 points; 7 of each are needed\n\nCure: write a point after each move, and seven of both; a move that leads nowhere is `0 hmoveto`.",
 };
 
-#[tactic(auto, unfolding(crate::specs::Pages::page_54))]
-fn page_54() -> &'static Page
-    ensures { page_value result.now ≡ page_54 }
-{
-    &PAGE_54
+fn x04() -> &'static Page {
+    &X04
 }
 
-static PAGE_55: Page = Page {
+static X05: Page = Page {
     code: "X05",
     anchor: "x05-flex-ends-elsewhere",
     title: "flex ends elsewhere",
     text: "Level *must*: what comes after the curves is drawn elsewhere by some interpreters.\n\nThe end names the point where the flex ends, in the glyph's own coordinates, as hsbw and all moves, lines and curves before have led there.\nAn interpreter that draws the flex as a line takes this point, another one adds up the moves: if they differ, what follows is shifted, on one\ndevice and not on another. Here the seven moves lead to 7 0, and the end says 8 0.\n\n    A: 0 500 hsbw 0 hmoveto 0 1 callothersubr\n       1 hmoveto 0 2 callothersubr … (seven times) 50 8 0 3 0 callothersubr pop pop setcurrentpoint closepath endchar\n    1: glyph A - 49 X05 flex ends elsewhere\n       the pen is at 7 0, the end names 8 0\n\nCure: write the point where the reason says that the pen is, here `50 7 0`. The picture of the glyph, `t1draw A font.pfb`, says so too. Later flexes\nof the glyph were mostly counted on from the wrong point: their ends have this line then, and are mended in the same way. If with the new points the\npath no longer ends where it began, the old point was right: mend a move of the flex.\n\nhsbw begins at the sidebearing and 0, and closepath leaves the current point where it is. Where moves have fractions, by div, the point has to be\ntheir exact sum. To find the point by hand, begin with hsbw's first number and 0 (sbw's first two), and go through the glyph's trace,\n`t1check --trace A font.pfb`: rmoveto and rlineto add both numbers, hmoveto and hlineto the first to x, vmoveto and vlineto the first to y, rrcurveto\nits three pairs; vhcurveto adds its second and fourth number to x and its first and third to y, hvcurveto its first and second to x and its third and\nfourth to y. After the end of a flex count on from the point that it names, which setcurrentpoint sets.",
 };
 
-#[tactic(auto, unfolding(crate::specs::Pages::page_55))]
-fn page_55() -> &'static Page
-    ensures { page_value result.now ≡ page_55 }
-{
-    &PAGE_55
+fn x05() -> &'static Page {
+    &X05
 }
 
-static PAGE_56: Page = Page {
+static X06: Page = Page {
     code: "X06",
     anchor: "x06-setcurrentpoint-outside-flex",
     title: "setcurrentpoint outside flex",
     text: "Level *must*: what comes after the curves is drawn elsewhere.\n\nsetcurrentpoint says where an OtherSubr has led to; it moves nothing by itself. It has its place after the end of a flex and\nthe two pops that fetch the point, and nowhere else.\n\n    A: 0 500 hsbw 50 0 setcurrentpoint endchar\n    1: glyph A - 6 X06 setcurrentpoint outside flex\n\nCure: write a move where one is meant. After the end of a flex write `pop pop setcurrentpoint`, with nothing between.",
 };
 
-#[tactic(auto, unfolding(crate::specs::Pages::page_56))]
-fn page_56() -> &'static Page
-    ensures { page_value result.now ≡ page_56 }
-{
-    &PAGE_56
+fn x06() -> &'static Page {
+    &X06
 }
 
-static PAGE_57: Page = Page {
+static O01: Page = Page {
     code: "O01",
     anchor: "o01-unknown-othersubr",
     title: "unknown OtherSubr",
     text: "Level *must*: interpreters do different things with the call.\n\nAn interpreter without PostScript doesn't know what the number means. It leaves the arguments for pop, or stops with an error, and the glyph\ndiffers between screen and paper. OtherSubrs 14 to 18, of multiple master fonts, are unknown here too.\n\n    A: 0 500 hsbw 0 4 callothersubr endchar\n    1: glyph A - 6 O01 unknown OtherSubr\n       OtherSubr 4 with no arguments\n\nCure: write what the OtherSubr does in commands of chapter 6; or mend the number.",
 };
 
-#[tactic(auto, unfolding(crate::specs::Pages::page_57))]
-fn page_57() -> &'static Page
-    ensures { page_value result.now ≡ page_57 }
-{
-    &PAGE_57
+fn o01() -> &'static Page {
+    &O01
 }
 
-static PAGE_58: Page = Page {
+static O02: Page = Page {
     code: "O02",
     anchor: "o02-bad-othersubr-count",
     title: "bad OtherSubr count",
     text: "Level *must*: interpreters stop at the call.\n\nThe number below the OtherSubr's says how many arguments it takes. If there aren't so many, an interpreter takes what an earlier command left\nin memory, or fails. Here the Subr's number is missing before a hint replacement.\n\n    A: 0 500 hsbw 1 3 callothersubr endchar\n    1: glyph A - 6 O02 bad OtherSubr count\n       the count is 1, none is there\n\nCure: write the arguments, then their count, then the number of the OtherSubr.",
 };
 
-#[tactic(auto, unfolding(crate::specs::Pages::page_58))]
-fn page_58() -> &'static Page
-    ensures { page_value result.now ≡ page_58 }
-{
-    &PAGE_58
+fn o02() -> &'static Page {
+    &O02
 }
 
-static PAGE_59: Page = Page {
+static O03: Page = Page {
     code: "O03",
     anchor: "o03-wrong-count-for-this-othersubr",
     title: "wrong count for this OtherSubr",
     text: "Level *must*: interpreters take other numbers, or stop at the call.\n\nOtherSubr 0 takes three arguments, 1 and 2 take none, and 3 takes one. With another count it isn't executed as what it is: here it ends no\nflex.\n\n    A: 0 500 hsbw 0 0 callothersubr endchar\n    1: glyph A - 6 O03 wrong count for this OtherSubr\n       OtherSubr 0 with no arguments; it takes 3\n\nCure: write the count that belongs to the OtherSubr, and so many arguments.",
 };
 
-#[tactic(auto, unfolding(crate::specs::Pages::page_59))]
-fn page_59() -> &'static Page
-    ensures { page_value result.now ≡ page_59 }
-{
-    &PAGE_59
+fn o03() -> &'static Page {
+    &O03
 }
 
-static PAGE_60: Page = Page {
+static O04: Page = Page {
     code: "O04",
     anchor: "o04-pop-of-nothing",
     title: "pop of nothing",
     text: "Level *must*: interpreters stop there, or go on with any number.\n\npop fetches a result of an OtherSubr. Where none waits, an interpreter fetches what was left there before, or fails. The end of a flex leaves\ntwo results, a hint replacement one, the start and the points none.\n\n    A: 0 500 hsbw pop endchar\n    1: glyph A - 4 O04 pop of nothing\n\nCure: leave the pop out, or write the callothersubr before it.",
 };
 
-#[tactic(auto, unfolding(crate::specs::Pages::page_60))]
-fn page_60() -> &'static Page
-    ensures { page_value result.now ≡ page_60 }
-{
-    &PAGE_60
+fn o04() -> &'static Page {
+    &O04
 }
 
-static PAGE_61: Page = Page {
+static K01: Page = Page {
     code: "K01",
     anchor: "k01-seac-code-is-not-0-to-255",
     title: "seac code is not 0 to 255",
     text: "Level *must*: interpreters refuse the glyph.\n\nAn interpreter looks a code up in a table of 256 names. Past its end it finds nothing, or whatever is in memory. The code of a fraction is\nnone.\n\n    C: 0 500 hsbw 7 0 0 65 256 seac\n    1: glyph C - 9 K01 seac code is not 0 to 255\n       the accent's code is 256\n\nCure: write the code that the component's name has in StandardEncoding.",
 };
 
-#[tactic(auto, unfolding(crate::specs::Pages::page_61))]
-fn page_61() -> &'static Page
-    ensures { page_value result.now ≡ page_61 }
-{
-    &PAGE_61
+fn k01() -> &'static Page {
+    &K01
 }
 
-static PAGE_62: Page = Page {
+static K02: Page = Page {
     code: "K02",
     anchor: "k02-seac-code-not-in-standardencoding",
     title: "seac code not in StandardEncoding",
     text: "Level *must*: a part of the glyph is missing.\n\nThere is no component: the accent is left out, or the interpreter stops with an error. Mostly the code is of another table, as the font's own\nEncoding. Here 146 is acute in ISOLatin1Encoding; in StandardEncoding that is 194. A code that is missing counts as 0, which has no name.\n\n    C: 0 500 hsbw 7 0 0 65 146 seac\n    1: glyph C - 9 K02 seac code not in StandardEncoding\n       the accent's code 146 has no name\n\nCure: write the code of StandardEncoding. A character whose parts aren't both there can't be made by seac: draw it as one outline.",
 };
 
-#[tactic(auto, unfolding(crate::specs::Pages::page_62))]
-fn page_62() -> &'static Page
-    ensures { page_value result.now ≡ page_62 }
-{
-    &PAGE_62
+fn k02() -> &'static Page {
+    &K02
 }
 
-static PAGE_63: Page = Page {
+static K03: Page = Page {
     code: "K03",
     anchor: "k03-seac-component-missing",
     title: "seac component missing",
     text: "Level *must*: a part of the glyph is missing, or interpreters refuse it.\n\nStandardEncoding names the component, but the font has no glyph of that name: the character is drawn without it, or not at all. Mostly a tool\nthat took glyphs out of the font looked at the characters in use, and not at their parts. Here acute isn't in the font.\n\n    C: 0 500 hsbw 7 0 0 65 194 seac\n    1: glyph C - 9 K03 seac component missing\n       the accent's code 194 is acute, which is no glyph\n\nCure: put the glyph back; or draw the character as one outline.",
 };
 
-#[tactic(auto, unfolding(crate::specs::Pages::page_63))]
-fn page_63() -> &'static Page
-    ensures { page_value result.now ≡ page_63 }
-{
-    &PAGE_63
+fn k03() -> &'static Page {
+    &K03
 }
 
-static PAGE_64: Page = Page {
+static K04: Page = Page {
     code: "K04",
     anchor: "k04-seac-of-a-seac",
     title: "seac of a seac",
     text: "Level *must*: interpreters refuse the glyph, or draw a part of it.\n\nA component must be drawn by commands of its own. Many interpreters can't execute a seac inside of another, and stop, or draw the wrong part.\nA glyph that names itself has this line too. A seac after the step limit of the edition counts as none. Here the accent is an accented character\nitself.\n\n    C: 0 500 hsbw 7 0 0 65 66 seac\n    D: 0 500 hsbw 0 0 0 65 67 seac\n    1: glyph D - 9 K04 seac of a seac\n       the base's code 65 is A and the accent's code 67 is C\n\nCure: name the parts that have an outline; if there are three, draw the character as one outline.",
 };
 
-#[tactic(auto, unfolding(crate::specs::Pages::page_64))]
-fn page_64() -> &'static Page
-    ensures { page_value result.now ≡ page_64 }
-{
-    &PAGE_64
+fn k04() -> &'static Page {
+    &K04
 }
 
-static PAGE_65: Page = Page {
+static K05: Page = Page {
     code: "K05",
     anchor: "k05-accent-sidebearing-differs",
     title: "accent sidebearing differs",
     text: "Level *must*: interpreters put the accent at different places.\n\nThe standard wants ASB to be the sidebearing that the accent's own hsbw or sbw says. Some interpreters place the accent by ASB and others by the\naccent's own. If they differ, the accent is further left or right on one device than on another. The base's sidebearing is nothing to this rule, nor\nis one that the accent sets after the step limit of the edition.\n\n    C: 0 500 hsbw 9 0 0 65 66 seac\n    1: glyph C - 9 K05 accent sidebearing differs\n       seac says 9, the accent's sidebearing is 7\n\nCure: write the accent's sidebearing for ASB, here 7. If it was changed by editing the accent, mend each seac that names it, and ADX with it\nwhere the accent should stay in its place.",
 };
 
-#[tactic(auto, unfolding(crate::specs::Pages::page_65))]
-fn page_65() -> &'static Page
-    ensures { page_value result.now ≡ page_65 }
-{
-    &PAGE_65
+fn k05() -> &'static Page {
+    &K05
 }
 
-static PAGE_66: Page = Page {
+static K06: Page = Page {
     code: "K06",
     anchor: "k06-seac-beside-other-commands",
     title: "seac beside other commands",
     text: "Level *must*: interpreters draw the other commands, or leave them out.\n\nseac is the whole of its glyph: only the width comes before it, by hsbw or sbw. Outlines and stems come from the components; what the\nglyph draws besides is drawn or dropped, and a stem of it is a hint for an outline that isn't its own. A move counts, in a flex too.\n\n    C: 0 500 hsbw 10 20 hstem 7 0 0 65 66 seac\n    1: glyph C - 12 K06 seac beside other commands\n       an outline or a stem at step 6\n\nCure: leave the other commands out; or draw the character as one outline.",
 };
 
-#[tactic(auto, unfolding(crate::specs::Pages::page_66))]
-fn page_66() -> &'static Page
-    ensures { page_value result.now ≡ page_66 }
-{
-    &PAGE_66
+fn k06() -> &'static Page {
+    &K06
 }
 
-static PAGE_67: Page = Page {
+static K07: Page = Page {
     code: "K07",
     anchor: "k07-seac-component-without-sidebearing",
     title: "seac component without sidebearing",
     text: "Level *must*: interpreters put the part at different places, or refuse the glyph.\n\nA component wants its hsbw or sbw like every glyph: seac places the accent by its sidebearing, and where none is set the place is open. The\ncomponent has a line as well, mostly W01. hsbw or sbw after the step limit of the edition counts as none. Here `B` is `endchar` alone.\n\n    C: 0 500 hsbw 7 0 0 65 66 seac\n    1: glyph B - 1 W01 hsbw or sbw not first\n       endchar is there\n    2: glyph C - 9 K07 seac component without sidebearing\n       the base's code 65 is A and the accent's code 66 is B\n\nCure: write hsbw or sbw first in the component.",
 };
 
-#[tactic(auto, unfolding(crate::specs::Pages::page_67))]
-fn page_67() -> &'static Page
-    ensures { page_value result.now ≡ page_67 }
-{
-    &PAGE_67
+fn k07() -> &'static Page {
+    &K07
 }
 
-static PAGE_68: Page = Page {
+static L01: Page = Page {
     code: "L01",
     anchor: "l01-step-limit",
     title: "step limit",
     text: "Level *must*: the glyph isn't checked further, and an interpreter may take as long.\n\nThe first 100,000 steps of a glyph are checked, or 1,000,000 in edition 2, and then it is left: what comes after them\nisn't known. Real glyphs have some hundreds; but a few Subrs that call one another make a charstring that keeps a printer busy for a long\ntime. STEP and PATH are those of the first step that isn't checked. Here Subr 1 is ten times dotsection, and return; Subr 2 is ten times\n`1 callsubr`, and return; Subr 3 calls Subr 2 in this way, Subr 4 calls Subr 3, and Subr 5 calls Subr 4.\n\n    Subr 5: 4 callsubr … 4 callsubr return\n    A: 0 500 hsbw 5 callsubr endchar\n    1: glyph A 5>4>3>2>1 100001 L01 step limit\n       more than 100000 steps\n\n`A` has 133,337 steps. In edition 2 it is clean; there the line of a glyph of more than 1,000,000 has the step 1000001.\n\nCure: `--trace A` shows which Subrs are executed again and again; mend their numbers. Where so many steps are meant, check by edition 2, or waive\nthe rule for this glyph.",
 };
 
-#[tactic(auto, unfolding(crate::specs::Pages::page_68))]
-fn page_68() -> &'static Page
-    ensures { page_value result.now ≡ page_68 }
-{
-    &PAGE_68
+fn l01() -> &'static Page {
+    &L01
 }
 
-static PAGE_69: Page = Page {
+static U01: Page = Page {
     code: "U01",
     anchor: "u01-waiver-not-used",
     title: "waiver not used",
     text: "Level *should*: a waiver says more than the font needs, so a fault that comes back is hidden.\n\nThe waiver matches nothing: the font has no glyph of that name, or the glyph doesn't break that rule. The fault was mended, or the glyph was\nrenamed or taken out. Or the name or the code is misspelled, also by a byte order mark before the first name, which isn't\nseen. Or the edition is the other one. So no waiver stays in the file that might later hide a fault that nobody means. The whole font decides, also\nwhere `--after` and `--max` leave lines out. A waiver that occurs twice in the file has one line, by its first place. Here the file has the two lines\n`A GE01` and `A C05`.\n\n    A: 0 500 hsbw\n    1: waiver A C05 U01 waiver not used\n       no step of the glyph breaks this rule\n\nCure: take the line out of the file, each time that it occurs there, or mend its name or its code.",
 };
 
-#[tactic(auto, unfolding(crate::specs::Pages::page_69))]
-fn page_69() -> &'static Page
-    ensures { page_value result.now ≡ page_69 }
-{
-    &PAGE_69
+fn u01() -> &'static Page {
+    &U01
 }
 
-static PAGE_70: Page = Page {
+static E01: Page = Page {
     code: "E01",
     anchor: "e01-not-a-pfa-or-pfb",
     title: "not a PFA or PFB",
     text: "The file begins neither with byte 128 nor with `%!`; an empty file too.\n\nPrinters and installers won't take the file as a Type 1 font either.\n\nExample: a font in another format, as TrueType or OpenType, or Type1C, which PDFs have. OpenType fonts with cubic outlines (CFF) and Type1C have\nmuch in common with Type 1, and aren't Type 1 fonts.\n\nCure: convert the font to Type 1, or name the right file. `cfftot1`, of Debian's lcdf-typetools, converts CFF. Recipes\nsay how to check the fonts of a PDF.",
 };
 
-#[tactic(auto, unfolding(crate::specs::Pages::page_70))]
-fn page_70() -> &'static Page
-    ensures { page_value result.now ≡ page_70 }
-{
-    &PAGE_70
+fn e01() -> &'static Page {
+    &E01
 }
 
-static PAGE_71: Page = Page {
+static E02: Page = Page {
     code: "E02",
     anchor: "e02-bad-segment-header",
     title: "bad segment header",
     text: "Where a segment should begin there is another byte than 128, or 128 and a type that is none of 1, 2, 3.\n\nThe file is damaged, often by a transfer that changed line ends, or it was cut.\n\nExample: `80 04`; `80 01 00 00 00 00 41`.\n\nCure: take it from its source again, by a binary transfer.",
 };
 
-#[tactic(auto, unfolding(crate::specs::Pages::page_71))]
-fn page_71() -> &'static Page
-    ensures { page_value result.now ≡ page_71 }
-{
-    &PAGE_71
+fn e02() -> &'static Page {
+    &E02
 }
 
-static PAGE_72: Page = Page {
+static E03: Page = Page {
     code: "E03",
     anchor: "e03-segment-cut-short",
     title: "segment cut short",
     text: "The file ends after a 128, inside a segment's length, or before the end of its bytes.\n\nThe file is damaged, often by a transfer that changed line ends, or it was cut.\n\nExample: `80 01 05 00 00 00 25 21 0A 0A`.\n\nCure: take it from its source again, by a binary transfer.",
 };
 
-#[tactic(auto, unfolding(crate::specs::Pages::page_72))]
-fn page_72() -> &'static Page
-    ensures { page_value result.now ≡ page_72 }
-{
-    &PAGE_72
+fn e03() -> &'static Page {
+    &E03
 }
 
-static PAGE_73: Page = Page {
+static E04: Page = Page {
     code: "E04",
     anchor: "e04-no-eexec",
     title: "no eexec",
     text: "The segments' bytes, joined, don't begin with `%!`; or the clear text ends without the word `eexec`.\n\nThere is no encrypted part, so no Private dictionary and no glyphs; or the first segment isn't the clear text. `eexec` in a comment, a\nstring, a procedure or an array doesn't count, nor as a key's value.\n\nExample: a file that ends before `currentfile eexec`.\n\nCure: take the font from its source again; a Type 3 or bitmap font can't be checked.",
 };
 
-#[tactic(auto, unfolding(crate::specs::Pages::page_73))]
-fn page_73() -> &'static Page
-    ensures { page_value result.now ≡ page_73 }
-{
-    &PAGE_73
+fn e04() -> &'static Page {
+    &E04
 }
 
-static PAGE_74: Page = Page {
+static E05: Page = Page {
     code: "E05",
     anchor: "e05-file-too-large",
     title: "file too large",
     text: "The file has more than 16,777,216 bytes.\n\nA Type 1 font of this size doesn't exist in practice.\n\nExample: a disk image, a collection of fonts.\n\nCure: name the right file.",
 };
 
-#[tactic(auto, unfolding(crate::specs::Pages::page_74))]
-fn page_74() -> &'static Page
-    ensures { page_value result.now ≡ page_74 }
-{
-    &PAGE_74
+fn e05() -> &'static Page {
+    &E05
 }
 
-static PAGE_75: Page = Page {
+static E06: Page = Page {
     code: "E06",
     anchor: "e06-encrypted-part-too-short",
     title: "encrypted part too short",
     text: "Fewer than four encrypted bytes stand behind `eexec`.\n\nThe file was cut, or an editor changed the encrypted bytes.\n\nExample: a file that ends behind `currentfile eexec`.\n\nCure: take it from its source again.",
 };
 
-#[tactic(auto, unfolding(crate::specs::Pages::page_75))]
-fn page_75() -> &'static Page
-    ensures { page_value result.now ≡ page_75 }
-{
-    &PAGE_75
+fn e06() -> &'static Page {
+    &E06
 }
 
-static PAGE_76: Page = Page {
+static E07: Page = Page {
     code: "E07",
     anchor: "e07-unclosed-or-too-deeply-nested-token",
     title: "unclosed or too deeply nested token",
     text: "A string, procedure or array isn't closed, or procedures and arrays are nested more than 32 deep (brackets inside a procedure don't count).\n\nA bracket is missing or one too many; an interpreter reads the rest of the font as part of this token.\n\nExample: `/Weight (Medium` with no `)` to follow; 33 times `[`.\n\nCure: close the token; in a string write a single parenthesis as `\\(` or `\\)`.",
 };
 
-#[tactic(auto, unfolding(crate::specs::Pages::page_76))]
-fn page_76() -> &'static Page
-    ensures { page_value result.now ≡ page_76 }
-{
-    &PAGE_76
+fn e07() -> &'static Page {
+    &E07
 }
 
-static PAGE_77: Page = Page {
+static E08: Page = Page {
     code: "E08",
     anchor: "e08-subrs-malformed",
     title: "Subrs malformed",
     text: "After `/Subrs` there is neither an empty array nor a whole number of 0 or more and `array`. Or an entry isn't `dup`, number, length, a word,\nand the bytes. Or the text ends inside.\n\nGlyphs call Subrs for flex and hint replacement. A length that isn't that of the bytes makes all that follows unreadable.\n\nExample: `/Subrs 4 def`; `dup -1 9 RD`.\n\nCure: write the number of Subrs and `array`, and each entry's true length and one blank after `RD`; let an assembler write these.",
 };
 
-#[tactic(auto, unfolding(crate::specs::Pages::page_77))]
-fn page_77() -> &'static Page
-    ensures { page_value result.now ≡ page_77 }
-{
-    &PAGE_77
+fn e08() -> &'static Page {
+    &E08
 }
 
-static PAGE_78: Page = Page {
+static E09: Page = Page {
     code: "E09",
     anchor: "e09-charstrings-malformed-or-absent",
     title: "CharStrings malformed or absent",
     text: "After `/CharStrings` there is no whole number of 0 or more with `dict dup begin`. Or an entry isn't a name, length, a word, and the bytes. Or\nthe text ends before the `end` of the glyphs.\n\nNo glyph can be drawn, or not all.\n\nExample: `/CharStrings 4 array`; a file cut between two glyphs.\n\nCure: write the number of glyphs and `dict dup begin`, and each entry's true length and one blank after `RD`; let an assembler write these.\nWhere the file was cut, take it from its source again.",
 };
 
-#[tactic(auto, unfolding(crate::specs::Pages::page_78))]
-fn page_78() -> &'static Page
-    ensures { page_value result.now ≡ page_78 }
-{
-    &PAGE_78
+fn e09() -> &'static Page {
+    &E09
 }
 
-static PAGE_79: Page = Page {
+static E10: Page = Page {
     code: "E10",
     anchor: "e10-leniv-out-of-range",
     title: "lenIV out of range",
     text: "A value of `/lenIV` is no whole number from -1 to 64, or the text ends after the key.\n\nlenIV says how many random bytes come before each charstring; if it is wrong, each glyph is noise. 4 is the usual value, -1 says that\ncharstrings aren't encrypted.\n\nExample: `/lenIV 65 def`; `/lenIV [4] def`.\n\nCure: `/lenIV 4 def`, or no such entry, with four such bytes before each charstring.",
 };
 
-#[tactic(auto, unfolding(crate::specs::Pages::page_79))]
-fn page_79() -> &'static Page
-    ensures { page_value result.now ≡ page_79 }
-{
-    &PAGE_79
+fn e10() -> &'static Page {
+    &E10
 }
 
-static PAGE_80: Page = Page {
+static E11: Page = Page {
     code: "E11",
     anchor: "e11-count-past-its-limit",
     title: "count past its limit",
     text: "The number after `/Subrs` or `/CharStrings`, a charstring's length, or the number of different glyphs is past 65,535; or a Subr's number is\npast 65,534.\n\nNo real font comes near; mostly a number was damaged.\n\nExample: `/Subrs 65536 array`.\n\nCure: mend the number, or split the font.",
 };
 
-#[tactic(auto, unfolding(crate::specs::Pages::page_80))]
-fn page_80() -> &'static Page
-    ensures { page_value result.now ≡ page_80 }
-{
-    &PAGE_80
+fn e11() -> &'static Page {
+    &E11
 }
 
-static PAGE_81: Page = Page {
+static E12: Page = Page {
     code: "E12",
     anchor: "e12-second-subrs",
     title: "second Subrs",
     text: "The name `/Subrs` occurs a second time before the glyphs, other than as a key's value.\n\nA hybrid font has Subrs for low and for high resolution, so each charstring has two meanings.\n\nExample: `/Subrs 6 array … ND` and later `/Subrs 0 array ND`.\n\nCure: check each of both as a font of its own, with one set of Subrs.",
 };
 
-#[tactic(auto, unfolding(crate::specs::Pages::page_81))]
-fn page_81() -> &'static Page
-    ensures { page_value result.now ≡ page_81 }
-{
-    &PAGE_81
+fn e12() -> &'static Page {
+    &E12
 }
 
-static PAGE_82: Page = Page {
+static E13: Page = Page {
     code: "E13",
     anchor: "e13-multiple-master-font",
     title: "multiple master font",
     text: "The name `/WeightVector` is in the clear text, outside a custom Encoding and other than as a key's value.\n\nA multiple master font has several designs in one; its charstrings mix their numbers.\n\nExample: `/WeightVector [0.5 0.5] def`.\n\nCure: make a font of one instance, and check that.",
 };
 
-#[tactic(auto, unfolding(crate::specs::Pages::page_82))]
-fn page_82() -> &'static Page
-    ensures { page_value result.now ≡ page_82 }
-{
-    &PAGE_82
+fn e13() -> &'static Page {
+    &E13
 }
 
-static PAGE_83: Page = Page {
+static E14: Page = Page {
     code: "E14",
     anchor: "e14-waivers-malformed",
     title: "waivers malformed",
     text: "A line of the file of waivers isn't what a waiver has to be. It has to be a name, one blank (byte 32) and a code, and nothing else. The\nname has the bytes that a name in a font can have: all but zero, tab, line feed, form feed, carriage return, the blank, and `( ) < > [ ] { } / %`.\nThe code is that of a rule from C01 to L01, in capital letters. Each of these lines is malformed:\n\n    A                    no code\n    A C05 H02            two codes\n    A  C05               two blanks; so is a blank at the end, or a tab\n    /A C05               a slash\n    A F01                a rule on the font\n    A U01                the rule on waivers\n    A C10                no rule\n    % meant so           a comment\n\nThe one line on standard error is `refused: E14 waivers malformed`. This command prints the malformed lines of the file `font.waivers`, and nothing\nelse:\n\n    LC_ALL=C awk '{ line = $0; sub(/\\r$/, \"\", line) }\n        line != \"\" && line !~ (\"^[\\001-\\010\\013\\016-\\037!-$&-\\047*-.0-;=?-Z\\\\\\\\^-z|~-\\377]* \" \\\n            \"(C0[1-9]|GE0[12]|[RW]0[12]|P0[1-3]|[HOS]0[1-4]|X0[1-6]|K0[1-7]|L01)$\")' <font.waivers\n\nWith `{ print NR \": \" $0 }` before the last `'` it prints their numbers as well. Some awks, as busybox's, end a line at a zero byte. For these\nwrite `LC_ALL=C tr '\\000' '(' <font.waivers |` at the beginning and nothing after the last `'`; then such a byte is shown as `(`.\n\nOne such line is enough, since it can't be said what it was to waive.\n\nCure: mend these lines, or take them out.",
 };
 
-#[tactic(auto, unfolding(crate::specs::Pages::page_83))]
-fn page_83() -> &'static Page
-    ensures { page_value result.now ≡ page_83 }
-{
-    &PAGE_83
+fn e14() -> &'static Page {
+    &E14
 }
 
-static PAGE_84: Page = Page {
+static E15: Page = Page {
     code: "E15",
     anchor: "e15-waivers-past-their-limit",
     title: "waivers past their limit",
     text: "The file of waivers has more than 1,048,576 bytes, so no line of it is looked at. No font needs so many waivers; mostly another file was\nnamed. The one line on standard error is `refused: E15 waivers past their limit`. Example: a file of 1,048,577 line feeds; with 1,048,576 of them it\nis read, and waives nothing.\n\nCure: name the right file. A waiver that occurs more than once can be left out but for one; `LC_ALL=C sort -u` does that.",
 };
 
-#[tactic(auto, unfolding(crate::specs::Pages::page_84))]
-fn page_84() -> &'static Page
-    ensures { page_value result.now ≡ page_84 }
-{
-    &PAGE_84
+fn e15() -> &'static Page {
+    &E15
 }
 
-/// All pages, in the order of docs/RULES.md.
-#[tactic(auto, unfolding(crate::specs::Pages::pages))]
-pub(crate) fn pages() -> [&'static Page; COUNT]
-    ensures { map (λ page. page_value page.now) result ≡ pages }
-{
+/// All pages, in the order of docs/RULES.md. A page is borrowed by a function of its own: of a static array of all the borrow
+/// checker's part stops at its limit.
+pub fn pages() -> [Page; 85] {
     [
-        page_0(),
-        page_1(),
-        page_2(),
-        page_3(),
-        page_4(),
-        page_5(),
-        page_6(),
-        page_7(),
-        page_8(),
-        page_9(),
-        page_10(),
-        page_11(),
-        page_12(),
-        page_13(),
-        page_14(),
-        page_15(),
-        page_16(),
-        page_17(),
-        page_18(),
-        page_19(),
-        page_20(),
-        page_21(),
-        page_22(),
-        page_23(),
-        page_24(),
-        page_25(),
-        page_26(),
-        page_27(),
-        page_28(),
-        page_29(),
-        page_30(),
-        page_31(),
-        page_32(),
-        page_33(),
-        page_34(),
-        page_35(),
-        page_36(),
-        page_37(),
-        page_38(),
-        page_39(),
-        page_40(),
-        page_41(),
-        page_42(),
-        page_43(),
-        page_44(),
-        page_45(),
-        page_46(),
-        page_47(),
-        page_48(),
-        page_49(),
-        page_50(),
-        page_51(),
-        page_52(),
-        page_53(),
-        page_54(),
-        page_55(),
-        page_56(),
-        page_57(),
-        page_58(),
-        page_59(),
-        page_60(),
-        page_61(),
-        page_62(),
-        page_63(),
-        page_64(),
-        page_65(),
-        page_66(),
-        page_67(),
-        page_68(),
-        page_69(),
-        page_70(),
-        page_71(),
-        page_72(),
-        page_73(),
-        page_74(),
-        page_75(),
-        page_76(),
-        page_77(),
-        page_78(),
-        page_79(),
-        page_80(),
-        page_81(),
-        page_82(),
-        page_83(),
-        page_84(),
+        *f01(),
+        *f02(),
+        *f03(),
+        *f04(),
+        *f05(),
+        *f06(),
+        *f07(),
+        *f08(),
+        *f09(),
+        *f10(),
+        *f11(),
+        *f12(),
+        *f13(),
+        *f14(),
+        *z01(),
+        *z02(),
+        *z03(),
+        *z04(),
+        *z05(),
+        *z06(),
+        *z07(),
+        *z08(),
+        *z09(),
+        *z10(),
+        *z11(),
+        *c01(),
+        *c02(),
+        *c03(),
+        *c04(),
+        *c05(),
+        *c06(),
+        *c07(),
+        *c08(),
+        *c09(),
+        *s01(),
+        *s02(),
+        *s03(),
+        *s04(),
+        *ge01(),
+        *ge02(),
+        *w01(),
+        *w02(),
+        *p01(),
+        *p02(),
+        *p03(),
+        *h01(),
+        *h02(),
+        *h03(),
+        *h04(),
+        *r01(),
+        *r02(),
+        *x01(),
+        *x02(),
+        *x03(),
+        *x04(),
+        *x05(),
+        *x06(),
+        *o01(),
+        *o02(),
+        *o03(),
+        *o04(),
+        *k01(),
+        *k02(),
+        *k03(),
+        *k04(),
+        *k05(),
+        *k06(),
+        *k07(),
+        *l01(),
+        *u01(),
+        *e01(),
+        *e02(),
+        *e03(),
+        *e04(),
+        *e05(),
+        *e06(),
+        *e07(),
+        *e08(),
+        *e09(),
+        *e10(),
+        *e11(),
+        *e12(),
+        *e13(),
+        *e14(),
+        *e15(),
     ]
 }
