@@ -1,40 +1,49 @@
--- What is reported of words, of settings, and of both together.
-use Rattle.std.proofs.Common.{◌≡◌, Err, IfErr, None, Ok, Option, Result, subst, sym}
+-- What is printed, by what it is about.
+use Rattle.std.proofs.Common.{◌≡◌, Err, IfErr, List, None, Ok, Option, Result, Some, ap, option_map, refl, string_bytes, subst, sym, ◌∙◌, ℕ}
 use Rattle.std.specs.Result.{IsErrAnd}
-use Rattle.t1_run.specs.declared.usage.UsageError.{UsageError}
-use Rattle.t1_settings.specs.Finding.{Files}
-use Rattle.t1_settings.specs.Settled.{SettingsValue}
-use Rattle.t1_options.specs.Complaints.{complaint_of, complaint_of_words, usage_text}
+use Rattle.std.specs.Option.{option_or}
+use Rattle.clap.specs.Words.{Text}
+use Rattle.t1_options.specs.Complaints.{choice_complaint, complaint_of, settings_usage, usage_text}
 use Rattle.t1_options.specs.Given.{GivenValue}
-use Rattle.t1_options.specs.Merged.{entries_of, merged}
-use Rattle.t1_options.specs.Private.Reported.{IsReported, IsReportedIn, IsUnfound}
-use Rattle.t1_options.specs.Private.Reported.IsReported.{no_memory as no_memory_reported, reported}
-use Rattle.t1_options.specs.Private.Reported.IsReportedIn.{no_memory as no_memory_in, reported as reported_in}
-use Rattle.t1_options.specs.Private.Reported.IsUnfound.{no_memory as no_memory_unfound, reported as unfound}
-use Rattle.t1_options.specs.Words.{IsWrong, IsWrongWith, settings_complaint}
-use Rattle.t1_options.specs.Words.IsWrong.{in_file, in_words, no_memory}
-use Rattle.t1_options.specs.Words.IsWrongWith.{in_settings, no_memory as no_memory_with, together}
+use Rattle.t1_options.specs.Merged.{file_in, merged_with, values_or}
+use Rattle.t1_options.specs.Settings.Reading.{SettingsValue}
+use Rattle.t1_options.specs.Words.{IsUsageOr, usage_of_both}
+use Rattle.t1_run.specs.declared.usage.UsageError.{UsageError}
+use Rattle.t1_run.specs.declared.usage.UsageError.TheVariants.{Help, Memory, Usage}
 
-pub words_wrong : (files : Files) (given : GivenValue) (error : UsageError) → IsReported usage_text (complaint_of_words given) error → IsWrong files given error
-words_wrong files given error (reported complaint found usage) = in_words complaint found usage
-words_wrong files given error (no_memory_reported is) = no_memory is
-
-pub file_wrong : (files : Files) (given : GivenValue) (error : UsageError) → complaint_of_words given ≡ None → IsUnfound files given error
-    → IsWrong files given error
-file_wrong files given error sound (unfound told wanted unsettled usage) = in_file told sound wanted unsettled usage
-file_wrong files given error sound (no_memory_unfound is) = no_memory is
-
-pub settings_wrong : (given : GivenValue) (settings : Option SettingsValue) (error : UsageError)
-    → IsReportedIn (merged given (entries_of settings)) settings error → IsWrongWith given settings error
-settings_wrong given settings error (reported_in value complaint is found usage) = in_settings value complaint is found usage
-settings_wrong given settings error (no_memory_in is) = no_memory_with is
-
-pub together_wrong : (given : GivenValue) (settings : Option SettingsValue) (error : UsageError) → settings_complaint given settings ≡ None
-    → IsReported usage_text (complaint_of (merged given (entries_of settings))) error → IsWrongWith given settings error
-together_wrong given settings error sound (reported complaint found usage) = together complaint sound found usage
-together_wrong given settings error sound (no_memory_reported is) = no_memory_with is
+pub told_so : (Is Also : List ℕ → Type 0) (error : UsageError) → ((told : List ℕ) → Is told → Also told) → IsUsageOr Is error → IsUsageOr Also error
+told_so Is Also (Help text) so is = is
+told_so Is Also (Usage text) so is = so (string_bytes text) is
+told_so Is Also Memory so is = tt
 
 -- an error that is passed on
-pub passed_on : {X E : Type 0} (P : E → Type 0) (r : Result X E) (error : E) → IsErrAnd r (λ e. e ≡ error) → P error → IfErr r P
-passed_on P (Ok x) error is so = tt
-passed_on P (Err e) error is so = subst P (sym is) so
+pub passed_on : {X : Type 0} (Is Also : List ℕ → Type 0) (r : Result X UsageError) (error : UsageError) → IsErrAnd r (λ e. e ≡ error)
+    → IsUsageOr Is error → ((told : List ℕ) → Is told → Also told) → IfErr r (IsUsageOr Also)
+passed_on Is Also (Ok x) error is told so = tt
+passed_on Is Also (Err e) error is told so = subst (IsUsageOr Also) (sym is) (told_so Is Also error so told)
+
+-- ---- settings
+
+-- what is merged, value by value
+pub merged_of : (given : GivenValue) (settings : SettingsValue) (edition baseline : Option Text) (only except level fail_on exclude : List Text)
+    → edition ≡ option_or given.edition settings.edition → baseline ≡ option_or given.baseline (file_in given settings)
+    → only ≡ values_or given.only settings.only → except ≡ values_or given.except settings.except → level ≡ values_or given.level settings.level
+    → fail_on ≡ values_or given.fail_on settings.fail_on → exclude ≡ values_or given.exclude settings.exclude
+    → record given { edition = edition; only = only; except = except; level = level; fail_on = fail_on; baseline = baseline; exclude = exclude }
+    ≡ merged_with given settings
+merged_of given settings edition baseline only except level fail_on exclude e b o x l f g = rw (e, b, o, x, l, f, g) refl
+
+pub map_or : {X Y : Type 0} (f : X → Y) (value other : Option X) → option_map f (option_or value other) ≡ option_or (option_map f value) (option_map f other)
+map_or f None other = refl
+map_or f (Some value) other = refl
+
+-- something is wrong with settings
+pub in_settings : (settings : SettingsValue) (both : GivenValue) (told : Text)
+    → option_map (settings_usage settings.file) (choice_complaint both) ≡ Some told → usage_of_both settings both ≡ Some told
+in_settings settings both told is = ap (λ found. option_or found (option_map usage_text (complaint_of both))) is
+
+-- or only with both together
+pub in_both : (settings : SettingsValue) (both : GivenValue) (told : Text) → choice_complaint both ≡ None
+    → option_map usage_text (complaint_of both) ≡ Some told → usage_of_both settings both ≡ Some told
+in_both settings both told sound is =
+    ap (λ found. option_or (option_map (settings_usage settings.file) found) (option_map usage_text (complaint_of both))) sound ∙ is

@@ -1,8 +1,10 @@
+pub mod Above
 pub mod CommandLemmas
 pub mod Judged
 pub mod Known
 pub mod Levels
 pub mod Numbers
+pub mod Paths
 pub mod Shards
 pub mod TextTests
 pub mod Together

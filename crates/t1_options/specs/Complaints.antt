@@ -108,6 +108,9 @@ complaint_of_words given = first_not_open (checks_of given)
 abbrev pub choice_complaint : GivenValue → Option Complaint
 choice_complaint given = first_so (choice_checks given)
 
--- The line to print where a value of a settings file is wrong.
-abbrev pub settings_text : Text → Complaint → Text
-settings_text file c = codes "t1check-all: " ++ file ++ codes ": " ++ text_of c ++ codes "\n"
+-- The line to print where something is wrong with a settings file.
+abbrev pub settings_text : Text → Text → Text
+settings_text file wrong = codes "t1check-all: " ++ file ++ codes ": " ++ wrong ++ codes "\n"
+
+abbrev pub settings_usage : Text → Complaint → Text
+settings_usage file c = settings_text file (text_of c)

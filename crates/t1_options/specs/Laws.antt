@@ -7,13 +7,12 @@ use Rattle.t1_rules.specs.Book.{code_of, number_of}
 use Rattle.t1_rules.specs.Mask.{has}
 use Rattle.t1_rules.specs.declared.rule.Rule.{Rule}
 use Rattle.t1_names.specs.Words.{is_input}
-use Rattle.t1_settings.specs.Reading.{SettingValue}
-use Rattle.t1_settings.specs.declared.keys.Key.TheVariants.{Baseline, Edition, Except, Exclude, FailOn, Level, Only}
 use Rattle.t1_options.specs.Choices.{codes_of, is_known, is_of_levels, words_of}
 use Rattle.t1_options.specs.Complaints.{has_input}
 use Rattle.t1_options.specs.Given.{GivenValue, given_by}
-use Rattle.t1_options.specs.Merged.{merged, values_of}
+use Rattle.t1_options.specs.Merged.{merged_with}
 use Rattle.t1_options.specs.Options.{AreMeant, is_anew}
+use Rattle.t1_options.specs.Settings.Reading.{SettingsValue}
 use Rattle.t1_options.specs.Values.{shard_in}
 use Rattle.t1_options.specs.declared.asked.KnownFaults.TheVariants.{Unnamed}
 use Rattle.t1_options.specs.declared.asked.Options.{Options}
@@ -74,31 +73,29 @@ MeantGoTogether = (given : GivenValue) (options : Options) → AreMeant given op
 
 -- What words give for a key counts.
 pub record GivenOptionsWin : Type 0 where
-  pub edition : (given : GivenValue) (settings : List SettingValue) → is_some given.edition ≡ true → (merged given settings).edition ≡ given.edition
-  pub baseline : (given : GivenValue) (settings : List SettingValue) → is_some given.baseline ≡ true → (merged given settings).baseline ≡ given.baseline
-  pub only : (given : GivenValue) (settings : List SettingValue) → is_empty given.only ≡ false → (merged given settings).only ≡ given.only
-  pub except : (given : GivenValue) (settings : List SettingValue) → is_empty given.except ≡ false → (merged given settings).except ≡ given.except
-  pub level : (given : GivenValue) (settings : List SettingValue) → is_empty given.level ≡ false → (merged given settings).level ≡ given.level
-  pub fail_on : (given : GivenValue) (settings : List SettingValue) → is_empty given.fail_on ≡ false → (merged given settings).fail_on ≡ given.fail_on
-  pub exclude : (given : GivenValue) (settings : List SettingValue) → is_empty given.exclude ≡ false → (merged given settings).exclude ≡ given.exclude
+  pub edition : (given : GivenValue) (settings : SettingsValue) → is_some given.edition ≡ true → (merged_with given settings).edition ≡ given.edition
+  pub baseline : (given : GivenValue) (settings : SettingsValue) → is_some given.baseline ≡ true → (merged_with given settings).baseline ≡ given.baseline
+  pub only : (given : GivenValue) (settings : SettingsValue) → is_empty given.only ≡ false → (merged_with given settings).only ≡ given.only
+  pub except : (given : GivenValue) (settings : SettingsValue) → is_empty given.except ≡ false → (merged_with given settings).except ≡ given.except
+  pub level : (given : GivenValue) (settings : SettingsValue) → is_empty given.level ≡ false → (merged_with given settings).level ≡ given.level
+  pub fail_on : (given : GivenValue) (settings : SettingsValue) → is_empty given.fail_on ≡ false → (merged_with given settings).fail_on ≡ given.fail_on
+  pub exclude : (given : GivenValue) (settings : SettingsValue) → is_empty given.exclude ≡ false → (merged_with given settings).exclude ≡ given.exclude
 
 -- What settings have for a key counts where words give nothing.
 pub record SettingsCount : Type 0 where
-  pub edition :
-      (given : GivenValue) (settings : List SettingValue) (value : Text) → given.edition ≡ None → values_of Edition settings ≡ value ∷ []
-      → (merged given settings).edition ≡ Some value
+  pub edition : (given : GivenValue) (settings : SettingsValue) → given.edition ≡ None → (merged_with given settings).edition ≡ settings.edition
   pub baseline :
-      (given : GivenValue) (settings : List SettingValue) (value : Text) → given.baseline ≡ None → given.write_waivers ≡ false
-      → values_of Baseline settings ≡ value ∷ [] → (merged given settings).baseline ≡ Some value
-  pub only : (given : GivenValue) (settings : List SettingValue) → given.only ≡ [] → (merged given settings).only ≡ values_of Only settings
-  pub except : (given : GivenValue) (settings : List SettingValue) → given.except ≡ [] → (merged given settings).except ≡ values_of Except settings
-  pub level : (given : GivenValue) (settings : List SettingValue) → given.level ≡ [] → (merged given settings).level ≡ values_of Level settings
-  pub fail_on : (given : GivenValue) (settings : List SettingValue) → given.fail_on ≡ [] → (merged given settings).fail_on ≡ values_of FailOn settings
-  pub exclude : (given : GivenValue) (settings : List SettingValue) → given.exclude ≡ [] → (merged given settings).exclude ≡ values_of Exclude settings
+      (given : GivenValue) (settings : SettingsValue) → given.baseline ≡ None → given.write_waivers ≡ false
+      → (merged_with given settings).baseline ≡ settings.baseline
+  pub only : (given : GivenValue) (settings : SettingsValue) → given.only ≡ [] → (merged_with given settings).only ≡ settings.only
+  pub except : (given : GivenValue) (settings : SettingsValue) → given.except ≡ [] → (merged_with given settings).except ≡ settings.except
+  pub level : (given : GivenValue) (settings : SettingsValue) → given.level ≡ [] → (merged_with given settings).level ≡ settings.level
+  pub fail_on : (given : GivenValue) (settings : SettingsValue) → given.fail_on ≡ [] → (merged_with given settings).fail_on ≡ settings.fail_on
+  pub exclude : (given : GivenValue) (settings : SettingsValue) → given.exclude ≡ [] → (merged_with given settings).exclude ≡ settings.exclude
 
 -- Where waivers are written, settings name no file of known faults.
 abbrev pub WritingHasNoBaseline : Type 0
-WritingHasNoBaseline = (given : GivenValue) (settings : List SettingValue) → given.write_waivers ≡ true → (merged given settings).baseline ≡ given.baseline
+WritingHasNoBaseline = (given : GivenValue) (settings : SettingsValue) → given.write_waivers ≡ true → (merged_with given settings).baseline ≡ given.baseline
 
 -- ---- words
 

@@ -6,5 +6,6 @@ pub mod Laws
 pub mod Merged
 pub mod Options
 pub mod Private
+pub mod Settings
 pub mod Values
 pub mod Words

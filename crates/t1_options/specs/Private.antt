@@ -1,3 +1,2 @@
 -- Words that private contracts alone cite: no clause of a public function rests on them.
 pub mod Named
-pub mod Reported

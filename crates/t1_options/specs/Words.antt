@@ -1,20 +1,20 @@
 -- What words request, with the settings of their first path, or why they request nothing.
-use Rattle.std.specs.Prelude.{◌≡◌, true, false, [], List, Option, None, Some, string_bytes}
+use Rattle.std.specs.Prelude.{◌≡◌, true, false, [], List, Option, None, Some, option_map, string_bytes}
+use Rattle.std.specs.Option.{option_or}
 use Rattle.clap.specs.Words.{Text, fault_of}
 use Rattle.t1_run.specs.Words.{AreRefused}
 use Rattle.t1_run.specs.declared.usage.UsageError.{UsageError}
 use Rattle.t1_run.specs.declared.usage.UsageError.TheVariants.{Help, Memory, Usage}
-use Rattle.t1_settings.specs.Finding.{Files}
-use Rattle.t1_settings.specs.Settled.{AreSettled, AreUnsettled, SettingsValue}
 use Rattle.t1_options.specs.CommandLine.{t1check_all}
-use Rattle.t1_options.specs.Complaints.{choice_complaint, complaint_of, complaint_of_words, settings_text, usage_text}
+use Rattle.t1_options.specs.Complaints.{choice_complaint, complaint_of, complaint_of_words, settings_usage, usage_text}
 use Rattle.t1_options.specs.Given.{GivenValue, given_by}
-use Rattle.t1_options.specs.Merged.{entries_of, first_path, merged}
+use Rattle.t1_options.specs.Merged.{first_path, merged, merged_with}
 use Rattle.t1_options.specs.Options.{AreMeant}
+use Rattle.t1_options.specs.Settings.Finding.{AreSettled, AreUnsettled, Files}
+use Rattle.t1_options.specs.Settings.Reading.{SettingsValue}
 use Rattle.t1_options.specs.declared.asked.Options.{Options}
 use Rattle.t1_options.specs.declared.asked.Request.{Request}
 use Rattle.t1_options.specs.declared.asked.Request.TheVariants.{Check, Version}
-use Rattle.t1_options.specs.declared.complaint.Complaint.{Complaint}
 
 -- The settings that count: those of the first path, or none with `--no-settings`.
 pub data AreFound (files : Files) (given : GivenValue) (settings : Option SettingsValue) : Type 0 where
@@ -26,7 +26,7 @@ pub record AreAsked (files : Files) (given : GivenValue) (options : Options) : T
   pub sound : complaint_of_words given ≡ None
   pub settings : Option SettingsValue
   pub found : AreFound files given settings
-  pub meant : AreMeant (merged given (entries_of settings)) options
+  pub meant : AreMeant (merged given settings) options
 
 -- A request for the version, or for a check with these options.
 abbrev pub IsAsked : Files → GivenValue → Request → Type 0
@@ -55,49 +55,41 @@ IsAnswered help (Help text) answer = IsHelpTextOrMemory help answer
 IsAnswered help (Usage text) answer = answer ≡ Usage text
 IsAnswered help Memory answer = answer ≡ Memory
 
--- This is the text to print.
-abbrev pub IsUsage : Text → UsageError → Type 0
-IsUsage usage (Help text) = ⊥
-IsUsage usage (Usage text) = string_bytes text ≡ usage
-IsUsage usage Memory = ⊥
+-- A text of which this is so is printed; or memory ran out.
+abbrev pub IsUsageOr : (Text → Type 0) → UsageError → Type 0
+IsUsageOr Is (Help text) = ⊥
+IsUsageOr Is (Usage text) = Is (string_bytes text)
+IsUsageOr Is Memory = Unit {0}
 
--- The first thing that is wrong with values of settings, if there are settings and anything is. Those of the words are
--- judged before, so what is wrong with the values of both is wrong with those of the settings.
-abbrev pub complaint_in : GivenValue → Option SettingsValue → Option Complaint
-complaint_in both None = None
-complaint_in both (Some settings) = choice_complaint both
+-- The settings that count can't be read, or something is wrong with their file, and this is printed.
+pub record AreUnfound (files : Files) (given : GivenValue) (told : Text) : Type 0 where
+  pub wanted : given.no_settings ≡ false
+  pub unsettled : AreUnsettled files (first_path given.paths) told
 
-abbrev pub settings_complaint : GivenValue → Option SettingsValue → Option Complaint
-settings_complaint given settings = complaint_in (merged given (entries_of settings)) settings
+-- What is printed of words and settings together, if anything is wrong: with values of the settings, or else with both.
+-- Values of the words are judged before, so what is wrong with those of both is wrong with those of the settings.
+abbrev pub usage_of_both : SettingsValue → GivenValue → Option Text
+usage_of_both settings both =
+    option_or (option_map (settings_usage settings.file) (choice_complaint both)) (option_map usage_text (complaint_of both))
 
--- Something is wrong with the settings that count, or with the words beside them, and that is reported; or memory ran
--- out.
-pub data IsWrongWith (given : GivenValue) (settings : Option SettingsValue) (error : UsageError) : Type 0 where
-  in_settings :
-      (value : SettingsValue) → (complaint : Complaint) → settings ≡ Some value → settings_complaint given settings ≡ Some complaint
-      → IsUsage (settings_text value.file complaint) error → IsWrongWith given settings error
-  together :
-      (complaint : Complaint) → settings_complaint given settings ≡ None → complaint_of (merged given (entries_of settings)) ≡ Some complaint
-      → IsUsage (usage_text complaint) error → IsWrongWith given settings error
-  no_memory : error ≡ Memory → IsWrongWith given settings error
+-- The same of words with the settings that count.
+abbrev pub usage_with : GivenValue → Option SettingsValue → Option Text
+usage_with given None = option_map usage_text (complaint_of given)
+usage_with given (Some settings) = usage_of_both settings (merged_with given settings)
 
--- Something is wrong with what is given, and that is reported: with the words by themselves; with a settings file that
--- can't be read or has no settings; or with both together. Or memory ran out.
-pub data IsWrong (files : Files) (given : GivenValue) (error : UsageError) : Type 0 where
-  in_words :
-      (complaint : Complaint) → complaint_of_words given ≡ Some complaint → IsUsage (usage_text complaint) error → IsWrong files given error
-  in_file :
-      (told : Text) → complaint_of_words given ≡ None → given.no_settings ≡ false → AreUnsettled files (first_path given.paths) told
-      → IsUsage told error → IsWrong files given error
+-- Something is wrong with what is given, and this is printed: of the words by themselves; of a settings file that can't be
+-- read or has no settings; or of words with settings.
+pub data AreWrong (files : Files) (given : GivenValue) (told : Text) : Type 0 where
+  in_words : option_map usage_text (complaint_of_words given) ≡ Some told → AreWrong files given told
+  in_file : complaint_of_words given ≡ None → AreUnfound files given told → AreWrong files given told
   with_settings :
-      (settings : Option SettingsValue) → complaint_of_words given ≡ None → AreFound files given settings → IsWrongWith given settings error
-      → IsWrong files given error
-  no_memory : error ≡ Memory → IsWrong files given error
+      (settings : Option SettingsValue) → complaint_of_words given ≡ None → AreFound files given settings
+      → usage_with given settings ≡ Some told → AreWrong files given told
 
--- What is given requests no version, and something is wrong with it.
+-- What is given requests no version, and something is wrong with it; or memory ran out.
 pub record AsksNothing (files : Files) (given : GivenValue) (error : UsageError) : Type 0 where
   pub no_version : given.version ≡ false
-  pub wrong : IsWrong files given error
+  pub wrong : IsUsageOr (AreWrong files given) error
 
 -- The words request nothing: clap finds a fault, or the request for help, which has this text; or what they say
 -- requests nothing.

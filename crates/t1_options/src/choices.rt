@@ -2,16 +2,15 @@
 
 ghost use Rattle.std.specs.Prelude.{◌≡◌, ◌∷◌, ◌++◌, IfOk, is_some, map, string_bytes};
 ghost use Rattle.std.specs.List.{flat_map};
-ghost use Rattle.t1_many.specs.Choice.{is_told};
 ghost use Rattle.t1_options.specs.Choices.{are_known, are_levels, codes_in, codes_of, codes_outside, in_capitals, is_known, is_of_levels, left_out, words_of};
-ghost use Rattle.t1_rules.specs.Book.{code_of, number_of};
+ghost use Rattle.t1_rules.specs.Book.{number_of};
 ghost use Rattle.t1_rules.specs.Levels.{level_named};
 ghost use Rattle.t1_rules.specs.Mask.{has};
 ghost use Rattle.t1_rules.specs.declared.rule.Rule.{Rule as RuleValue};
 
 use crate::texts::{copies, texts_of};
 use std::alloc::{AllocError, Global};
-use t1_many::told_rules;
+use t1_many::{Choice, picks, told_rules};
 use t1_rules::{Level, Mask, Rule, all_rules, rule_code, rule_level};
 
 /// The codes that the values of an option name.
@@ -74,28 +73,9 @@ pub(crate) fn are_known(codes: &[String]) -> bool
 fn is_known(code: &str) -> bool
     ensures { result ≡ is_known code.now }
 {
-    told_rules(&[code.as_bytes()], &[]).above(0).is_some()
-}
-
-/// The rules that codes choose.
-pub(crate) fn rules_of(
-    alloc: Global,
-    only: &[String],
-    except: &[String],
-) -> Result<Mask, AllocError>
-    ensures { IfOk result (λ rules. (rule : RuleValue) → has rules (number_of rule)
-        ≡ is_told (record { only = map string_bytes only.now; except = map string_bytes except.now }) (code_of rule)) }
-{
-    let only = bytes_of(alloc, only)?;
-    let except = bytes_of(alloc, except)?;
-    Ok(told_rules(only.as_slice(), except.as_slice()))
-}
-
-/// The bytes of texts.
-fn bytes_of(alloc: Global, texts: &[String]) -> Result<Vec<&[u8]>, AllocError>
-    ensures { IfOk result (λ bytes. map (λ s. s.now) bytes.items ≡ map string_bytes texts.now) }
-{
-    texts.iter().map(|text| text.as_bytes()).collect(alloc)
+    all_rules()
+        .iter()
+        .any(|rule| picks(rule_code(*rule).as_bytes(), code.as_bytes()))
 }
 
 /// Whether there is a word, and each names a level.
@@ -162,5 +142,8 @@ pub(crate) fn failing_of(alloc: Global, levels: &[String]) -> Result<Mask, Alloc
     ensures { IfOk result (λ failing. (rule : RuleValue) → has failing (number_of rule) ≡ is_of_levels (map string_bytes levels.now) rule) }
 {
     let others = copies(alloc, left_out(alloc, levels)?.as_slice())?;
-    rules_of(alloc, &[], others.as_slice())
+    Ok(told_rules(Choice {
+        only: &[],
+        except: others.as_slice(),
+    }))
 }

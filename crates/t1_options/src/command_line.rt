@@ -6,7 +6,7 @@ ghost use Rattle.t1_options.specs.CommandLine.{flag_rule, jobs_rule, list_rule, 
 ghost use Rattle.t1_options.specs.Given.{given_in};
 ghost use Rattle.t1_options.specs.Words.{AsksNothing, HasHelp, IsAnswered, IsAsked, IsRefused, IsTaken};
 ghost use Rattle.t1_run.specs.Words.{AreRefused, IsParsedBy};
-ghost use Rattle.t1_settings.specs.Finding.{files_by};
+ghost use Rattle.t1_options.specs.Settings.Finding.{files_by};
 
 use crate::asked::Request;
 use crate::given::given_in;

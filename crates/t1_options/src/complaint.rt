@@ -51,7 +51,7 @@ pub(crate) enum Complaint {
 }
 
 /// The sentence that says so.
-fn text_of(complaint: Complaint) -> &'static str
+pub(crate) fn text_of(complaint: Complaint) -> &'static str
     ensures { result.now ≡ text_of complaint }
 {
     match complaint {
@@ -88,18 +88,14 @@ pub(crate) fn usage_text(alloc: Global, complaint: Complaint) -> Result<String, 
     Ok(text)
 }
 
-/// The line to print where a value of this settings file is wrong.
-pub(crate) fn settings_text(
-    alloc: Global,
-    file: &str,
-    complaint: Complaint,
-) -> Result<String, AllocError>
-    ensures { IfOk result (λ text. string_bytes text ≡ settings_text file.now complaint) }
+/// The line to print where something is wrong with a settings file.
+pub(crate) fn settings_text(alloc: Global, file: &str, wrong: &str) -> Result<String, AllocError>
+    ensures { IfOk result (λ text. string_bytes text ≡ settings_text file.now wrong.now) }
 {
     let mut text = String::from_str(alloc, "t1check-all: ")?;
     text.push_str(file)?;
     text.push_str(": ")?;
-    text.push_str(text_of(complaint))?;
+    text.push_str(wrong)?;
     text.push_str("\n")?;
     Ok(text)
 }

@@ -1,31 +1,30 @@
 //! The options that words and settings mean.
 
-ghost use Rattle.std.specs.Prelude.{◌≡◌, ◌&&◌, None, IfErr, IfOk, is_some, map, option_map, string_bytes};
+ghost use Rattle.std.specs.Prelude.{◌≡◌, ◌&&◌, None, Some, IfErr, IfOk, is_some, map, option_map, string_bytes};
 ghost use Rattle.t1_options.specs.Choices.{codes_of, excepted};
-ghost use Rattle.t1_options.specs.Complaints.{complaint_of, complaint_of_words, usage_text};
+ghost use Rattle.t1_options.specs.Complaints.{choice_complaint, complaint_of, complaint_of_words, settings_usage, usage_text};
 ghost use Rattle.t1_options.specs.Given.{given_value};
-ghost use Rattle.t1_options.specs.Merged.{by_key, by_key_value, entries_of, first_path, is_namable, merged};
+ghost use Rattle.t1_options.specs.Merged.{first_path, is_namable, merged, merged_with};
 ghost use Rattle.t1_options.specs.Options.{AreMeant, HasValues, file_of, is_anew, reasons_of, waivers_of};
-ghost use Rattle.t1_options.specs.Private.Reported.{IsReported, IsReportedIn, IsUnfound};
-ghost use Rattle.t1_options.specs.Words.{AreAsked, AreFound, IsWrong, IsWrongWith, complaint_in};
-ghost use Rattle.t1_settings.specs.Finding.{files_by};
-ghost use Rattle.t1_settings.specs.Reading.{setting_value};
-ghost use Rattle.t1_settings.specs.Settled.{settings_value};
+ghost use Rattle.t1_options.specs.Settings.Finding.{files_by};
+ghost use Rattle.t1_options.specs.Settings.Reading.{settings_value};
+ghost use Rattle.t1_options.specs.Words.{AreAsked, AreFound, AreUnfound, AreWrong, IsUsageOr, usage_of_both, usage_with};
 
 use crate::asked::{KnownFaults, Options, Reasons, Waivers};
 use crate::checks::{choice_complaint, complaint_of, complaint_of_words, named_in};
-use crate::choices::{excepted, failing_of, rules_of};
-use crate::complaint::{settings_text, usage_text};
+use crate::choices::{excepted, failing_of};
+use crate::complaint::{settings_text, text_of, usage_text};
 use crate::given::Given;
-use crate::merging::{ByKey, by_key, merged};
+use crate::merging::{file_in, values_or};
+use crate::settings::{Settings, settings_for};
 use crate::texts::copies;
-use crate::values::{docs, edition, form, is_marked, number, shard};
+use crate::values::{docs, edition, form, has_line_end, is_marked, number, shard};
 use std::alloc::{AllocError, Global};
 use t1_char::Edition;
+use t1_many::{Choice, told_rules};
 use t1_names::FileSystem;
 use t1_rules::Mask;
 use t1_run::{UsageError, owned};
-use t1_settings::{Setting, Settings, Unsettled, settings_for};
 
 /// The options that words mean with the settings of their first path, or what is wrong with them.
 pub(crate) fn options_asked<F: FileSystem>(
@@ -34,7 +33,7 @@ pub(crate) fn options_asked<F: FileSystem>(
     files: &F,
 ) -> Result<Options, UsageError>
     ensures asked { IfOk result (AreAsked (files_by (F.leads files.now) (F.has_text files.now)) (given_value given.now)) }
-    ensures wrong { IfErr result (IsWrong (files_by (F.leads files.now) (F.has_text files.now)) (given_value given.now)) }
+    ensures wrong { IfErr result (IsUsageOr (AreWrong (files_by (F.leads files.now) (F.has_text files.now)) (given_value given.now))) }
 {
     judge_words(alloc, given)?;
     let settings = settings_of(alloc, given, files)?;
@@ -44,7 +43,7 @@ pub(crate) fn options_asked<F: FileSystem>(
 /// Judges words by themselves.
 fn judge_words(alloc: Global, given: &Given<'_>) -> Result<(), UsageError>
     ensures sound { IfOk result (λ _. complaint_of_words (given_value given.now) ≡ None) }
-    ensures wrong { IfErr result (IsReported usage_text (complaint_of_words (given_value given.now))) }
+    ensures wrong { IfErr result (IsUsageOr (λ told. option_map usage_text (complaint_of_words (given_value given.now)) ≡ Some told)) }
 {
     let named = named_in(alloc, given)?;
     match complaint_of_words(given, &named) {
@@ -60,16 +59,12 @@ fn settings_of<F: FileSystem>(
     files: &F,
 ) -> Result<Option<Settings>, UsageError>
     ensures found { IfOk result (λ settings. AreFound (files_by (F.leads files.now) (F.has_text files.now)) (given_value given.now) (option_map settings_value settings)) }
-    ensures unfound { IfErr result (IsUnfound (files_by (F.leads files.now) (F.has_text files.now)) (given_value given.now)) }
+    ensures unfound { IfErr result (IsUsageOr (AreUnfound (files_by (F.leads files.now) (F.has_text files.now)) (given_value given.now))) }
 {
     if given.no_settings {
         return Ok(None);
     }
-    match settings_for(alloc, first_path(given.paths), files) {
-        Ok(settings) => Ok(settings),
-        Err(Unsettled::Usage(text)) => Err(UsageError::Usage(text)),
-        Err(Unsettled::Memory) => Err(UsageError::Memory),
-    }
+    settings_for(alloc, first_path(given.paths), files)
 }
 
 /// The first path that can be in a line.
@@ -88,7 +83,7 @@ fn first_path<'a>(paths: &[&'a str]) -> Option<&'a str>
 fn is_namable(path: &str) -> bool
     ensures { result ≡ is_namable path.now }
 {
-    !is_marked(path) & !path.as_bytes().contains(&b'\n')
+    !is_marked(path) & !has_line_end(path)
 }
 
 /// The options that words mean with these settings, or what is wrong with them.
@@ -97,58 +92,62 @@ fn options_with(
     given: &Given<'_>,
     settings: &Option<Settings>,
 ) -> Result<Options, UsageError>
-    ensures meant { IfOk result (AreMeant (merged (given_value given.now) (entries_of (option_map settings_value settings.now)))) }
-    ensures wrong { IfErr result (IsWrongWith (given_value given.now) (option_map settings_value settings.now)) }
-{
-    let values = by_key(alloc, entries_of(settings))?;
-    options_merged(alloc, given, settings, &values)
-}
-
-/// The same, by the values of the settings.
-fn options_merged(
-    alloc: Global,
-    given: &Given<'_>,
-    settings: &Option<Settings>,
-    values: &ByKey<'_>,
-) -> Result<Options, UsageError>
-    requires { by_key_value values.now ≡ by_key (entries_of (option_map settings_value settings.now)) }
-    ensures meant { IfOk result (AreMeant (merged (given_value given.now) (entries_of (option_map settings_value settings.now)))) }
-    ensures wrong { IfErr result (IsWrongWith (given_value given.now) (option_map settings_value settings.now)) }
-{
-    let merged = merged(given, values);
-    judge_settings(alloc, settings, &merged)?;
-    options_meant(alloc, &merged)
-}
-
-/// The entries of a settings file, if there is one.
-fn entries_of(settings: &Option<Settings>) -> &[Setting]
-    ensures { map setting_value result.now ≡ entries_of (option_map settings_value settings.now) }
+    ensures meant { IfOk result (AreMeant (merged (given_value given.now) (option_map settings_value settings.now))) }
+    ensures wrong { IfErr result (IsUsageOr (λ told. usage_with (given_value given.now) (option_map settings_value settings.now) ≡ Some told)) }
 {
     match settings {
-        Some(settings) => settings.entries.as_slice(),
-        None => &[],
+        Some(settings) => options_by(alloc, given, settings),
+        None => options_meant(alloc, given),
     }
 }
 
-/// Judges the codes and levels that settings name, after those of the words. `merged` is what both give.
-fn judge_settings(
-    alloc: Global,
-    settings: &Option<Settings>,
-    merged: &Given<'_>,
-) -> Result<(), UsageError>
-    ensures sound { IfOk result (λ _. complaint_in (given_value merged.now) (option_map settings_value settings.now) ≡ None) }
-    ensures wrong { IfErr result (IsReportedIn (given_value merged.now) (option_map settings_value settings.now)) }
+/// The same, of settings that are there.
+fn options_by(alloc: Global, given: &Given<'_>, settings: &Settings) -> Result<Options, UsageError>
+    ensures meant { IfOk result (AreMeant (merged_with (given_value given.now) (settings_value settings.now))) }
+    ensures wrong { IfErr result (IsUsageOr (λ told. usage_with (given_value given.now) (Some (settings_value settings.now)) ≡ Some told)) }
 {
-    let Some(settings) = settings else {
-        return Ok(());
+    let only = values_or(alloc, given.only, settings.only.as_slice())?;
+    let except = values_or(alloc, given.except, settings.except.as_slice())?;
+    let level = values_or(alloc, given.level, settings.level.as_slice())?;
+    let fail_on = values_or(alloc, given.fail_on, settings.fail_on.as_slice())?;
+    let exclude = values_or(alloc, given.exclude, settings.exclude.as_slice())?;
+    let merged = Given {
+        edition: given.edition.or(settings.edition),
+        only: only.as_slice(),
+        except: except.as_slice(),
+        level: level.as_slice(),
+        fail_on: fail_on.as_slice(),
+        baseline: given.baseline.or(file_in(given, settings)),
+        exclude: exclude.as_slice(),
+        ..*given
     };
+    options_of_both(alloc, settings, &merged)
+}
+
+/// The options that words and settings together mean, or what is wrong with the settings or with both.
+fn options_of_both(
+    alloc: Global,
+    settings: &Settings,
+    both: &Given<'_>,
+) -> Result<Options, UsageError>
+    ensures meant { IfOk result (AreMeant (given_value both.now)) }
+    ensures wrong { IfErr result (IsUsageOr (λ told. usage_of_both (settings_value settings.now) (given_value both.now) ≡ Some told)) }
+{
+    judge_settings(alloc, settings, both)?;
+    options_meant(alloc, both)
+}
+
+/// Judges the codes and levels that settings name, after those of the words. `merged` is what both give.
+fn judge_settings(alloc: Global, settings: &Settings, merged: &Given<'_>) -> Result<(), UsageError>
+    ensures sound { IfOk result (λ _. choice_complaint (given_value merged.now) ≡ None) }
+    ensures wrong { IfErr result (IsUsageOr (λ told. option_map (settings_usage (string_bytes settings.now.file)) (choice_complaint (given_value merged.now)) ≡ Some told)) }
+{
     let named = named_in(alloc, merged)?;
     match choice_complaint(merged, &named) {
-        Some(complaint) => Err(UsageError::Usage(settings_text(
-            alloc,
-            settings.file.as_str(),
-            complaint,
-        )?)),
+        Some(complaint) => {
+            let text = settings_text(alloc, settings.file.as_str(), text_of(complaint))?;
+            Err(UsageError::Usage(text))
+        }
         None => Ok(()),
     }
 }
@@ -156,14 +155,17 @@ fn judge_settings(
 /// The options that the given values mean, or what is wrong with them.
 fn options_meant(alloc: Global, given: &Given<'_>) -> Result<Options, UsageError>
     ensures meant { IfOk result (AreMeant (given_value given.now)) }
-    ensures wrong { IfErr result (IsReported usage_text (complaint_of (given_value given.now))) }
+    ensures wrong { IfErr result (IsUsageOr (λ told. option_map usage_text (complaint_of (given_value given.now)) ≡ Some told)) }
 {
     let named = named_in(alloc, given)?;
     if let Some(complaint) = complaint_of(given, &named) {
         return Err(UsageError::Usage(usage_text(alloc, complaint)?));
     }
     let except = excepted(alloc, named.except.as_slice(), named.level.as_slice())?;
-    let rules = rules_of(alloc, named.only.as_slice(), except.as_slice())?;
+    let rules = told_rules(Choice {
+        only: named.only.as_slice(),
+        except: except.as_slice(),
+    });
     let failing = failing_of(alloc, named.fail_on.as_slice())?;
     Ok(options_of(alloc, given, rules, failing, named.only, except)?)
 }

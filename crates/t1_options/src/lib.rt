@@ -1,8 +1,8 @@
 //! The options of t1check-all, from the words of its command line and the settings of their first path.
 //!
-//! [`options`] reads both. clap splits the words into options and values; `t1_settings` reads a settings file. This crate
-//! merges the two, and judges the values and which options go together. The result is a [`Request`], or a `UsageError`
-//! with the text to print.
+//! [`options`] reads both. clap splits the words into options and values; [`settings_for`] finds and reads a settings file.
+//! Then the two are merged, and judged are the values and which options go together. The result is a [`Request`], or a
+//! `UsageError` with the text to print.
 //!
 //! Promised:
 //!
@@ -10,6 +10,8 @@
 //! - The options are those that the words mean, and the settings where the words give nothing
 //!   ([`given_options_win`]). With `--no-settings` no settings are looked for. Of an option that is given again the last value counts; `--only`,
 //!   `--except`, `--level`, `--fail-on`, `--files-from` and `--exclude` add values ([`uses_count`]).
+//! - The settings file is the nearest that is there, TOML as the kit's `toml` defines it. What is wrong with it is reported
+//!   with its name and the line or the key. Paths, and globs with a slash, are below its folder ([`settings_for`]).
 //! - The options keep the codes of `--only` and `--except`, and with the latter those that `--level` omits. These
 //!   choose the rules that are printed ([`codes_choose_rules`]): those that codes and levels both choose
 //!   ([`levels_choose_rules`]).
@@ -33,6 +35,7 @@ mod given;
 mod judging;
 mod laws;
 mod merging;
+mod settings;
 mod texts;
 mod values;
 
@@ -42,4 +45,5 @@ pub use laws::{
     codes_choose_rules, given_options_win, levels_choose_rules, options_go_together,
     rules_are_known, shards_are_parts, uses_count,
 };
+pub use settings::{Settings, settings_for};
 pub use values::is_marked;

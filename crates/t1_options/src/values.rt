@@ -2,6 +2,7 @@
 
 ghost use Rattle.std.specs.Prelude.{◌≡◌, option_and_then, option_map};
 ghost use Rattle.std.specs.List.{list_all};
+ghost use Rattle.t1_many.specs.Unchecked.{has_line_end};
 ghost use Rattle.t1_options.specs.Values.{begins, edition_in, file_in, form_in, is_marked, is_number, number_in, part_of, shard_in, shard_of, url_in};
 ghost use Rattle.t1_scan.specs.Bytes.{is_decimal_digit};
 
@@ -65,6 +66,13 @@ pub fn is_marked(word: &str) -> bool
     ensures { result ≡ is_marked word.now }
 {
     begins(0, word.as_bytes())
+}
+
+/// Whether a text has a line end.
+pub(crate) fn has_line_end(text: &str) -> bool
+    ensures { result ≡ has_line_end text.now }
+{
+    text.as_bytes().contains(&b'\n')
 }
 
 /// Whether all bytes are digits.

@@ -1,10 +1,10 @@
-//! Tests of what t1check-all reads besides fonts, and of its summary, by public items of t1_names, t1_settings, t1_options and
-//! t1_summary alone. Expected values are worked out by hand.
+//! Tests of what t1check-all reads besides fonts, and of its summary, by public items of t1_names, t1_options and t1_summary
+//! alone. Expected values are worked out by hand.
 //!
 //! | module | tests of |
 //! |---|---|
 //! | `globs`, `lists`, `names` | the fonts that words name: t1_names |
-//! | `settings_files` | where settings files are found, and what they say: t1_settings |
+//! | `settings_files` | where settings files are found, and what they give: t1_options |
 //! | `helped`, `refused`, `rules`, `settings`, `taken` | the words of the command line: t1_options |
 //! | `summaries` | summaries: t1_summary |
 //!

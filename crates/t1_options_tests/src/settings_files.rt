@@ -1,4 +1,4 @@
-//! Settings files: t1_settings, by its public items alone.
+//! Settings files: `settings_for` of t1_options.
 
 mod places;
 mod texts;

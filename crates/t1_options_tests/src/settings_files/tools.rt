@@ -4,7 +4,8 @@ use std::alloc::{AllocError, Global};
 use std::io;
 use std::io::ErrorKind;
 use t1_names::{FileSystem, Listing};
-use t1_settings::{Settings, Unsettled, settings_for};
+use t1_options::{Settings, settings_for};
+use t1_run::UsageError;
 
 /// A file by its name and its text: None where it can't be read.
 pub(crate) type File<'a> = (&'a str, Option<&'a str>);
@@ -70,24 +71,42 @@ pub(crate) fn settled(
 ) -> Result<String, AllocError> {
     let files = Files { alloc, files };
     match settings_for(alloc, path, &files) {
-        Ok(Some(settings)) => listed(&settings, String::new(alloc)),
+        Ok(Some(settings)) => listed(alloc, &settings),
         Ok(None) => String::from_str(alloc, "none"),
-        Err(Unsettled::Usage(text)) => Ok(text),
-        Err(Unsettled::Memory) => Err(AllocError),
+        Err(UsageError::Help(text) | UsageError::Usage(text)) => Ok(text),
+        Err(UsageError::Memory) => Err(AllocError),
     }
 }
 
-/// Settings as a text, after another one.
-fn listed(settings: &Settings, text: String) -> Result<String, AllocError> {
-    let mut text = text;
-    text.push_str(settings.file.as_str())?;
-    for setting in &settings.entries {
-        for value in &setting.values {
-            text.push(' ')?;
-            text.push_str(setting.key.name())?;
-            text.push('=')?;
-            text.push_str(value.as_str())?;
-        }
+/// Settings as a text.
+fn listed(alloc: Global, settings: &Settings) -> Result<String, AllocError> {
+    let mut text = String::from_str(alloc, settings.file.as_str())?;
+    if let Some(file) = &settings.baseline {
+        add_value("baseline", file.as_str(), &mut text)?;
     }
+    if let Some(edition) = settings.edition {
+        add_value("edition", edition, &mut text)?;
+    }
+    add_values("except", settings.except.as_slice(), &mut text)?;
+    add_values("exclude", settings.exclude.as_slice(), &mut text)?;
+    add_values("fail-on", settings.fail_on.as_slice(), &mut text)?;
+    add_values("level", settings.level.as_slice(), &mut text)?;
+    add_values("only", settings.only.as_slice(), &mut text)?;
     Ok(text)
+}
+
+/// Adds each value of a key.
+fn add_values(key: &str, values: &[String], text: &mut String) -> Result<(), AllocError> {
+    for value in values {
+        add_value(key, value.as_str(), text)?;
+    }
+    Ok(())
+}
+
+/// Adds a value of a key.
+fn add_value(key: &str, value: &str, text: &mut String) -> Result<(), AllocError> {
+    text.push(' ')?;
+    text.push_str(key)?;
+    text.push('=')?;
+    text.push_str(value)
 }

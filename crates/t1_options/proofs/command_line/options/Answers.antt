@@ -1,7 +1,7 @@
 use Rattle.std.proofs.Common.{List, subst}
 use Rattle.std.proofs.lemmas.Result.{IfErr-weaker}
 use Rattle.clap.specs.Words.{Row}
-use Rattle.t1_settings.specs.Finding.{files_by}
+use Rattle.t1_options.specs.Settings.Finding.{files_by}
 use Rattle.t1_options.specs.Given.{given_in}
 use Rattle.t1_options.specs.Words.{AsksNothing}
 use Rattle.t1_options.specs.Words.IsRefused.{by_meaning}

@@ -1,7 +1,7 @@
 use Rattle.std.proofs.Common.{ap, subst, sym, ◌∙◌}
-use Rattle.t1_settings.specs.Finding.{files_by}
+use Rattle.t1_options.specs.Settings.Finding.{files_by}
 use Rattle.t1_options.specs.Given.{GivenValue}
-use Rattle.t1_options.specs.Words.{IsWrong}
+use Rattle.t1_options.specs.Words.{AreWrong, IsUsageOr}
 use Rattle.t1_options.proofs.command_line.request_of.Goals as goal
 
 pub returns-in-Err-clause-wrong : goal.returns-in-Err-clause-wrong
@@ -10,6 +10,7 @@ returns-in-Err-clause-wrong g c =
     record {
       no_version = sym (ap (λ (given : GivenValue). given.version) same) ∙ c.if-given.false;
       wrong = subst
-          (λ (given : GivenValue). IsWrong (files_by (g.F.FileSystem.leads c.args.files.now) (g.F.FileSystem.has_text c.args.files.now)) given c.in-Err.error)
+          (λ (given : GivenValue).
+          IsUsageOr (AreWrong (files_by (g.F.FileSystem.leads c.args.files.now) (g.F.FileSystem.has_text c.args.files.now)) given) c.in-Err.error)
           same c.in-Err.ensures.wrong;
     }

@@ -1,6 +1,6 @@
-use Rattle.std.proofs.Common.{sym}
-use Rattle.t1_options.specs.Private.Reported.IsReported.{reported}
+use Rattle.std.proofs.Common.{Some, ap, option_map, sym, ◌∙◌}
+use Rattle.t1_options.specs.Complaints.{usage_text}
 use Rattle.t1_options.proofs.judging.judge_words.Goals as goal
 
 pub returns-in-Some-clause-wrong : goal.returns-in-Some-clause-wrong
-returns-in-Some-clause-wrong c = reported c.in-Some.complaint (sym c.in-Some.ensures) c.in_ok-usage_text-in-Some.ensures
+returns-in-Some-clause-wrong c = ap (option_map usage_text) (sym c.in-Some.ensures) ∙ ap Some (sym c.in_ok-usage_text-in-Some.ensures)

@@ -1,23 +1,27 @@
-use Rattle.std.proofs.Common.{List, Option, option_map, refl, string_bytes, subst, ℕ}
-use Rattle.t1_settings.specs.Finding.{files_by}
-use Rattle.t1_settings.specs.Settled.{AreSettled, AreUnsettled, settings_value}
-use Rattle.t1_options.specs.Private.Reported.IsUnfound.{reported}
+use Rattle.std.proofs.Common.{List, Option, option_map, subst, ℕ}
+use Rattle.std.proofs.lemmas.Result.{IfErr-weaker, IfOk-weaker}
+use Rattle.t1_options.proofs.Judged.{told_so}
+use Rattle.t1_options.specs.Given.{given_value}
+use Rattle.t1_options.specs.Settings.Finding.{AreSettled, AreUnsettled, files_by}
+use Rattle.t1_options.specs.Settings.Reading.{settings_value}
+use Rattle.t1_options.specs.Words.{AreUnfound}
 use Rattle.t1_options.specs.Words.AreFound.{wanted}
 use Rattle.t1_options.proofs.judging.settings_of.Goals as goal
 
-pub returns-in-Ok-clause-found : goal.returns-in-Ok-clause-found
-returns-in-Ok-clause-found g c =
+pub returns-clause-found : goal.returns-clause-found
+returns-clause-found g c =
+    let files = files_by (g.F.FileSystem.leads c.args.files.now) (g.F.FileSystem.has_text c.args.files.now) in
+    IfOk-weaker c.settings_for.result _ _ (λ settings settled.
     wanted c.if-given.false
-    (subst
-    (λ (path : Option (List ℕ)). AreSettled (files_by (g.F.FileSystem.leads c.args.files.now) (g.F.FileSystem.has_text c.args.files.now)) path
-    (option_map settings_value c.in-Ok.settings))
-    c.first_path.ensures c.in-Ok.ensures.settled)
+    (subst (λ (path : Option (List ℕ)). AreSettled files path (option_map settings_value settings)) c.first_path.ensures settled))
+    c.settings_for.ensures.settled
 
-pub returns-in-Err-Usage-clause-unfound : goal.returns-in-Err-Usage-clause-unfound
-returns-in-Err-Usage-clause-unfound g c =
-    reported (string_bytes c.in-Err-Usage.text) c.if-given.false
-    (subst
-    (λ (path : Option (List ℕ)). AreUnsettled (files_by (g.F.FileSystem.leads c.args.files.now) (g.F.FileSystem.has_text c.args.files.now)) path
-    (string_bytes c.in-Err-Usage.text))
-    c.first_path.ensures (rw c.in-Err-Usage.field-0-is at c.in-Err-Usage.ensures.unsettled))
-    refl
+pub returns-clause-unfound : goal.returns-clause-unfound
+returns-clause-unfound g c =
+    let files = files_by (g.F.FileSystem.leads c.args.files.now) (g.F.FileSystem.has_text c.args.files.now) in
+    IfErr-weaker c.settings_for.result _ _ (λ error unsettled.
+    told_so (AreUnsettled files (option_map (λ s. s.now) c.first_path.result)) (AreUnfound files (given_value c.args.given.now)) error
+    (λ told is. record {
+      wanted = c.if-given.false;
+      unsettled = subst (λ (path : Option (List ℕ)). AreUnsettled files path told) c.first_path.ensures is;
+    }) unsettled) c.settings_for.ensures.unsettled

@@ -1,5 +1,0 @@
-pub mod FindingLemmas
-pub mod KeyLaws
-pub mod PathLemmas
-pub mod ReadingLemmas
-pub mod SettledLemmas

@@ -1,6 +1,0 @@
-use Rattle.std.proofs.Common.{◌≡◌, encode_utf8_all, flat_map, string_bytes, take}
-use Rattle.t1_settings.specs.Paths.{itself}
-use Rattle.t1_settings.proofs.paths.text_of.Given as goal
-
-abbrev pub invariant-loop-c : goal.invariant-loop-c
-invariant-loop-c l = string_bytes l.text ≡ encode_utf8_all (flat_map itself (take l.c-index l.name))
