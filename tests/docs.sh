@@ -6,7 +6,7 @@
 #   charstrings, the tokens that are written out are those that the program traces in the case's font: `A: ..` and `Subr 5: ..`. A line
 #   `X … (seven times) Y` means seven X and one Y. The lines with the reasons below them are those that t1check-all writes of that font.
 # - Each rule and each refusal has its text in the table of its kind, and each rule in its heading too; the texts of refusals are those of
-#   t1_refusals, in code and definition, and t1_font has those of a font's bytes. The pages that t1_forms keeps are those of docs/RULES.md.
+#   t1_refusals, in code and definition, and t1_font has those of a font's bytes. The pages of t1_pages are those of docs/RULES.md.
 # - Each rule is in all places that docs/ARCHITECTURE.md names for it; one that lacks rules is printed with their codes. A file that has all
 #   of them is named there. The definitions in a rule's row of docs/RULES.md are in the files that follow them, and the first of them
 #   is cited where specs/ says what breaks the rule. Above each row in specs/ is a source.
@@ -251,17 +251,11 @@ for page in "$top"/man/*.1; do
     if sed -n 1p "$page" | grep -qF " \"t1check $version\" "; then pass; else fail "${page##*/}: it isn't of version $version"; fi
 done
 
-for words in 'src/pages.rt' 'specs/Pages.antt specs'; do
-    file=crates/t1_forms/${words% *}
-    # shellcheck disable=SC2086
-    set -- $words
-    shift
-    if sh "$top/crates/t1_forms/pages.sh" "$@" | cmp -s - "$top/$file"; then
-        pass
-    else
-        fail "$file: crates/t1_forms/pages.sh $* writes another one of docs/RULES.md"
-    fi
-done
+if sh "$top/crates/t1_pages/pages.sh" | cmp -s - "$top/crates/t1_pages/src/lib.rt"; then
+    pass
+else
+    fail 'crates/t1_pages/src/lib.rt: crates/t1_pages/pages.sh writes another one of docs/RULES.md'
+fi
 
 # The places in which each rule is.
 specs=$top/crates/t1_rules/specs
@@ -365,10 +359,8 @@ sed -n 's/^### \([A-Z]*[0-9][0-9]\) .*/\1/p' "$rules" | grep -v '^E[0-9]' >"$scr
 compare_codes 'docs/RULES.md, the headings' codes <"$scratch/list"
 list_contents >"$scratch/list"
 compare_codes 'docs/RULES.md, the contents' codes <"$scratch/list"
-sed -n 's/^    code: "\(.*\)",$/\1/p' "$top/crates/t1_forms/src/pages.rt" | grep -v '^E[0-9]' >"$scratch/list"
-compare_codes crates/t1_forms/src/pages.rt codes <"$scratch/list"
-sed -n 's/^  code = codes "\(.*\)";$/\1/p' "$top/crates/t1_forms/specs/Pages.antt" | grep -v '^E[0-9]' >"$scratch/list"
-compare_codes crates/t1_forms/specs/Pages.antt codes <"$scratch/list"
+sed -n 's/^    code: "\(.*\)",$/\1/p' "$top/crates/t1_pages/src/lib.rt" | grep -v '^E[0-9]' >"$scratch/list"
+compare_codes crates/t1_pages/src/lib.rt codes <"$scratch/list"
 list_cases >"$scratch/list"
 compare_codes 'tests/program, cases of the rules and their fonts' codes <"$scratch/list"
 

@@ -97,6 +97,22 @@ https://example.org/RULES.md#e03-segment-cut-short
 END
     try 'pages of two of them' 0 grep -e '#e03-' -e '#k02-' "$scratch/pages"
 fi
+# Each rule's help is its page as t1_pages has it, whose texts are escaped as in JSON.
+limited "$all" -q --format sarif --docs https://example.org/RULES.md . |
+    sed 's/{"defaultConfiguration":{"level":"[a-z]*"},/\
+/g' | sed '1d; s/}}\],"version".*/}}/; s/,$//' >"$scratch/pages"
+awk '
+    match($0, /^    [a-z]*: "/) { page[substr($0, 5, RLENGTH - 7)] = substr($0, RLENGTH, length($0) - RLENGTH) }
+    /^};/ {
+        sub(/^"/, "", page["anchor"])
+        printf "\"help\":{\"markdown\":%s,\"text\":%s},\"helpUri\":\"https://example.org/RULES.md#%s,\"id\":%s,\"shortDescription\":{\"text\":%s}}\n", \
+            page["text"], page["text"], page["anchor"], page["code"], page["title"]
+    }
+' "$top/crates/t1_pages/src/lib.rt" >"$scratch/helps"
+wanted <<'END'
+--
+END
+try 'the page of each rule' 0 diff "$scratch/helps" "$scratch/pages"
 cd "$scratch" || exit 1
 
 # Where nothing is reported, or a part of the list has no font, a document is written and nothing else.

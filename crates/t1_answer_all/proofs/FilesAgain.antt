@@ -3,7 +3,7 @@ use Rattle.std.proofs.Common.{◌≡◌, ◌<◌, ◌==◌, ℕ, Bool, true, fal
 use Rattle.std.proofs.lemmas.Bool.{cases_Bool, true≢false}
 use Rattle.std.specs.List.{AllByRecursion, IsDistinct, flat_map}
 use Rattle.std.specs.Str.{bytes_eq}
-use Rattle.t1_batch.specs.Modes.{entry_readings, outcome_readings}
+use Rattle.t1_answer_all.specs.Modes.{entry_readings, outcome_readings}
 use Rattle.t1_char.specs.declared.edition.Edition.{Edition}
 use Rattle.t1_font.proofs.LimitsKept.{fonts_within_limits}
 use Rattle.t1_font.specs.FontFiles.{font_in}

@@ -8,7 +8,7 @@ use Rattle.std.specs.List.{AllByRecursion, IsDistinct, flat_map}
 use Rattle.std.specs.Str.{bytes_eq}
 use Rattle.std.specs.Str.Parse.{digits_value}
 use Rattle.t1_many.specs.Told.{all_handed}
-use Rattle.t1_batch.specs.Modes.{beyond as of_beyond, entry_readings, judges_of, kinds_of, outcome_readings}
+use Rattle.t1_answer_all.specs.Modes.{beyond as of_beyond, entry_readings, judges_of, kinds_of, outcome_readings}
 use Rattle.t1_known.proofs.KeptRows.{one_key}
 use Rattle.t1_known.proofs.ReadRows.{read_in_line}
 use Rattle.t1_known.specs.Keys.{count_at, key_of, key_text}

@@ -2,7 +2,7 @@
 use Rattle.std.proofs.Common.{◌≡◌, ◌+◌, ◌<◌, ℕ, List, [], ◌∷◌, ◌++◌, ap, append-nil, replicate, subst, sym, ◌∙◌}
 use Rattle.std.proofs.lemmas.List.Folds.{concat-append}
 use Rattle.std.specs.List.{concat}
-use Rattle.t1_batch.proofs.GivenEach.{replicate-push, replicate-within}
+use Rattle.t1_answer_all.proofs.GivenEach.{replicate-push, replicate-within}
 use Rattle.t1_io.proofs.SinkLemmas.{PutFailed-first, PutFailed-second, Wrote-trans}
 use Rattle.t1_io.specs.Devices.{PutFailed, SinkState, Wrote}
 

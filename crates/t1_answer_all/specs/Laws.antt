@@ -1,9 +1,9 @@
 -- The statements of laws.
 use Rattle.std.specs.Prelude.{◌≡◌, ◌⊎◌, ◌<◌, ℕ, List, [], length, map, Option, None, Some, Result, Ok, Err}
-use Rattle.std.specs.List.{AllByRecursion, IsDistinct}
+use Rattle.std.specs.List.{AllByRecursion, IsDistinct, list_any}
 use Rattle.std.specs.Str.{bytes_eq}
-use Rattle.t1_batch.specs.Endings.{mismatches_text}
-use Rattle.t1_batch.specs.Modes.{anew, beyond, judges_of, readings_of}
+use Rattle.t1_answer_all.specs.Endings.{has_failing, mismatches_text}
+use Rattle.t1_answer_all.specs.Modes.{anew, beyond, judges_of, readings_of}
 use Rattle.t1_char.specs.declared.edition.Edition.{Edition}
 use Rattle.t1_io.specs.Devices.{SourceState}
 use Rattle.t1_known.specs.Readings.{IsReadable}
@@ -25,6 +25,7 @@ use Rattle.t1_rules.specs.declared.rule.Rule.{Rule}
 use Rattle.t1_many.specs.declared.font_error.FontError.TheVariants.{Refused, Unchecked}
 use Rattle.t1_many.specs.declared.font_error.Obstacle.TheVariants.{LineEnd, Memory, Unread, WaiversUnread}
 use Rattle.t1_names.specs.declared.causes.Cause.{Cause}
+use Rattle.t1_summary.specs.Tallies.{tally_of}
 use Rattle.t1_summary.specs.declared.found.Found.{Found}
 use Rattle.t1_summary.specs.declared.found.Found.TheVariants.{Clean, Known}
 
@@ -102,3 +103,11 @@ AnUpdateOfFilesIsQuietNextTime =
     → AreCheckedIn bytes_of text_of beside edition listed entries → AreCheckedIn bytes_of text_of beside edition listed again
     → AreChosenBy choice rules → IsReadAs text (Ok rows)
     → IsReadAs (file_text (updated choice (readings_of (anew rows) rules entries) rows)) (Ok known) → IsQuiet choice rules known again
+
+-- ---- statuses
+
+-- A tally has a line of one of these rules exactly where such a line was counted.
+abbrev pub StatusesAreByLines : Type 0
+StatusesAreByLines =
+    (failing : Mask) (founds : List Found) (lines : List Rule)
+    → has_failing failing (tally_of founds lines) ≡ list_any (λ line. has failing (number_of line)) lines

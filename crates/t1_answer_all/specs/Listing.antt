@@ -2,7 +2,7 @@
 use Rattle.std.specs.Prelude.{◌≡◌, ◌≢◌, ◌≤◌, ◌-◌, ℕ, List, [], map, string_bytes, Option, None, Some}
 use Rattle.std.specs.List.{AllZip}
 use Rattle.std.specs.Str.{chars}
-use Rattle.t1_batch.specs.Unlisted.{unlisted_told}
+use Rattle.t1_answer_all.specs.Unlisted.{unlisted_told}
 use Rattle.t1_forms.specs.Tellings.{ToldValue}
 use Rattle.t1_many.specs.Shards.{part_of}
 use Rattle.t1_names.specs.Globs.{Glob, IsRead}

@@ -1,3 +1,4 @@
 -- Words that private contracts alone cite: no clause of a public function rests on them.
+pub mod Updates
 pub mod Usage
 pub mod Words

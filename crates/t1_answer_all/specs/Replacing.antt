@@ -1,10 +1,13 @@
 -- Files that are replaced once all was printed.
-use Rattle.std.specs.Prelude.{◌≡◌, ◌⊎◌, ◌++◌, ◌&&◌, ℕ, Bool, true, false, List, [], ◌∷◌, codes, Option, None, Some, option_map, Result, Ok, Err, string_bytes, if◌then◌else◌}
+use Rattle.std.specs.Prelude.{◌≡◌, ◌⊎◌, ◌++◌, ◌&&◌, ℕ, Bool, true, false, List, [], ◌∷◌, codes, Option, None, Some, Result, Ok, Err, string_bytes, if◌then◌else◌}
 use Rattle.std.specs.List.{concat}
-use Rattle.t1_answer_all.specs.declared.replacing.NewFile.{NewFile}
-use Rattle.t1_answer_all.specs.declared.replacing.Replacements.{Replacements}
-use Rattle.t1_batch.specs.Runs.{program}
+use Rattle.t1_answer_all.specs.Runs.{LeftValue, program}
 use Rattle.t1_io.specs.Devices.{SinkState}
+use Rattle.t1_options.specs.declared.asked.KnownFaults.{KnownFaults}
+use Rattle.t1_options.specs.declared.asked.KnownFaults.TheVariants.{Anew, Beyond, Unnamed}
+use Rattle.t1_options.specs.declared.asked.Options.{Options}
+use Rattle.t1_options.specs.declared.asked.Waivers.{Waivers}
+use Rattle.t1_options.specs.declared.asked.Waivers.TheVariants as waivers
 use Rattle.t1_run.specs.Failures.{out_of_memory_line}
 use Rattle.t1_run.specs.Telling.{Tells}
 use Rattle.t1_run.specs.declared.status.Status.{Status}
@@ -14,29 +17,6 @@ use Rattle.t1_names.specs.Causes.{cause_of, cause_text}
 use Rattle.t1_names.specs.declared.causes.Cause.{Cause}
 use Rattle.std.specs.IoError.{error_kind}
 use Rattle.std.specs.declared.io.Error.{Error}
-
--- A file that is to be replaced.
-pub record NewFileValue : Type 0 where
-  pub name : List ℕ
-  pub text : List ℕ
-
-abbrev pub new_file_value : NewFile → NewFileValue
-new_file_value file = record { name = string_bytes file.name; text = file.text.items }
-
--- What is left to do.
-pub record ReplacementsValue : Type 0 where
-  pub status : Status
-  pub known_faults : Option NewFileValue
-  pub waivers : Option (List FontText)
-  pub overwrites : Bool
-
-abbrev pub replacements_value : Replacements → ReplacementsValue
-replacements_value left = record {
-  status = left.status;
-  known_faults = option_map new_file_value left.known_faults;
-  waivers = left.waivers;
-  overwrites = left.overwrites;
-}
 
 -- Why a text couldn't be put in the place of a file, if it couldn't.
 abbrev pub put_failure : Result (Unit {0}) Error → Option Cause
@@ -68,17 +48,26 @@ pub data PutsFile {F : Type 0} (Puts : F → F → List ℕ → List ℕ → Opt
       (cause : Cause) → Puts old new name text (Some cause) → TellsFailure (unwritten_line name cause) errors errors' → done ≡ false
       → PutsFile Puts name text old new errors errors' done
 
--- The file of known faults, if it is to be replaced.
-abbrev pub PutsKnownFaults : {F : Type 0} → (F → F → List ℕ → List ℕ → Option Cause → Type 0) → Option NewFileValue → F → F → SinkState → SinkState → Bool
-    → Type 0
-PutsKnownFaults Puts None old new errors errors' done = (new ≡ old) × (errors' ≡ errors) × (done ≡ true)
-PutsKnownFaults Puts (Some file) old new errors errors' done = PutsFile Puts file.name file.text old new errors errors' done
+-- The file of known faults, if it is made anew and there is a text for it.
+abbrev pub PutsKnownFaults : {F : Type 0} → (F → F → List ℕ → List ℕ → Option Cause → Type 0) → KnownFaults → Option (List ℕ) → F → F → SinkState
+    → SinkState → Bool → Type 0
+PutsKnownFaults Puts (Anew file) (Some text) old new errors errors' done = PutsFile Puts (string_bytes file) text old new errors errors' done
+PutsKnownFaults Puts (Anew file) None old new errors errors' done = (new ≡ old) × (errors' ≡ errors) × (done ≡ true)
+PutsKnownFaults Puts (Beyond file) text old new errors errors' done = (new ≡ old) × (errors' ≡ errors) × (done ≡ true)
+PutsKnownFaults Puts Unnamed text old new errors errors' done = (new ≡ old) × (errors' ≡ errors) × (done ≡ true)
 
 -- ---- waivers
 
 -- The file of the waivers of a font.
 abbrev pub waivers_name : List ℕ → List ℕ
 waivers_name font = font ++ codes ".waivers"
+
+-- Waivers are written over those that are there.
+abbrev pub overwrites : Waivers → Bool
+overwrites waivers.Read = false
+overwrites waivers.LeftAside = false
+overwrites waivers.Written = false
+overwrites waivers.Overwritten = true
 
 -- They are kept back where there is such a file already, unless it is overwritten.
 abbrev pub IsKeptBack : {F : Type 0} → (F → List ℕ → Bool → Type 0) → Bool → F → List ℕ → Bool → Type 0
@@ -128,12 +117,12 @@ status_if done status = if done then status else Failed
 
 -- The file of known faults is replaced, if it is left to be, and the waivers are written that are left to be: no other file is touched. Where
 -- something failed, that is printed, and the status is that of a failure.
-pub record Replaces {F : Type 0} (Puts : F → F → List ℕ → List ℕ → Option Cause → Type 0) (Has : F → List ℕ → Bool → Type 0) (left : ReplacementsValue)
-    (old new : F) (errors errors' : SinkState) (status : Status) : Type 0 where
+pub record Replaces {F : Type 0} (Puts : F → F → List ℕ → List ℕ → Option Cause → Type 0) (Has : F → List ℕ → Bool → Type 0) (options : Options)
+    (left : LeftValue) (old new : F) (errors errors' : SinkState) (status : Status) : Type 0 where
   pub between : F
   pub behind : SinkState
   pub known : Bool
   pub waivers : Bool
-  pub known_faults : PutsKnownFaults Puts left.known_faults old between errors behind known
-  pub waivers_are : PutsWaivers Puts Has left.overwrites left.waivers between new behind errors' waivers
+  pub known_faults : PutsKnownFaults Puts options.known_faults left.known_faults old between errors behind known
+  pub waivers_are : PutsWaivers Puts Has (overwrites options.waivers) left.waivers between new behind errors' waivers
   pub status_is : status ≡ status_if (known && waivers) left.status

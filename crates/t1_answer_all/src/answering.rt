@@ -1,21 +1,22 @@
 //! From the words of the command line to lines, files and a status.
 
-ghost use Rattle.std.specs.Prelude.{◌≡◌, map, option_map};
-ghost use Rattle.t1_answer_all.specs.Answers.{Answers, Checks, GivesVersion, StopsEarly, file_anew, overwrites, to_replace};
+ghost use Rattle.std.specs.Prelude.{map};
+ghost use Rattle.t1_answer_all.specs.Answers.{Answers, Checks, GivesVersion, StopsEarly};
 ghost use Rattle.t1_answer_all.specs.Places.{known_by, lists_by};
-ghost use Rattle.t1_answer_all.specs.Replacing.{new_file_value, replacements_value};
-ghost use Rattle.t1_batch.specs.Runs.{left_value};
-ghost use Rattle.t1_settings.specs.Finding.{files_by};
+ghost use Rattle.t1_forms.specs.PageValues.{page_value};
+ghost use Rattle.t1_options.specs.Settings.Finding.{files_by};
 
 use crate::checking::{check_by, stopped};
-use crate::replacing::{FileStore, NewFile, Replacements, replace_files};
+use crate::plan::Asked;
+use crate::replacing::{FileStore, replace_files};
+use crate::running::PROGRAM;
 use std::alloc::Global;
 use std::convert::AsStr;
-use t1_batch::{Left, PROGRAM};
+use t1_forms::Page;
 use t1_io::Sink;
 use t1_many::FontFiles;
 use t1_names::FileSystem;
-use t1_options::{HELP, KnownFaults, Options, Request, Waivers, options};
+use t1_options::{HELP, Options, Request, options};
 use t1_run::{Status, UsageError, give};
 
 /// What was answered.
@@ -30,11 +31,12 @@ pub struct Answered<W: Sink + Drop, E: Sink + Drop> {
 }
 
 /// Answers the words of the command line, the program's name first: with help, with what is wrong, with the version, whose text is given, or
-/// with a check of the fonts that they name, after which the files are replaced that are to be.
+/// with a check of the fonts that they name, after which the files are replaced that are to be. A document of SARIF has the pages that are given.
 pub fn answer<S, F, W, E>(
     alloc: Global,
     words: &[S],
     version: &[u8],
+    pages: &[Page],
     files: &mut F,
     out: W,
     errors: E,
@@ -44,13 +46,13 @@ where
     F: FileSystem + FontFiles + FileStore,
     W: Sink + Drop,
     E: Sink + Drop,
-    ensures { Answers HELP.now version.now (map S.text words.now) (files_by (F.leads files.old) (F.has_text files.old))
+    ensures { Answers HELP.now version.now (map page_value pages.now) (map S.text words.now) (files_by (F.leads files.old) (F.has_text files.old))
         (known_by (F.has_text files.old)) (lists_by (F.has_list files.old) (F.leads files.old) (F.lists files.old))
         (record { calls = F.calls; Expects = F.expects; Puts = F.puts; Has = F.has }) files.old files.new
         (record { out = W.state out; errors = E.state errors }) (record { out = W.state result.out; errors = E.state result.errors }) result.status }
 {
     match options(alloc, words, files) {
-        Ok(Request::Check(options)) => check(alloc, options, files, out, errors),
+        Ok(Request::Check(options)) => check(alloc, options, pages, files, out, errors),
         Ok(Request::Version) => give_version(version, out, errors),
         Err(error) => explained(&error, out, errors),
     }
@@ -60,6 +62,7 @@ where
 fn check<F, W, E>(
     alloc: Global,
     options: Options,
+    pages: &[Page],
     files: &mut F,
     out: W,
     errors: E,
@@ -69,49 +72,20 @@ where
     W: Sink + Drop,
     E: Sink + Drop,
     ensures { Checks (known_by (F.has_text files.old)) (lists_by (F.has_list files.old) (F.leads files.old) (F.lists files.old))
-        (record { calls = F.calls; Expects = F.expects; Puts = F.puts; Has = F.has }) options files.old files.new
+        (record { calls = F.calls; Expects = F.expects; Puts = F.puts; Has = F.has }) (map page_value pages.now) options files.old files.new
         (record { out = W.state out; errors = E.state errors }) (record { out = W.state result.out; errors = E.state result.errors }) result.status }
 {
-    let ran = check_by(alloc, &options, files, out, errors);
-    let left = to_replace(options, ran.left);
+    let asked = Asked {
+        options: &options,
+        pages,
+    };
+    let ran = check_by(alloc, asked, files, out, errors);
     let mut errors = ran.errors;
-    let status = replace_files(alloc, &left, files, &mut errors);
+    let status = replace_files(alloc, &options, &ran.left, files, &mut errors);
     Answered {
         status,
         out: ran.out,
         errors,
-    }
-}
-
-/// What a run by these options leaves to be replaced.
-fn to_replace(options: Options, left: Left) -> Replacements
-    ensures { replacements_value result ≡ to_replace options (left_value left) }
-{
-    Replacements {
-        status: left.status,
-        known_faults: file_anew(options.known_faults, left.known_faults),
-        waivers: left.waivers,
-        overwrites: overwrites(options.waivers),
-    }
-}
-
-/// The file of known faults that is replaced, if one is made anew and there is a text for it.
-fn file_anew(file: KnownFaults, text: Option<Vec<u8>>) -> Option<NewFile>
-    ensures { option_map new_file_value result ≡ file_anew file (option_map (λ t. t.items) text) }
-{
-    match (file, text) {
-        (KnownFaults::Anew(name), Some(text)) => Some(NewFile { name, text }),
-        _ => None,
-    }
-}
-
-/// Whether waivers are written over those that are there.
-fn overwrites(waivers: Waivers) -> bool
-    ensures { result ≡ overwrites waivers }
-{
-    match waivers {
-        Waivers::Overwritten => true,
-        Waivers::Read | Waivers::LeftAside | Waivers::Written => false,
     }
 }
 

@@ -1,6 +1,6 @@
 //! Laws above the definitions: each is the contract of a function that does nothing, but for calling the laws on which it rests.
 
-ghost use Rattle.t1_answer_all.specs.Laws.{AnUpdateIsQuietNextTime, AnUpdateOfFilesIsQuietNextTime};
+ghost use Rattle.t1_answer_all.specs.Laws.{AnUpdateIsQuietNextTime, AnUpdateOfFilesIsQuietNextTime, StatusesAreByLines};
 
 use t1_known::updates_are_read_back;
 use t1_many::a_text_is_one_row;
@@ -22,3 +22,9 @@ pub fn an_update_of_files_is_quiet_next_time()
     updates_are_read_back();
     a_text_is_one_row();
 }
+
+/// The status is that of faults exactly where a line was handed on whose rule makes it so.
+#[tactic(auto, using(crate::proofs::FailingLines::statuses_are_by_lines))]
+pub fn statuses_are_by_lines()
+    ensures { StatusesAreByLines }
+{}

@@ -8,25 +8,44 @@
 //!
 //! - [`answer`]: words get help, a usage error, the version, or a check by the options that they and the settings mean. Fonts are checked if the known
 //!   faults and the lists can be read and there is a font; else the first thing wrong is the usage error.
-//! - Listed fonts are checked as a [`run`](t1_batch::run) of t1_batch. Each is opened once and its waivers at most once, and none of them where they
-//!   are ignored or written; nothing is read of a file behind its end or a failed read.
+//! - [`run`]: the listed fonts are checked in order, what is chosen of their lines is written in the layout that is requested, and what comes after
+//!   all fonts is printed. Each font is opened once and its waivers at most once, and none of them where they are ignored or written; nothing is read
+//!   of a file behind its end or a failed read.
 //! - [`replace_files`]: exactly the files left to be replaced are, known faults first, then waivers by font. Existing waivers are kept unless they
 //!   are to be overwritten. If some are kept, or a file can't be replaced, that is printed, and the status is that of a failure.
 //! - [`an_update_is_quiet_next_time`]: after an update of known faults, the next check of the same fonts by the same rules hands on no line of a
 //!   report. Each font has to be checked once, and what was found has to be readable from rows. [`an_update_of_files_is_quiet_next_time`]: of files
 //!   that hold the same bytes both are so.
+//! - [`statuses_are_by_lines`]: the status is that of faults exactly where a line was handed on whose rule makes it so.
 #![tactic(auto)]
 
 mod answering;
 mod checking;
+mod ending;
+mod findings;
 mod known;
 mod laws;
+mod layout;
 mod listing;
+mod mode;
+mod plan;
 mod replacing;
+mod running;
+mod shards;
 mod telling;
+mod unlisted;
 mod usage;
 mod words;
+mod writing;
 
 pub use answering::{Answered, answer};
-pub use laws::{an_update_is_quiet_next_time, an_update_of_files_is_quiet_next_time};
-pub use replacing::{FileStore, NewFile, Replacements, replace_files, waivers_name};
+pub use laws::{
+    an_update_is_quiet_next_time, an_update_of_files_is_quiet_next_time, statuses_are_by_lines,
+};
+pub use layout::Layout;
+pub use mode::Mode;
+pub use plan::Plan;
+pub use replacing::{FileStore, replace_files, waivers_name};
+pub use running::{Left, PROGRAM, Ran, run};
+pub use shards::names_of_part;
+pub use unlisted::Unlisted;

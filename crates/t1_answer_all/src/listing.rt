@@ -7,10 +7,11 @@ ghost use Rattle.t1_answer_all.specs.Places.{lists_by};
 ghost use Rattle.t1_answer_all.specs.Usage.{IsToldSo};
 ghost use Rattle.t1_names.specs.GlobValues.{glob_of};
 
+use crate::shards::names_of_part;
+use crate::unlisted::Unlisted;
 use crate::usage::no_font;
 use crate::words::all_words;
 use std::alloc::{AllocError, Global};
-use t1_batch::{Unlisted, names_of_part};
 use t1_names::{FileSystem, Glob, fonts_named};
 use t1_options::{Options, Shard};
 use t1_run::UsageError;

@@ -1,16 +1,18 @@
 //! Files that are replaced once all was printed.
 
 ghost use Rattle.std.specs.Prelude.{◌≡◌, ℕ, IfOk, List, Bool, Option, map, option_map, string_bytes};
-ghost use Rattle.t1_answer_all.specs.Replacing.{IsKeptBack, PutsEach, PutsFile, PutsKnownFaults, PutsWaivers, PutsWaiversOf, Replaces, TriesToPut, new_file_value, put_failure, replacements_value, status_if, unwritten_text, waivers_name};
+ghost use Rattle.t1_answer_all.specs.Replacing.{IsKeptBack, PutsEach, PutsFile, PutsKnownFaults, PutsWaivers, PutsWaiversOf, Replaces, TriesToPut, overwrites, put_failure, status_if, unwritten_text, waivers_name};
+ghost use Rattle.t1_answer_all.specs.Runs.{left_value};
 ghost use Rattle.t1_names.specs.declared.causes.Cause.{Cause};
 ghost use Rattle.t1_run.specs.Telling.{Tells};
 ghost use Rattle.t1_waiving.specs.FontTexts.{font_text};
 
+use crate::running::{Left, PROGRAM};
 use std::alloc::{AllocError, Global};
 use std::io;
-use t1_batch::PROGRAM;
 use t1_io::Sink;
 use t1_names::Cause;
+use t1_options::{KnownFaults, Options, Waivers};
 use t1_run::{Failure, Status, tell_failure, tell_parts};
 use t1_waiving::{FontWaivers, Kept};
 
@@ -38,41 +40,31 @@ pub trait FileStore {
         ensures { has self.now name.now result };
 }
 
-/// A file that is to be replaced.
-#[derive(Drop)]
-pub struct NewFile {
-    /// Its name.
-    pub name: String,
-    /// The text that it has from then on.
-    pub text: Vec<u8>,
-}
-
-/// What is left to do once all was answered.
-#[derive(Drop)]
-pub struct Replacements {
-    /// The status so far.
-    pub status: Status,
-    /// The file of known faults, if it is replaced.
-    pub known_faults: Option<NewFile>,
-    /// The waivers that are written beside their fonts, if some are.
-    pub waivers: Option<Kept>,
-    /// Whether waivers are written over those that are there.
-    pub overwrites: bool,
-}
-
-/// Replaces the files that are left to be replaced, and returns the status. A file that can't be replaced is reported; so are waivers that are there
-/// already, unless they are overwritten. Then the status is that of a failure, and the rest is done all the same.
+/// Replaces the files that a run by these options left to be replaced, and returns the status. A file that can't be replaced is reported; so are
+/// waivers that are there already, unless they are overwritten. Then the status is that of a failure, and the rest is done all the same.
 pub fn replace_files<F: FileStore, E: Sink>(
     alloc: Global,
-    left: &Replacements,
+    options: &Options,
+    left: &Left,
     files: &mut F,
     errors: &mut E,
 ) -> Status
-    ensures { Replaces F.puts F.has (replacements_value left.now) files.old files.new (E.state errors.old) (E.state errors.new) result }
+    ensures { Replaces F.puts F.has options.now (left_value left.now) files.old files.new (E.state errors.old) (E.state errors.new) result }
 {
-    let known_faults = put_known_faults(&left.known_faults, files, errors);
-    let waivers = put_waivers(alloc, &left.waivers, left.overwrites, files, errors);
+    let known_faults = put_known_faults(&options.known_faults, &left.known_faults, files, errors);
+    let overwrites = overwrites(options.waivers);
+    let waivers = put_waivers(alloc, &left.waivers, overwrites, files, errors);
     status_if(known_faults & waivers, left.status)
+}
+
+/// Whether waivers are written over those that are there.
+fn overwrites(waivers: Waivers) -> bool
+    ensures { result ≡ overwrites waivers }
+{
+    match waivers {
+        Waivers::Overwritten => true,
+        Waivers::Read | Waivers::LeftAside | Waivers::Written => false,
+    }
 }
 
 /// The status, unless something failed.
@@ -82,17 +74,23 @@ fn status_if(done: bool, status: Status) -> Status
     if done { status } else { Status::Failed }
 }
 
-/// Replaces the file of known faults, if it is to be replaced. Whether nothing failed.
+/// Replaces the file of known faults, if it is made anew and there is a text for it. Whether nothing failed.
 fn put_known_faults<F: FileStore, E: Sink>(
-    file: &Option<NewFile>,
+    file: &KnownFaults,
+    text: &Option<Vec<u8>>,
     files: &mut F,
     errors: &mut E,
 ) -> bool
-    ensures { PutsKnownFaults F.puts (option_map new_file_value file.now) files.old files.new (E.state errors.old) (E.state errors.new) result }
+    ensures { PutsKnownFaults F.puts file.now (option_map (λ t. t.items) text.now) files.old files.new (E.state errors.old) (E.state errors.new) result }
 {
-    match file {
-        Some(file) => put_file(file.name.as_str(), file.text.as_slice(), files, errors),
-        None => true,
+    match (file, text) {
+        (KnownFaults::Anew(name), Some(text)) => put_file(
+            name.as_str(),
+            text.as_slice(),
+            files,
+            errors,
+        ),
+        _ => true,
     }
 }
 

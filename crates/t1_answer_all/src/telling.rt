@@ -5,7 +5,7 @@ ghost use Rattle.std.specs.List.{concat, flat_map};
 ghost use Rattle.t1_answer_all.specs.Telling.{undecoded_line, unlisted_text, unsearched_line};
 ghost use Rattle.t1_io.specs.Devices.{Writes};
 
-use t1_batch::Unlisted;
+use crate::unlisted::Unlisted;
 use t1_io::{Broken, Sink, put_all};
 use t1_many::tell_unchecked;
 

@@ -1,9 +1,7 @@
 -- Fonts whose reports were made.
-use Rattle.std.specs.Prelude.{◌≡◌, ◌<◌, ◌^◌, ℕ, true, List, length, map}
-use Rattle.std.specs.Borrow.{Bor}
+use Rattle.std.specs.Prelude.{◌≡◌, ◌<◌, ◌^◌, ℕ, true, List, length}
 use Rattle.std.specs.List.{AllByRecursion, AllZip}
 use Rattle.t1_known.specs.Lines.{has_no_line_end}
-use Rattle.t1_many.specs.Choice.{Choice}
 use Rattle.t1_many.specs.KnownFaults.{IsKind, Reading}
 use Rattle.t1_many.specs.Readings.{IsReadingOf}
 use Rattle.t1_many.specs.declared.readings.Reading.{Reading as Kept}
@@ -23,7 +21,3 @@ pub record IsReadable (reading : Reading) : Type 0 where
   pub few : length reading.kinds < 2 ^ 64
   pub named : 0 < length reading.font
   pub font : has_no_line_end reading.font ≡ true
-
--- The words of `--only` and of `--except`.
-abbrev pub choice_of : List (Bor (List ℕ)) → List (Bor (List ℕ)) → Choice
-choice_of only except = record { only = map (λ word. word.now) only; except = map (λ word. word.now) except }

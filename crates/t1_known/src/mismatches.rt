@@ -7,8 +7,9 @@ ghost use Rattle.t1_io.specs.Devices.{Writes};
 ghost use Rattle.t1_known.specs.Private.Fonts.{left_at};
 ghost use Rattle.t1_known.specs.Private.Kept.{AreKept};
 ghost use Rattle.t1_known.specs.Private.Mismatches.{told_in, told_of};
-ghost use Rattle.t1_known.specs.Readings.{AreReadingsOf, choice_of};
+ghost use Rattle.t1_known.specs.Readings.{AreReadingsOf};
 ghost use Rattle.t1_known.specs.Writes.{WritesAll};
+ghost use Rattle.t1_many.specs.Choice.{choice_of};
 ghost use Rattle.t1_many.specs.KnownFaults.{Reading as ReadingValue, differs, mismatch, mismatch_at, rule_of};
 ghost use Rattle.t1_many.specs.RowValues.{row_value};
 ghost use Rattle.t1_scan.specs.Bytes.{is_decimal_digit};
@@ -20,7 +21,7 @@ use itoa::Buffer;
 use std::alloc::Global;
 use t1_io::{Broken, Sink, put_parts};
 use t1_lines::cut;
-use t1_many::{Lost, Reading, Row, is_told};
+use t1_many::{Choice, Lost, Reading, Row, is_told};
 
 /// Writes of which rows of known faults more or fewer were found, in their order, a line each:
 /// `a.pfb: known faults: H02 glyph A: 3 known, 1 found`.
@@ -32,16 +33,15 @@ pub fn write_mismatches<W: Sink>(
     sink: &mut W,
     known: &KnownFaults<'_>,
     readings: &[Reading],
-    only: &[&[u8]],
-    except: &[&[u8]],
+    choice: Choice<'_>,
 ) -> Result<(), Lost>
     ensures { (all : List ReadingValue) → AreReadingsOf readings.now all → WritesAll (W.state sink.old) (W.state sink.new)
-        (flat_map (mismatch (choice_of only.now except.now) all) known.now) result }
+        (flat_map (mismatch (choice_of choice.entry) all) known.now) result }
 {
     let Ok(fonts) = fonts_of(alloc, readings) else {
         return Err(Lost::Memory);
     };
-    tell_rows(sink, &known.rows, &fonts, only, except)?;
+    tell_rows(sink, &known.rows, &fonts, choice)?;
     Ok(())
 }
 
@@ -50,15 +50,14 @@ fn tell_rows<W: Sink>(
     sink: &mut W,
     rows: &Rows<'_>,
     fonts: &Fonts<'_>,
-    only: &[&[u8]],
-    except: &[&[u8]],
+    choice: Choice<'_>,
 ) -> Result<(), Broken>
     requires { ∥ AreKept rows.now.entries ∥₁ }
     ensures { Writes (W.state sink.old) (W.state sink.new)
-        (flat_map (told_of (choice_of only.now except.now) fonts.now.entries) rows.now.entries) result }
+        (flat_map (told_of (choice_of choice.entry) fonts.now.entries) rows.now.entries) result }
 {
     for (_key, row) in rows.iter() {
-        tell_row(sink, row, fonts, only, except)?;
+        tell_row(sink, row, fonts, choice)?;
     }
     Ok(())
 }
@@ -68,17 +67,16 @@ fn tell_row<W: Sink>(
     sink: &mut W,
     row: &Row<'_>,
     fonts: &Fonts<'_>,
-    only: &[&[u8]],
-    except: &[&[u8]],
+    choice: Choice<'_>,
 ) -> Result<(), Broken>
     requires { list_all is_decimal_digit row.now.count.now ≡ true }
     ensures { Writes (W.state sink.old) (W.state sink.new)
-        (told_in (choice_of only.now except.now) (row_value row.now) (left_at fonts.now.entries row.now.font.now)) result }
+        (told_in (choice_of choice.entry) (row_value row.now) (left_at fonts.now.entries row.now.font.now)) result }
 {
     let Some(Some(reading)) = fonts.get(&row.font) else {
         return Ok(());
     };
-    if !is_told(only, except, rule_of(row.kind)) {
+    if !is_told(choice, rule_of(row.kind)) {
         return Ok(());
     }
     put_mismatch(sink, row, count_of(&reading.counts, row.kind))

@@ -7,9 +7,9 @@ ghost use Rattle.t1_known.specs.Keys.{key_of};
 ghost use Rattle.t1_known.specs.Private.Fonts.{IsLeft, IsTaken, count_text, left_at, left_text, now_of, row_of, rows_text};
 ghost use Rattle.t1_known.specs.Private.Kept.{AreKept, rows_now};
 ghost use Rattle.t1_known.specs.Private.Updates.{LeavesBy, PutsRows, behind_text, row_put};
-ghost use Rattle.t1_known.specs.Readings.{AreReadingsOf, choice_of};
+ghost use Rattle.t1_known.specs.Readings.{AreReadingsOf};
 ghost use Rattle.t1_known.specs.Writes.{WritesAll};
-ghost use Rattle.t1_many.specs.Choice.{is_told};
+ghost use Rattle.t1_many.specs.Choice.{choice_of, is_told};
 ghost use Rattle.t1_many.specs.KnownFaults.{Reading as ReadingValue, file_text, row_text, rule_of, updated};
 ghost use Rattle.t1_many.specs.RowValues.{row_value};
 
@@ -19,7 +19,7 @@ use crate::readings::{Fonts, fonts_of, take_left};
 use itoa::Buffer;
 use std::alloc::Global;
 use t1_io::{Broken, Sink, put_all, put_parts};
-use t1_many::{Counts, Lost, Reading, Row, is_told};
+use t1_many::{Choice, Counts, Lost, Reading, Row, is_told};
 
 /// Writes a new file of known faults:
 ///
@@ -33,17 +33,16 @@ pub fn write_updated<'a, W: Sink>(
     sink: &mut W,
     known: &KnownFaults<'a>,
     readings: &'a [Reading],
-    only: &[&[u8]],
-    except: &[&[u8]],
+    choice: Choice<'_>,
 ) -> Result<(), Lost>
     ensures { (all : List ReadingValue) → AreReadingsOf readings.now all → WritesAll (W.state sink.old) (W.state sink.new)
-        (file_text (updated (choice_of only.now except.now) all known.now)) result }
+        (file_text (updated (choice_of choice.entry) all known.now)) result }
 {
     let Ok(mut left) = fonts_of(alloc, readings) else {
         return Err(Lost::Memory);
     };
     put_all(sink, b"# Known faults: count, rule, unit, font.\n")?;
-    put_rows(sink, &known.rows, &mut left, only, except)?;
+    put_rows(sink, &known.rows, &mut left, choice)?;
     put_others(sink, readings, &mut left)?;
     Ok(())
 }
@@ -53,15 +52,14 @@ fn put_rows<'a, W: Sink>(
     sink: &mut W,
     rows: &Rows<'a>,
     left: &mut Fonts<'a>,
-    only: &[&[u8]],
-    except: &[&[u8]],
+    choice: Choice<'_>,
 ) -> Result<(), Broken>
     requires { ∥ AreKept rows.now.entries ∥₁ }
-    ensures { PutsRows (choice_of only.now except.now) (rows_now rows.now.entries) (W.state sink.old) (W.state sink.new)
+    ensures { PutsRows (choice_of choice.entry) (rows_now rows.now.entries) (W.state sink.old) (W.state sink.new)
         left.old.entries left.new.entries result }
 {
     for (key, row) in rows.iter() {
-        put_row(sink, key, row, left, only, except)?;
+        put_row(sink, key, row, left, choice)?;
     }
     Ok(())
 }
@@ -72,16 +70,15 @@ fn put_row<'a, W: Sink>(
     key: &[u8],
     row: &Row<'a>,
     left: &mut Fonts<'a>,
-    only: &[&[u8]],
-    except: &[&[u8]],
+    choice: Choice<'_>,
 ) -> Result<(), Broken>
     requires { key.now ≡ key_of (row_value row.now) }
     ensures put { Writes (W.state sink.old) (W.state sink.new)
-        (row_put (choice_of only.now except.now) left.old.entries (row_value row.now)) result }
-    ensures left { LeavesBy (is_told (choice_of only.now except.now) (rule_of row.now.kind.now)) row.now.font.now
+        (row_put (choice_of choice.entry) left.old.entries (row_value row.now)) result }
+    ensures left { LeavesBy (is_told (choice_of choice.entry) (rule_of row.now.kind.now)) row.now.font.now
         left.old.entries left.new.entries }
 {
-    if !is_told(only, except, rule_of(row.kind)) {
+    if !is_told(choice, rule_of(row.kind)) {
         return put_known(sink, key, row);
     }
     match take_left(left, row.font) {

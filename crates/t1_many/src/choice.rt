@@ -1,8 +1,8 @@
 //! Which rules are reported of many fonts.
 
-ghost use Rattle.std.specs.Prelude.{◌≡◌, map};
+ghost use Rattle.std.specs.Prelude.{◌≡◌, map, string_bytes};
 ghost use Rattle.std.specs.List.{list_all, list_any};
-ghost use Rattle.t1_many.specs.Choice.{is_only, is_told, letters_of, picks};
+ghost use Rattle.t1_many.specs.Choice.{choice_of, is_only, is_told, letters_of, picks};
 ghost use Rattle.t1_rules.specs.Book.{code_of, number_of};
 ghost use Rattle.t1_rules.specs.Mask.{has};
 ghost use Rattle.t1_rules.specs.declared.rule.Rule.{Rule as RuleValue};
@@ -12,31 +12,38 @@ use t1_rules::{Mask, Rule, rule_code};
 
 /// The rules that are reported: those that a word of `only` picks, all without such a word, but for those that a word
 /// of `except` picks. A word is the code of a rule, or the letters of codes.
-pub fn told_rules(only: &[&[u8]], except: &[&[u8]]) -> Mask
-    ensures { (rule : RuleValue) → has result (number_of rule)
-        ≡ is_told (record { only = map (λ word. word.now) only.now; except = map (λ word. word.now) except.now }) (code_of rule) }
+#[derive(Clone, Copy, Debug)]
+pub struct Choice<'a> {
+    /// The words of `--only`.
+    pub only: &'a [String],
+    /// The words of `--except`.
+    pub except: &'a [String],
+}
+
+/// The rules that are reported.
+pub fn told_rules(choice: Choice<'_>) -> Mask
+    ensures { (rule : RuleValue) → has result (number_of rule) ≡ is_told (choice_of choice.entry) (code_of rule) }
 {
     let mut rules = Mask::empty();
     for number in 1..u8::MAX {
         let Some(rule) = Rule::from_number(number) else {
             break;
         };
-        rules = rules.with(rule, is_told(only, except, rule_code(rule).as_bytes()));
+        rules = rules.with(rule, is_told(choice, rule_code(rule).as_bytes()));
     }
     rules
 }
 
 /// Whether the rule of a code is reported: a word of `only` picks it, or there is none, and no word of `except` does.
-pub fn is_told(only: &[&[u8]], except: &[&[u8]], code: &[u8]) -> bool
-    ensures { result
-        ≡ is_told (record { only = map (λ word. word.now) only.now; except = map (λ word. word.now) except.now }) code.now }
+pub fn is_told(choice: Choice<'_>, code: &[u8]) -> bool
+    ensures { result ≡ is_told (choice_of choice.entry) code.now }
 {
-    is_only(only, code) & !is_picked(except, code)
+    is_only(choice.only, code) & !is_picked(choice.except, code)
 }
 
 /// Whether the rule of a code is one of those that these words pick, or there is no word.
-fn is_only(words: &[&[u8]], code: &[u8]) -> bool
-    ensures { result ≡ is_only (map (λ word. word.now) words.now) code.now }
+fn is_only(words: &[String], code: &[u8]) -> bool
+    ensures { result ≡ is_only (map string_bytes words.now) code.now }
 {
     if words.is_empty() {
         return true;
@@ -45,14 +52,14 @@ fn is_only(words: &[&[u8]], code: &[u8]) -> bool
 }
 
 /// Whether one of these words picks the rule of a code.
-fn is_picked(words: &[&[u8]], code: &[u8]) -> bool
-    ensures { result ≡ list_any (λ word. picks code.now word.now) words.now }
+fn is_picked(words: &[String], code: &[u8]) -> bool
+    ensures { result ≡ list_any (λ word. picks code.now (string_bytes word)) words.now }
 {
-    words.iter().any(|word| picks(code, word))
+    words.iter().any(|word| picks(code, word.as_bytes()))
 }
 
 /// Whether a word picks the rule of a code.
-fn picks(code: &[u8], word: &[u8]) -> bool
+pub fn picks(code: &[u8], word: &[u8]) -> bool
     ensures { result ≡ picks code.now word.now }
 {
     word == code || word == letters_of(code)

@@ -31,7 +31,7 @@ mod unchecked;
 mod verdict;
 
 pub use checking::check_all;
-pub use choice::{is_told, told_rules};
+pub use choice::{Choice, is_told, picks, told_rules};
 pub use counted::Counted;
 pub use font_error::{FontError, Obstacle};
 pub use font_files::{FontFiles, WaiverFiles};

@@ -1,11 +1,12 @@
 //! What t1check-all returns for its words, and which files are replaced.
 
 use crate::files::{File, Files, Folder};
-use crate::fonts::{FOUR_FAULTS, font_with};
+use crate::fonts::{FOUR_FAULTS, font_with, names_of};
 use std::alloc::{AllocError, Global};
 use std::test::Fail;
-use t1_answer_all::{NewFile, Replacements, answer, replace_files};
-use t1_io::Out;
+use t1_answer_all::{Left, answer, replace_files};
+use t1_io::{Broken, Out};
+use t1_options::{Options, Request, options};
 use t1_run::Status;
 use t1_waiving::{FontWaivers, Kept};
 
@@ -46,6 +47,7 @@ fn is_answered<'a>(alloc: Global, fonts: &'a [File<'a>], case: &Case<'_>) -> boo
         alloc,
         case.words,
         b"t1check-all\n",
+        &[],
         &mut files,
         Out::new(&mut text),
         Out::new(&mut told),
@@ -254,18 +256,28 @@ fn waivers_for(alloc: Global, names: &[&str]) -> Result<Kept, AllocError> {
     Ok(kept)
 }
 
+/// The options that these words request of t1check-all.
+fn options_of(alloc: Global, words: &[&str]) -> Result<Options, Fail> {
+    let words = names_of(alloc, words)?;
+    match options(alloc, words.as_slice(), &Files::new(alloc, &[], &[])) {
+        Ok(Request::Check(options)) => Ok(options),
+        _ => Err(Fail::from(Broken)),
+    }
+}
+
 /// Waivers that are there already are kept, which is printed, and those of the next font are written.
 #[test]
 fn keeps_waivers_that_are_there(rt: HostRuntime) -> Result<(), Fail> {
-    let left = Replacements {
+    let options = options_of(rt.alloc(), &["t1check-all", "--write-waivers", "a.pfb"])?;
+    let left = Left {
         status: Status::Clean,
         known_faults: None,
         waivers: Some(waivers_for(rt.alloc(), &["a.pfb", "b.pfb"])?),
-        overwrites: false,
     };
     let mut files = Files::new(rt.alloc(), &[], &[]).with_there("a.pfb.waivers");
     let mut told = Vec::new(rt.alloc());
-    let status = replace_files(rt.alloc(), &left, &mut files, &mut Out::new(&mut told));
+    let mut errors = Out::new(&mut told);
+    let status = replace_files(rt.alloc(), &options, &left, &mut files, &mut errors);
     assert_eq!(rt; status, Status::Failed);
     assert!(rt; files.replaced.as_slice() == b"b.pfb.waivers=A H02\n".as_slice());
     assert!(rt;
@@ -274,23 +286,48 @@ fn keeps_waivers_that_are_there(rt: HostRuntime) -> Result<(), Fail> {
     Ok(())
 }
 
-/// A file that can't be replaced is reported, and the waivers are overwritten all the same.
+/// With `--force` they are overwritten.
+#[test]
+fn overwrites_waivers_that_are_there(rt: HostRuntime) -> Result<(), Fail> {
+    let words = ["t1check-all", "--write-waivers", "--force", "a.pfb"];
+    let options = options_of(rt.alloc(), &words)?;
+    let left = Left {
+        status: Status::Faults,
+        known_faults: None,
+        waivers: Some(waivers_for(rt.alloc(), &["a.pfb"])?),
+    };
+    let mut files = Files::new(rt.alloc(), &[], &[]).with_there("a.pfb.waivers");
+    let mut told = Vec::new(rt.alloc());
+    let mut errors = Out::new(&mut told);
+    let status = replace_files(rt.alloc(), &options, &left, &mut files, &mut errors);
+    assert_eq!(rt; status, Status::Faults);
+    assert!(rt; files.replaced.as_slice() == b"a.pfb.waivers=A H02\n".as_slice());
+    assert!(rt; told.is_empty());
+    Ok(())
+}
+
+/// The words by which the file `known` is made anew.
+const KNOWN_ANEW: &[&str] = &[
+    "t1check-all",
+    "--baseline",
+    "known",
+    "--update-baseline",
+    "a.pfb",
+];
+
+/// A file that can't be replaced is reported, and the waivers are written all the same.
 #[test]
 fn reports_what_can_not_be_replaced(rt: HostRuntime) -> Result<(), Fail> {
-    let left = Replacements {
+    let options = options_of(rt.alloc(), KNOWN_ANEW)?;
+    let left = Left {
         status: Status::Faults,
-        known_faults: Some(NewFile {
-            name: String::from_str(rt.alloc(), "known")?,
-            text: Vec::from_slice(rt.alloc(), b"rows")?,
-        }),
+        known_faults: Some(Vec::from_slice(rt.alloc(), b"rows")?),
         waivers: Some(waivers_for(rt.alloc(), &["a.pfb"])?),
-        overwrites: true,
     };
-    let mut files = Files::new(rt.alloc(), &[], &[])
-        .with_there("a.pfb.waivers")
-        .with_locked("known");
+    let mut files = Files::new(rt.alloc(), &[], &[]).with_locked("known");
     let mut told = Vec::new(rt.alloc());
-    let status = replace_files(rt.alloc(), &left, &mut files, &mut Out::new(&mut told));
+    let mut errors = Out::new(&mut told);
+    let status = replace_files(rt.alloc(), &options, &left, &mut files, &mut errors);
     assert_eq!(rt; status, Status::Failed);
     assert!(rt; files.replaced.as_slice() == b"a.pfb.waivers=A H02\n".as_slice());
     assert!(rt;
@@ -302,18 +339,16 @@ fn reports_what_can_not_be_replaced(rt: HostRuntime) -> Result<(), Fail> {
 /// Where all is replaced the status stays, and nothing is printed.
 #[test]
 fn replaces_what_is_left(rt: HostRuntime) -> Result<(), Fail> {
-    let left = Replacements {
+    let options = options_of(rt.alloc(), KNOWN_ANEW)?;
+    let left = Left {
         status: Status::Faults,
-        known_faults: Some(NewFile {
-            name: String::from_str(rt.alloc(), "known")?,
-            text: Vec::from_slice(rt.alloc(), b"rows\n")?,
-        }),
+        known_faults: Some(Vec::from_slice(rt.alloc(), b"rows\n")?),
         waivers: None,
-        overwrites: false,
     };
     let mut files = Files::new(rt.alloc(), &[], &[]).with_there("known");
     let mut told = Vec::new(rt.alloc());
-    let status = replace_files(rt.alloc(), &left, &mut files, &mut Out::new(&mut told));
+    let mut errors = Out::new(&mut told);
+    let status = replace_files(rt.alloc(), &options, &left, &mut files, &mut errors);
     assert_eq!(rt; status, Status::Faults);
     assert!(rt; files.replaced.as_slice() == b"known=rows\n".as_slice());
     assert!(rt; told.is_empty());

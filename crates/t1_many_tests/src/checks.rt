@@ -1,12 +1,13 @@
 //! Fonts of known files, one after another.
 
 use crate::files::{File, Files};
-use crate::fonts::{CUT, FOUR_FAULTS, font_with, names_of};
+use crate::fonts::{CUT, FOUR_FAULTS, all_but, font_with, names_of};
 use std::alloc::Global;
 use std::test::Fail;
 use t1_char::Edition;
 use t1_io::Out;
-use t1_many::{Lost, Plain, Telling, WaiverFiles, tell_all, told_rules};
+use t1_many::{Lost, Plain, Telling, WaiverFiles, tell_all};
+use t1_rules::Rule;
 use t1_run::Status;
 use t1_samples::Sample;
 
@@ -30,7 +31,7 @@ fn check<'a>(
     let mut text = Vec::new(alloc);
     let mut told = Vec::new(alloc);
     let mut telling = Telling {
-        rules: told_rules(&[], &[b"C07"]),
+        rules: all_but(Rule::C07),
         form: Plain {
             reasons,
             out: Out::new(&mut text),

@@ -1,6 +1,7 @@
-//! Fonts, and lists of their names.
+//! Fonts, lists of their names, and rules.
 
 use std::alloc::{AllocError, Global};
+use t1_rules::{Mask, Rule, all_rules};
 use t1_samples::Sample;
 
 /// The glyph of the number 32001, 0, hmoveto, closepath, endchar: a C05, a C07, a W01 and a P03 in this order.
@@ -24,4 +25,22 @@ pub(crate) fn names_of(alloc: Global, names: &[&str]) -> Result<Vec<String>, All
         kept.push(String::from_str(alloc, name)?)?;
     }
     Ok(kept)
+}
+
+/// These rules alone.
+pub(crate) fn only(rules: &[Rule]) -> Mask {
+    let mut mask = Mask::empty();
+    for rule in rules {
+        mask = mask.with(*rule, true);
+    }
+    mask
+}
+
+/// All rules but this one.
+pub(crate) fn all_but(left_out: Rule) -> Mask {
+    let mut mask = Mask::empty();
+    for rule in all_rules() {
+        mask = mask.with(*rule, *rule != left_out);
+    }
+    mask
 }

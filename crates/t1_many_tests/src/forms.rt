@@ -1,14 +1,15 @@
 //! A font with a line, one that is refused and one that isn't there, in each form that other programs read.
 
 use crate::files::{File, Files};
-use crate::fonts::{CUT, FOUR_FAULTS, font_with, names_of};
+use crate::fonts::{CUT, FOUR_FAULTS, font_with, names_of, only};
 use std::alloc::{AllocError, Global};
 use std::test::Fail;
 use t1_char::Edition;
-use t1_forms::Sarif;
+use t1_forms::{Page, Pages, Sarif};
 use t1_io::{Fuse, Limit, Out, Sink};
-use t1_many::{Lost, Telling, WaiverFiles, tell_all, told_rules};
+use t1_many::{Lost, Telling, WaiverFiles, tell_all};
 use t1_many_forms::{Formatted, Formatter, GitHubCommands, JsonLines};
+use t1_rules::Rule;
 use t1_run::Status;
 
 /// Reports the P03 of fonts in the form of a formatter, which wrote what is before all else.
@@ -20,20 +21,20 @@ fn tell<'a, F: Formatter + Drop, W: Sink + Drop, E: Sink + Drop>(
     errors: E,
 ) -> Result<Result<Status, Lost>, AllocError> {
     let form = Formatted::new(alloc, formatter, out, errors, false);
-    tell_in(alloc, fonts, &[b"P03"], form)
+    tell_in(alloc, fonts, &[Rule::P03], form)
 }
 
 /// Reports lines of these rules in a form.
 fn tell_in<'a, F: Formatter + Drop, W: Sink + Drop, E: Sink + Drop>(
     alloc: Global,
     fonts: &'a [File<'a>],
-    only: &[&[u8]],
+    rules: &[Rule],
     form: Formatted<F, W, E>,
 ) -> Result<Result<Status, Lost>, AllocError> {
     let names = names_of(alloc, &["faulty.pfb", "cut.pfa", "absent.pfb"])?;
     let mut files = Files::new(alloc, fonts, &[]);
     let mut telling = Telling {
-        rules: told_rules(only, &[]),
+        rules: only(rules),
         form,
     };
     let status = tell_all(
@@ -94,7 +95,7 @@ fn writes_reasons(rt: HostRuntime) -> Result<(), Fail> {
         Out::new(&mut told),
         true,
     );
-    let status = tell_in(rt.alloc(), &files, &[b"C05", b"P03"], form)?;
+    let status = tell_in(rt.alloc(), &files, &[Rule::C05, Rule::P03], form)?;
     assert_eq!(rt; status, Ok(Status::Failed));
     let lines = b"\
 {\"code\":\"C05\",\"file\":\"faulty.pfb\",\"level\":\"must\",\"name\":\"A\",\"number\":1,\"path\":[],\"reason\":{\"command\":\"hmoveto\",\"taken\":1,\"text\":\"hmoveto takes 1 number, 2 are on the stack\",\"there\":2},\"step\":3,\"text\":\"too many arguments\",\"unit\":\"glyph\"}
@@ -112,7 +113,7 @@ fn writes_reasons(rt: HostRuntime) -> Result<(), Fail> {
         Out::new(&mut told),
         true,
     );
-    let status = tell_in(rt.alloc(), &files, &[b"P03"], form)?;
+    let status = tell_in(rt.alloc(), &files, &[Rule::P03], form)?;
     assert_eq!(rt; status, Ok(Status::Failed));
     let lines = b"\
 ::notice file=faulty.pfb,line=1,title=P03 closepath without a path::4: glyph A - 4 P03 closepath without a path: nothing is drawn so far
@@ -147,14 +148,37 @@ fn writes_commands(rt: HostRuntime) -> Result<(), Fail> {
     Ok(())
 }
 
-/// A document without its rules, of which docs/RULES.md has P03 and E04 as the 45th and the 74th.
+/// The pages of a document.
+const PAGES: [Page; 2] = [
+    Page {
+        code: "E04",
+        anchor: "e04-no-eexec",
+        title: "no eexec",
+        text: "The clear text has no word `eexec`.",
+    },
+    Page {
+        code: "P03",
+        anchor: "p03-closepath",
+        title: "closepath without a path",
+        text: "Nothing is drawn.\n\nCure: take it out.",
+    },
+];
+
+/// A document, whose results name the pages by their places.
 #[test]
 fn writes_a_document(rt: HostRuntime) -> Result<(), Fail> {
     let faulty = font_with(rt.alloc(), FOUR_FAULTS)?;
     let files = [("faulty.pfb", faulty.as_slice()), ("cut.pfa", CUT)];
     let mut text = Vec::new(rt.alloc());
     let mut told = Vec::new(rt.alloc());
-    let document = Sarif::begin(rt.alloc(), &mut Out::new(&mut text), None)?;
+    let document = Sarif::begin(
+        rt.alloc(),
+        &mut Out::new(&mut text),
+        Pages {
+            list: &PAGES,
+            docs: Some("https://example.org/rules"),
+        },
+    )?;
     let status = tell(
         rt.alloc(),
         &files,
@@ -163,23 +187,29 @@ fn writes_a_document(rt: HostRuntime) -> Result<(), Fail> {
         Out::new(&mut told),
     )?;
     assert_eq!(rt; status, Ok(Status::Failed));
-    let front =
-        b"{\"$schema\":\"https://json.schemastore.org/sarif-2.1.0.json\",\"version\":\"2.1.0\",\"runs\":[{\"tool\":";
-    assert!(rt; text.as_slice().starts_with(front.as_slice()));
-    let end = b"],\"version\":\"1.0.0\"}},\"results\":[\
+    let document =
+        b"{\"$schema\":\"https://json.schemastore.org/sarif-2.1.0.json\",\"version\":\"2.1.0\",\"runs\":[{\"tool\":\
+{\"driver\":{\"name\":\"t1check\",\"rules\":[\
+{\"defaultConfiguration\":{\"level\":\"error\"},\
+\"help\":{\"markdown\":\"The clear text has no word `eexec`.\",\"text\":\"The clear text has no word `eexec`.\"},\
+\"helpUri\":\"https://example.org/rules#e04-no-eexec\",\"id\":\"E04\",\"shortDescription\":{\"text\":\"no eexec\"}},\
+{\"defaultConfiguration\":{\"level\":\"note\"},\
+\"help\":{\"markdown\":\"Nothing is drawn.\\n\\nCure: take it out.\",\"text\":\"Nothing is drawn.\\n\\nCure: take it out.\"},\
+\"helpUri\":\"https://example.org/rules#p03-closepath\",\"id\":\"P03\",\"shortDescription\":{\"text\":\"closepath without a path\"}}\
+],\"version\":\"1.0.0\"}},\"results\":[\
 {\"level\":\"note\",\
 \"locations\":[{\"logicalLocations\":[{\"kind\":\"glyph\",\"name\":\"A\"},{\"kind\":\"step\",\"name\":\"4\"}],\
 \"physicalLocation\":{\"artifactLocation\":{\"uri\":\"faulty.pfb\"},\"region\":{\"startLine\":1}}}],\
 \"message\":{\"text\":\"glyph A - 4 P03 closepath without a path\"},\
-\"partialFingerprints\":{\"t1check/v1\":\"faulty.pfb glyph A P03 1\"},\"ruleId\":\"P03\",\"ruleIndex\":44},\
+\"partialFingerprints\":{\"t1check/v1\":\"faulty.pfb glyph A P03 1\"},\"ruleId\":\"P03\",\"ruleIndex\":1},\
 {\"level\":\"error\",\
 \"locations\":[{\"physicalLocation\":{\"artifactLocation\":{\"uri\":\"cut.pfa\"},\"region\":{\"startLine\":1}}}],\
 \"message\":{\"text\":\"refused: E04 no eexec\"},\
-\"partialFingerprints\":{\"t1check/v1\":\"cut.pfa refused E04 1\"},\"ruleId\":\"E04\",\"ruleIndex\":73}\
+\"partialFingerprints\":{\"t1check/v1\":\"cut.pfa refused E04 1\"},\"ruleId\":\"E04\",\"ruleIndex\":0}\
 ],\"invocations\":[{\"executionSuccessful\":false,\"toolExecutionNotifications\":[{\"level\":\"error\",\
 \"locations\":[{\"physicalLocation\":{\"artifactLocation\":{\"uri\":\"absent.pfb\"},\"region\":{\"startLine\":1}}}],\
 \"message\":{\"text\":\"t1check: read failed: no such file or folder\"}}]}]}]}\n";
-    assert!(rt; text.as_slice().ends_with(end.as_slice()));
+    assert!(rt; text.as_slice() == document.as_slice());
     assert!(rt; told.as_slice() == TOLD);
     Ok(())
 }

@@ -1,13 +1,14 @@
 //! Fonts with lines of each level, on terminals and as commands.
 
 use crate::files::{File, Files};
-use crate::fonts::{CUT, names_of};
+use crate::fonts::{CUT, names_of, only};
 use std::alloc::{AllocError, Global};
 use std::test::Fail;
 use t1_char::Edition;
 use t1_grouped::{GitHubGroups, GroupForm, Grouped, Terminal};
 use t1_io::{Fuse, Limit, Out, Sink};
-use t1_many::{Lost, Telling, WaiverFiles, tell_all, told_rules};
+use t1_many::{Lost, Telling, WaiverFiles, tell_all};
+use t1_rules::Rule;
 use t1_run::Status;
 use t1_samples::Sample;
 
@@ -23,7 +24,7 @@ fn tell<'a, T: GroupForm + Drop, W: Sink + Drop, E: Sink + Drop>(
     let names = names_of(alloc, names)?;
     let mut files = Files::new(alloc, fonts, &[]);
     let mut telling = Telling {
-        rules: told_rules(&[b"P", b"Z05", b"GE02"], &[]),
+        rules: only(&[Rule::P01, Rule::P02, Rule::P03, Rule::Z05, Rule::GE02]),
         form: Grouped::new(alloc, form, out, errors),
     };
     Ok(tell_all(

@@ -1,12 +1,13 @@
 //! What is written of known faults and of readings.
 
+use crate::fonts::names_of;
 use indexmap::IndexMap;
 use std::alloc::{AllocError, Global};
 use std::process::Abort;
 use std::test::Fail;
 use t1_io::{Fuse, Limit, Out};
 use t1_known::{KnownFaults, write_mismatches, write_updated};
-use t1_many::{Lost, Reading};
+use t1_many::{Choice, Lost, Reading};
 
 /// A font, and how often each kind was found in it.
 type FoundIn = (&'static str, &'static [(u64, &'static [u8])]);
@@ -78,20 +79,26 @@ const SOME_ANEW: &[u8] = b"\
 ";
 
 /// The file anew.
-fn anew(rt: &HostRuntime, text: &mut Vec<u8>, only: &[&[u8]], except: &[&[u8]]) -> bool {
+fn anew(rt: &HostRuntime, text: &mut Vec<u8>, only: &[&str], except: &[&str]) -> bool {
     let Ok(known) = KnownFaults::read(rt.alloc(), FILE) else {
         return false;
     };
     let Ok(readings) = readings_of(rt.alloc(), READINGS) else {
         return false;
     };
+    let (Ok(only), Ok(except)) = (names_of(rt.alloc(), only), names_of(rt.alloc(), except)) else {
+        return false;
+    };
+    let choice = Choice {
+        only: only.as_slice(),
+        except: except.as_slice(),
+    };
     write_updated(
         rt.alloc(),
         &mut Out::new(text),
         &known,
         readings.as_slice(),
-        only,
-        except,
+        choice,
     )
     .is_ok()
 }
@@ -102,10 +109,10 @@ fn rows_stay_go_and_come(rt: HostRuntime) -> Result<(), Fail> {
     assert!(rt; anew(&rt, &mut text, &[], &[]));
     assert!(rt; text.as_slice() == ALL_ANEW);
     let mut text = Vec::new(rt.alloc());
-    assert!(rt; anew(&rt, &mut text, &[b"H", b"P03"], &[]));
+    assert!(rt; anew(&rt, &mut text, &["H", "P03"], &[]));
     assert!(rt; text.as_slice() == SOME_ANEW);
     let mut text = Vec::new(rt.alloc());
-    assert!(rt; anew(&rt, &mut text, &[], &[b"Z"]));
+    assert!(rt; anew(&rt, &mut text, &[], &["Z"]));
     assert!(rt; text.as_slice() == SOME_ANEW);
     Ok(())
 }
@@ -120,7 +127,11 @@ fn a_sink_that_fails_ends_the_writing(rt: HostRuntime) {
     };
     let mut text = Vec::new(rt.alloc());
     let mut sink = Fuse::sink(Out::new(&mut text), Limit::Bytes(100));
-    let written = write_updated(rt.alloc(), &mut sink, &known, readings.as_slice(), &[], &[]);
+    let choice = Choice {
+        only: &[],
+        except: &[],
+    };
+    let written = write_updated(rt.alloc(), &mut sink, &known, readings.as_slice(), choice);
     drop(sink);
     assert!(rt; written == Err(Lost::Device));
     assert!(rt; text.as_slice() == &ALL_ANEW[..100]);
@@ -182,12 +193,19 @@ a.pfb: known faults: Z04 font BlueValues: 99999999999999999999999 known, 0 found
 ";
 
 /// Whether these lines are written of readings where no rule of these words is reported.
-fn are_written(rt: &HostRuntime, fonts: &[FoundIn], except: &[&[u8]], lines: &[u8]) -> bool {
+fn are_written(rt: &HostRuntime, fonts: &[FoundIn], except: &[&str], lines: &[u8]) -> bool {
     let Ok(known) = KnownFaults::read(rt.alloc(), FILE) else {
         return false;
     };
     let Ok(readings) = readings_of(rt.alloc(), fonts) else {
         return false;
+    };
+    let Ok(except) = names_of(rt.alloc(), except) else {
+        return false;
+    };
+    let choice = Choice {
+        only: &[],
+        except: except.as_slice(),
     };
     let mut text = Vec::new(rt.alloc());
     let written = write_mismatches(
@@ -195,8 +213,7 @@ fn are_written(rt: &HostRuntime, fonts: &[FoundIn], except: &[&[u8]], lines: &[u
         &mut Out::new(&mut text),
         &known,
         readings.as_slice(),
-        &[],
-        except,
+        choice,
     );
     written.is_ok() && text.as_slice() == lines
 }
@@ -209,6 +226,6 @@ fn what_differs_from_rows_is_reported(rt: HostRuntime) {
         (MORE_READINGS, MORE, MORE_BUT_H),
     ] {
         assert!(rt; are_written(&rt, fonts, &[], all));
-        assert!(rt; are_written(&rt, fonts, &[b"H"], but_h));
+        assert!(rt; are_written(&rt, fonts, &["H"], but_h));
     }
 }

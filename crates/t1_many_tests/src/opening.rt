@@ -1,12 +1,13 @@
 //! Which files are opened and left, and in which order.
 
 use crate::files::{File, Files};
-use crate::fonts::{FOUR_FAULTS, font_with, names_of};
+use crate::fonts::{FOUR_FAULTS, font_with, names_of, only};
 use std::alloc::{AllocError, Global};
 use std::test::Fail;
 use t1_char::Edition;
 use t1_io::Out;
-use t1_many::{Plain, Telling, WaiverFiles, tell_all, told_rules};
+use t1_many::{Plain, Telling, WaiverFiles, tell_all};
+use t1_rules::Rule;
 
 /// The names of fonts, and what comes of their check.
 #[derive(Clone, Copy)]
@@ -110,7 +111,7 @@ fn comes_of<'a>(
     let mut text = Vec::new(alloc);
     let mut told = Vec::new(alloc);
     let mut telling = Telling {
-        rules: told_rules(&[b"P03"], &[]),
+        rules: only(&[Rule::P03]),
         form: Plain {
             reasons: false,
             out: Out::new(&mut text),

@@ -1,16 +1,14 @@
 //! Fonts that are reported by known faults, and fonts whose faults become known.
 
 use crate::files::{File, Files};
-use crate::fonts::{FIVE_FAULTS, FOUR_FAULTS, font_with, names_of};
+use crate::fonts::{FIVE_FAULTS, FOUR_FAULTS, all_but, font_with, names_of};
 use std::alloc::Global;
 use std::process::Abort;
 use std::test::Fail;
 use t1_char::Edition;
 use t1_io::Out;
 use t1_known::KnownFaults;
-use t1_many::{
-    Anew, Beyond, Counted, Known, Lost, Plain, Reading, WaiverFiles, check_all, told_rules,
-};
+use t1_many::{Anew, Beyond, Counted, Known, Lost, Plain, Reading, WaiverFiles, check_all};
 use t1_rules::Rule;
 use t1_run::Status;
 use t1_summary::{Found, Tally};
@@ -100,7 +98,7 @@ fn beyond<'a, K: Known + Drop>(
     let mut text = Vec::new(alloc);
     let mut errors = Vec::new(alloc);
     let mut beyond = Beyond {
-        rules: told_rules(&[], &[b"C07"]),
+        rules: all_but(Rule::C07),
         known,
         form: Counted {
             tally: Tally::new(),
@@ -138,7 +136,7 @@ fn anew<'a>(alloc: Global, names: &[String], fonts: &'a [File<'a>]) -> Answer {
     let mut text = Vec::new(alloc);
     let mut errors = Vec::new(alloc);
     let mut anew = Anew {
-        rules: told_rules(&[], &[b"C07"]),
+        rules: all_but(Rule::C07),
         form: Counted {
             tally: Tally::new(),
             form: Plain {

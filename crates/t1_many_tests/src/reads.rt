@@ -1,6 +1,6 @@
 //! How often fonts and their waivers are read.
 
-use crate::fonts::{FOUR_FAULTS, font_with, names_of};
+use crate::fonts::{FOUR_FAULTS, font_with, names_of, only};
 use std::alloc::{AllocError, Global};
 use std::cell::Cell;
 use std::io;
@@ -8,7 +8,8 @@ use std::io::{ErrorKind, Read};
 use std::test::Fail;
 use t1_char::Edition;
 use t1_io::{In, Out};
-use t1_many::{FontFiles, Plain, Telling, WaiverFiles, tell_all, told_rules};
+use t1_many::{FontFiles, Plain, Telling, WaiverFiles, tell_all};
+use t1_rules::all_rules;
 
 /// A reader that returns up to so many bytes a read, and counts both. After its last byte is the end.
 #[derive(Drop)]
@@ -118,7 +119,7 @@ fn is_read_so(alloc: Global, case: &Case<'_>) -> Result<bool, AllocError> {
     let names = names_of(alloc, &["a.pfb"])?;
     let (mut text, mut told) = (Vec::new(alloc), Vec::new(alloc));
     let mut telling = Telling {
-        rules: told_rules(&[], &[]),
+        rules: only(all_rules()),
         form: Plain {
             reasons: false,
             out: Out::new(&mut text),

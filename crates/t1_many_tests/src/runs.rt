@@ -1,101 +1,50 @@
 //! Whole runs: what they write, and what is left to do after them.
 
 use crate::files::{File, Files};
-use crate::fonts::{CUT, FIVE_FAULTS, FOUR_FAULTS, font_with, names_of};
+use crate::fonts::{CUT, FIVE_FAULTS, FOUR_FAULTS, all_but, font_with, names_of, only};
 use std::alloc::{AllocError, Global};
 use std::test::Fail;
-use t1_batch::{Fonts, Layout, Left, Mode, Output, Ran, Selection, Unlisted, Wanted, run};
+use t1_answer_all::{Layout, Left, Mode, Plan, Unlisted, run};
 use t1_char::Edition;
 use t1_io::{Broken, Fuse, Limit, Out, Sink};
 use t1_known::KnownFaults;
-use t1_many::{WaiverFiles, told_rules};
+use t1_many::{Choice, WaiverFiles};
+use t1_rules::{Mask, Rule};
 use t1_run::Status;
 use t1_samples::Sample;
 
-/// The codes of the rules that are reported, of those that aren't all the same, and of those whose lines make the status 1; without any, all
-/// are.
-#[derive(Clone, Copy)]
-struct Codes<'a> {
-    only: &'a [&'a [u8]],
-    except: &'a [&'a [u8]],
-    failing: &'a [&'a [u8]],
-}
-
-/// How fonts are checked, and what is printed of them.
-#[derive(Clone, Copy)]
-struct Asked<'a> {
-    codes: Codes<'a>,
-    mode: Mode<'a>,
-    output: Output<'a>,
-    quiet: bool,
-}
-
-/// Lines are written as `NAME: LINE`, and all fonts could be listed.
-fn plain<'a>() -> Output<'a> {
-    Output {
+/// Lines of these rules are written as `NAME: LINE`, all lines make the status 1, all fonts could be listed, and rows of all rules are compared.
+fn plan_of<'a>(names: &'a [String], rules: Mask, mode: Mode<'a>) -> Plan<'a> {
+    Plan {
+        names,
+        beside: WaiverFiles::Read,
+        edition: Edition::One,
+        rules,
+        mode,
+        choice: Choice {
+            only: &[],
+            except: &[],
+        },
+        failing: rules,
         layout: Layout::Lines { reasons: false },
         unlisted: Unlisted {
             undecoded: 0,
             unsearched: &[],
         },
+        quiet: false,
     }
 }
 
-/// P03 alone is reported.
-const P03_ALONE: Codes<'static> = Codes {
-    only: &[b"P03"],
-    except: &[],
-    failing: &[],
-};
-
-/// All rules but C07 are reported.
-const ALL_BUT_C07: Codes<'static> = Codes {
-    only: &[],
-    except: &[b"C07"],
-    failing: &[],
-};
-
-/// Checks the fonts of these names, and returns what is left to do.
+/// Checks fonts, and returns what is left to do.
 fn run_over<'a, W: Sink + Drop, E: Sink + Drop>(
     alloc: Global,
-    names: &[&str],
+    plan: Plan<'_>,
     fonts: &'a [File<'a>],
-    asked: Asked<'_>,
     out: W,
     errors: E,
-) -> Result<Left, AllocError> {
-    let names = names_of(alloc, names)?;
+) -> Left {
     let mut files = Files::new(alloc, fonts, &[]);
-    let fonts = Fonts {
-        names: names.as_slice(),
-        beside: WaiverFiles::Read,
-    };
-    let selection = Selection {
-        edition: Edition::One,
-        rules: told_rules(asked.codes.only, asked.codes.except),
-        mode: asked.mode,
-    };
-    let wanted = Wanted {
-        only: asked.codes.only,
-        except: asked.codes.except,
-        failing: told_rules(asked.codes.failing, &[]),
-    };
-    let Ran {
-        left,
-        out: _out,
-        errors: _errors,
-    } = run(
-        alloc,
-        fonts,
-        &mut files,
-        selection,
-        asked.output,
-        wanted,
-        asked.quiet,
-        out,
-        errors,
-    );
-    Ok(left)
+    run(alloc, plan, &mut files, out, errors).left
 }
 
 /// One font has a P03, one is refused and one isn't there.
@@ -105,20 +54,14 @@ fn prints_lines_and_the_summary(rt: HostRuntime) -> Result<(), Fail> {
     let files = [("faulty.pfb", faulty.as_slice()), ("cut.pfa", CUT)];
     let mut text = Vec::new(rt.alloc());
     let mut told = Vec::new(rt.alloc());
-    let asked = Asked {
-        codes: P03_ALONE,
-        mode: Mode::Told,
-        output: plain(),
-        quiet: false,
-    };
+    let names = names_of(rt.alloc(), &["faulty.pfb", "cut.pfa", "absent.pfb"])?;
     let left = run_over(
         rt.alloc(),
-        &["faulty.pfb", "cut.pfa", "absent.pfb"],
+        plan_of(names.as_slice(), only(&[Rule::P03]), Mode::Told),
         &files,
-        asked,
         Out::new(&mut text),
         Out::new(&mut told),
-    )?;
+    );
     assert_eq!(rt; left.status, Status::Failed);
     assert!(rt; left.known_faults.is_none());
     let lines = b"\
@@ -139,22 +82,15 @@ absent.pfb: t1check: read failed: no such file or folder
 fn status_failing(
     alloc: Global,
     files: &[File<'_>],
-    failing: &[&[u8]],
+    failing: &[Rule],
 ) -> Result<Status, AllocError> {
-    let asked = Asked {
-        codes: Codes {
-            only: &[],
-            except: &[b"C07"],
-            failing,
-        },
-        mode: Mode::Told,
-        output: plain(),
-        quiet: true,
-    };
+    let names = names_of(alloc, &["faulty.pfb"])?;
+    let mut plan = plan_of(names.as_slice(), all_but(Rule::C07), Mode::Told);
+    plan.failing = only(failing);
+    plan.quiet = true;
     let mut text = Vec::new(alloc);
     let mut told = Vec::new(alloc);
-    let (out, errors) = (Out::new(&mut text), Out::new(&mut told));
-    Ok(run_over(alloc, &["faulty.pfb"], files, asked, out, errors)?.status)
+    Ok(run_over(alloc, plan, files, Out::new(&mut text), Out::new(&mut told)).status)
 }
 
 /// A line makes the status 1 where its rule does, and is reported.
@@ -163,8 +99,8 @@ fn some_rules_make_the_status(rt: HostRuntime) -> Result<(), Fail> {
     let faulty = font_with(rt.alloc(), FOUR_FAULTS)?;
     let files = [("faulty.pfb", faulty.as_slice())];
     for (failing, status) in [
-        ([b"P03".as_slice(), b"H02"], Status::Faults),
-        ([b"C07", b"H02"], Status::Clean),
+        ([Rule::P03, Rule::H02], Status::Faults),
+        ([Rule::C07, Rule::H02], Status::Clean),
     ] {
         let found = status_failing(rt.alloc(), &files, &failing)?;
         assert_eq!(rt; found, status);
@@ -180,21 +116,17 @@ const KNOWN: &[u8] = b"\
 1 W01 glyph A faulty.pfb
 ";
 
-/// Checks the faulty font: lines beyond these known faults are written.
-fn run_beyond<'a, W: Sink + Drop, E: Sink + Drop>(
+/// Checks the faulty font, of which all rules but C07 are reported.
+fn run_faulty<'a, W: Sink + Drop, E: Sink + Drop>(
     alloc: Global,
     files: &'a [File<'a>],
-    known: &KnownFaults<'_>,
+    mode: Mode<'_>,
     out: W,
     errors: E,
 ) -> Result<Left, AllocError> {
-    let asked = Asked {
-        codes: ALL_BUT_C07,
-        mode: Mode::Beyond(known),
-        output: plain(),
-        quiet: false,
-    };
-    run_over(alloc, &["faulty.pfb"], files, asked, out, errors)
+    let names = names_of(alloc, &["faulty.pfb"])?;
+    let plan = plan_of(names.as_slice(), all_but(Rule::C07), mode);
+    Ok(run_over(alloc, plan, files, out, errors))
 }
 
 /// No line goes beyond the known faults, and the row of H02 is no longer reached.
@@ -207,10 +139,10 @@ fn reports_what_is_no_longer_reached(rt: HostRuntime) -> Result<(), Fail> {
     };
     let mut text = Vec::new(rt.alloc());
     let mut told = Vec::new(rt.alloc());
-    let left = run_beyond(
+    let left = run_faulty(
         rt.alloc(),
         &files,
-        &known,
+        Mode::Beyond(&known),
         Out::new(&mut text),
         Out::new(&mut told),
     )?;
@@ -241,10 +173,10 @@ fn reports_what_is_not_as_known(rt: HostRuntime) -> Result<(), Fail> {
     };
     let mut text = Vec::new(rt.alloc());
     let mut told = Vec::new(rt.alloc());
-    let left = run_beyond(
+    let left = run_faulty(
         rt.alloc(),
         &files,
-        &known,
+        Mode::Beyond(&known),
         Out::new(&mut text),
         Out::new(&mut told),
     )?;
@@ -266,23 +198,6 @@ faulty.pfb: known faults: C05 glyph A: 3 known, 1 found
     Ok(())
 }
 
-/// Checks the faulty font: its faults replace these known ones.
-fn run_anew<'a, W: Sink + Drop, E: Sink + Drop>(
-    alloc: Global,
-    files: &'a [File<'a>],
-    known: &KnownFaults<'_>,
-    out: W,
-    errors: E,
-) -> Result<Left, AllocError> {
-    let asked = Asked {
-        codes: ALL_BUT_C07,
-        mode: Mode::Anew(known),
-        output: plain(),
-        quiet: false,
-    };
-    run_over(alloc, &["faulty.pfb"], files, asked, out, errors)
-}
-
 /// Rows are in the order of each kind's first fault. The row of H02 goes.
 #[test]
 fn leaves_known_faults(rt: HostRuntime) -> Result<(), Fail> {
@@ -293,10 +208,10 @@ fn leaves_known_faults(rt: HostRuntime) -> Result<(), Fail> {
     };
     let mut text = Vec::new(rt.alloc());
     let mut told = Vec::new(rt.alloc());
-    let left = run_anew(
+    let left = run_faulty(
         rt.alloc(),
         &files,
-        &known,
+        Mode::Anew(&known),
         Out::new(&mut text),
         Out::new(&mut told),
     )?;
@@ -335,17 +250,10 @@ fn leaves_waivers(rt: HostRuntime) -> Result<(), Fail> {
     let files = [("faulty.pfb", faulty.as_slice())];
     let mut text = Vec::new(rt.alloc());
     let mut told = Vec::new(rt.alloc());
-    let asked = Asked {
-        codes: ALL_BUT_C07,
-        mode: Mode::Waived,
-        output: plain(),
-        quiet: false,
-    };
-    let left = run_over(
+    let left = run_faulty(
         rt.alloc(),
-        &["faulty.pfb"],
         &files,
-        asked,
+        Mode::Waived,
         Out::new(&mut text),
         Out::new(&mut told),
     )?;
@@ -386,26 +294,21 @@ fn reports_what_was_not_listed(rt: HostRuntime) -> Result<(), Fail> {
     let unsearched = names_of(rt.alloc(), &["fonts/old"])?;
     let mut text = Vec::new(rt.alloc());
     let mut told = Vec::new(rt.alloc());
-    let asked = Asked {
-        codes: P03_ALONE,
-        mode: Mode::Told,
-        output: Output {
-            layout: Layout::JsonLines { reasons: false },
-            unlisted: Unlisted {
-                undecoded: 1,
-                unsearched: unsearched.as_slice(),
-            },
-        },
-        quiet: true,
+    let names = names_of(rt.alloc(), &["faulty.pfb"])?;
+    let mut plan = plan_of(names.as_slice(), only(&[Rule::P03]), Mode::Told);
+    plan.layout = Layout::JsonLines { reasons: false };
+    plan.unlisted = Unlisted {
+        undecoded: 1,
+        unsearched: unsearched.as_slice(),
     };
+    plan.quiet = true;
     let left = run_over(
         rt.alloc(),
-        &["faulty.pfb"],
+        plan,
         &files,
-        asked,
         Out::new(&mut text),
         Out::new(&mut told),
-    )?;
+    );
     assert_eq!(rt; left.status, Status::Failed);
     let lines = b"\
 {\"text\":\"a name that is not UTF-8 is passed over\",\"unit\":\"unchecked\"}
@@ -424,20 +327,14 @@ fn leaves_nothing_where_the_output_fails(rt: HostRuntime) -> Result<(), Fail> {
     let files = [("faulty.pfb", faulty.as_slice())];
     let mut text = Vec::new(rt.alloc());
     let mut told = Vec::new(rt.alloc());
-    let asked = Asked {
-        codes: P03_ALONE,
-        mode: Mode::Told,
-        output: plain(),
-        quiet: false,
-    };
+    let names = names_of(rt.alloc(), &["faulty.pfb"])?;
     let left = run_over(
         rt.alloc(),
-        &["faulty.pfb"],
+        plan_of(names.as_slice(), only(&[Rule::P03]), Mode::Told),
         &files,
-        asked,
         Fuse::sink(Out::new(&mut text), Limit::Bytes(10)),
         Out::new(&mut told),
-    )?;
+    );
     assert_eq!(rt; left.status, Status::Failed);
     assert!(rt; left.known_faults.is_none());
     assert!(rt; left.waivers.is_none());

@@ -2,7 +2,7 @@
 
 use crate::fonts::names_of;
 use std::test::Fail;
-use t1_batch::names_of_part;
+use t1_answer_all::names_of_part;
 use t1_options::Shard;
 
 /// Whether these are the names.

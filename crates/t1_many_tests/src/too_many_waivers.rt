@@ -1,12 +1,13 @@
 //! A font with more waivers than are read.
 
 use crate::files::{File, Files};
-use crate::fonts::names_of;
+use crate::fonts::{names_of, only};
 use std::alloc::{AllocError, Global};
 use std::test::Fail;
 use t1_char::Edition;
 use t1_io::Out;
-use t1_many::{Plain, WaiverFiles, told_rules};
+use t1_many::{Plain, WaiverFiles};
+use t1_rules::Rule;
 use t1_run::Status;
 use t1_samples::Sample;
 use t1_waiving::{Kept, Waiving, tell_too_many, waive_all};
@@ -29,7 +30,7 @@ fn waive<'a>(alloc: Global, fonts: &'a [File<'a>]) -> Result<Kept, AllocError> {
     let names = names_of(alloc, &["a.pfb"])?;
     let mut files = Files::new(alloc, fonts, &[]);
     let mut waiving = Waiving {
-        rules: told_rules(&[b"W01"], &[]),
+        rules: only(&[Rule::W01]),
         form: Plain {
             reasons: false,
             out: Out::new(&mut text),

@@ -1,12 +1,13 @@
 //! The waivers of a font's glyphs, and what is reported with them.
 
 use crate::files::{File, Files};
-use crate::fonts::{CUT, FIVE_FAULTS, FOUR_FAULTS, font_with, names_of};
+use crate::fonts::{CUT, FIVE_FAULTS, FOUR_FAULTS, all_but, font_with, names_of};
 use std::alloc::Global;
 use std::test::Fail;
 use t1_char::Edition;
 use t1_io::Out;
-use t1_many::{Lost, Plain, Telling, WaiverFiles, tell_all, told_rules};
+use t1_many::{Lost, Plain, Telling, WaiverFiles, tell_all};
+use t1_rules::Rule;
 use t1_run::Status;
 use t1_samples::Sample;
 use t1_waiving::{FontWaivers, Kept, Waiving, waive_all};
@@ -25,7 +26,7 @@ fn waive<'a>(alloc: Global, names: &[String], fonts: &'a [File<'a>]) -> (Answer,
     let mut text = Vec::new(alloc);
     let mut told = Vec::new(alloc);
     let mut waiving = Waiving {
-        rules: told_rules(&[], &[b"C07"]),
+        rules: all_but(Rule::C07),
         form: Plain {
             reasons: false,
             out: Out::new(&mut text),
@@ -61,7 +62,7 @@ fn tell<'a>(
     let mut text = Vec::new(alloc);
     let mut told = Vec::new(alloc);
     let mut telling = Telling {
-        rules: told_rules(&[], &[b"C07"]),
+        rules: all_but(Rule::C07),
         form: Plain {
             reasons: false,
             out: Out::new(&mut text),

@@ -24,10 +24,10 @@ use crate::system::System;
 use std::alloc::AllocError;
 use std::env;
 use std::io::{BufWriter, LineWriter};
-use t1_answer_all::answer;
-use t1_batch::PROGRAM;
+use t1_answer_all::{PROGRAM, answer};
 use t1_forms::VERSION;
 use t1_io::Out;
+use t1_pages::pages;
 use t1_run::{Failure, Status, tell_failure};
 
 fn main(rt: HostRuntime) -> Status {
@@ -48,6 +48,7 @@ fn main(rt: HostRuntime) -> Status {
         alloc,
         words.as_slice(),
         version.as_bytes(),
+        &pages(),
         &mut system,
         Out::new(out),
         errors,

@@ -2,7 +2,7 @@
 
 use std::alloc::{AllocError, Global};
 use std::env::{Env, FillError};
-use t1_batch::PROGRAM;
+use t1_answer_all::PROGRAM;
 
 /// The program's name, as clap prints it, and the words that it was started with. A word that isn't UTF-8 comes after a NUL, by which
 /// [`is_marked`](t1_options::is_marked) knows it, with U+FFFD in the place of what isn't.

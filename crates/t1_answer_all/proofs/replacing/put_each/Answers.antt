@@ -1,6 +1,6 @@
 use Rattle.t1_answer_all.proofs.Puts.{each-push}
 use Rattle.t1_answer_all.proofs.replacing.put_each.Goals as goal
-use Rattle.t1_batch.proofs.GivenEach.{map-push}
+use Rattle.t1_answer_all.proofs.GivenEach.{map-push}
 use Rattle.t1_waiving.specs.FontTexts.{font_text}
 
 pub loop-font-preserved : goal.loop-font-preserved

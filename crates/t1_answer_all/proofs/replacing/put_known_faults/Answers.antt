@@ -1,4 +1,5 @@
 use Rattle.t1_answer_all.proofs.replacing.put_known_faults.Goals as goal
 
-pub returns-in-Some : goal.returns-in-Some
-returns-in-Some g c = rw (c.in-Some.is, ← c.as_str.ensures.value, ← c.as_slice.ensures.value) c.put_file.ensures
+pub returns-in-Anew-Some : goal.returns-in-Anew-Some
+returns-in-Anew-Some g c =
+    rw (c.in-Anew-Some.is-0, c.in-Anew-Some.is-1, ← c.as_str.ensures.value, ← c.as_slice.ensures.value) c.put_file.ensures

@@ -9,7 +9,7 @@ use Rattle.t1_known.proofs.KeptRows.{kept_at}
 use Rattle.t1_known.proofs.Told.{told_all, told_failed, told_more}
 use Rattle.t1_known.specs.Private.Kept.{Entry}
 use Rattle.t1_known.specs.Private.Mismatches.{told_of}
-use Rattle.t1_known.specs.Readings.{choice_of}
+use Rattle.t1_many.specs.Choice.{choice_of}
 use Rattle.t1_known.proofs.mismatches.tell_rows.Goals as goal
 
 pub tell_row-requires : goal.tell_row-requires
@@ -26,7 +26,7 @@ tell_row-requires g c =
 
 pub loop-key-preserved : goal.loop-key-preserved
 loop-key-preserved g c =
-    let f = told_of (choice_of c.args.only.now c.args.except.now) c.args.fonts.now.entries in
+    let f = told_of (choice_of c.args.choice) c.args.fonts.now.entries in
     let entry : Entry = (c.in-Some._key.now, c.in-Some.row.now) in
     let next : c.loop-key._key-iterator ≡ entry ∷ c.next.new.self =
     rest_more deref_pair c.loop-key._key-iterator c.next.new.self c.next.result (c.in-Some._key, c.in-Some.row) c.in-Some.is c.next.ensures.steps in
@@ -35,7 +35,7 @@ loop-key-preserved g c =
 
 pub returns-in_err-tell_row : goal.returns-in_err-tell_row
 returns-in_err-tell_row g c =
-    let f = told_of (choice_of c.args.only.now c.args.except.now) c.args.fonts.now.entries in
+    let f = told_of (choice_of c.args.choice) c.args.fonts.now.entries in
     let entry : Entry = (c.in-Some._key.now, c.in-Some.row.now) in
     let next : c.loop-key._key-iterator ≡ entry ∷ c.next.new.self =
     rest_more deref_pair c.loop-key._key-iterator c.next.new.self c.next.result (c.in-Some._key, c.in-Some.row) c.in-Some.is c.next.ensures.steps in
@@ -45,7 +45,7 @@ returns-in_err-tell_row g c =
 
 pub returns : goal.returns
 returns g c =
-    let f = told_of (choice_of c.args.only.now c.args.except.now) c.args.fonts.now.entries in
+    let f = told_of (choice_of c.args.choice) c.args.fonts.now.entries in
     told_all (g.W.Sink.state c.args.sink.now) (g.W.Sink.state c.loop-key.sink) (flat_map f c.args.rows.now.entries) (flat_map f c.loop-key._key-iterator)
     (ap (flat_map f) (rest_all deref_pair c.loop-key._key-iterator c.next.new.self c.next.result c.in-None.is c.next.ensures.steps))
     c.loop-key.invariant

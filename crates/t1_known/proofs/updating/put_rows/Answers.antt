@@ -8,7 +8,7 @@ use Rattle.t1_known.proofs.KeptRows.{kept_at}
 use Rattle.t1_known.proofs.PutRows.{none_put, one_put, put_failed, row_next, rows_failed}
 use Rattle.t1_known.specs.Private.Kept.{Entry, rows_now}
 use Rattle.t1_known.specs.Private.Updates.{HavePut, updated_text}
-use Rattle.t1_known.specs.Readings.{choice_of}
+use Rattle.t1_many.specs.Choice.{choice_of}
 use Rattle.t1_many.specs.RowValues.{row_value}
 use Rattle.t1_known.proofs.updating.put_rows.Goals as goal
 
@@ -16,7 +16,7 @@ pub loop-key-init : goal.loop-key-init
 loop-key-init g c = λ all is.
     let start : c.into_iter-key-iterator.result ≡ c.args.rows.now.entries =
     c.into_iter-key-iterator.ensures.into_iter_gives ∙ c.iter-key-items.ensures.rest in
-    let choice = choice_of c.args.only.now c.args.except.now in
+    let choice = choice_of c.args.choice in
     let nothing : Wrote (g.W.Sink.state c.args.sink.now) (g.W.Sink.state c.args.sink.now) [] = search rules in
     subst (λ (rest : List Entry). HavePut all (updated_text choice all [] (rows_now c.args.rows.now.entries))
     (λ done. updated_text choice all done (rows_now rest)) (g.W.Sink.state c.args.sink.now) (g.W.Sink.state c.args.sink.now)
@@ -38,7 +38,7 @@ put_row-requires g c =
 
 pub loop-key-preserved : goal.loop-key-preserved
 loop-key-preserved g c = λ all is.
-    let choice = choice_of c.args.only.now c.args.except.now in
+    let choice = choice_of c.args.choice in
     let entry : Entry = (c.in-Some.key.now, c.in-Some.row.now) in
     let next : c.loop-key.key-iterator ≡ entry ∷ c.next.new.self =
     rest_more deref_pair c.loop-key.key-iterator c.next.new.self c.next.result (c.in-Some.key, c.in-Some.row) c.in-Some.is c.next.ensures.steps in
@@ -54,9 +54,9 @@ loop-key-preserved g c = λ all is.
 
 pub returns-in_err-put_row : goal.returns-in_err-put_row
 returns-in_err-put_row g c =
-    rows_failed _ (choice_of c.args.only.now c.args.except.now) (rows_now c.args.rows.now.entries) _ _ _ _ c.from_residual.result c.from_residual.ensures.1
+    rows_failed _ (choice_of c.args.choice) (rows_now c.args.rows.now.entries) _ _ _ _ c.from_residual.result c.from_residual.ensures.1
     (λ all is.
-    let choice = choice_of c.args.only.now c.args.except.now in
+    let choice = choice_of c.args.choice in
     let entry : Entry = (c.in-Some.key.now, c.in-Some.row.now) in
     let next : c.loop-key.key-iterator ≡ entry ∷ c.next.new.self =
     rest_more deref_pair c.loop-key.key-iterator c.next.new.self c.next.result (c.in-Some.key, c.in-Some.row) c.in-Some.is c.next.ensures.steps in
@@ -72,7 +72,7 @@ returns-in_err-put_row g c =
 
 pub returns : goal.returns
 returns g c = λ all is.
-    let choice = choice_of c.args.only.now c.args.except.now in
+    let choice = choice_of c.args.choice in
     subst (λ (rest : List Entry). HavePut all (updated_text choice all [] (rows_now c.args.rows.now.entries))
     (λ done. updated_text choice all done (rows_now rest)) (g.W.Sink.state c.args.sink.now) (g.W.Sink.state c.loop-key.sink)
     c.loop-key.left.entries) (rest_all deref_pair c.loop-key.key-iterator c.next.new.self c.next.result c.in-None.is c.next.ensures.steps)

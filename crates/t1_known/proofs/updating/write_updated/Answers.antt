@@ -6,20 +6,20 @@ use Rattle.t1_known.proofs.PutRows.{last_failed, last_put, updated_same}
 use Rattle.t1_known.proofs.Told.{all_failed}
 use Rattle.t1_known.specs.Private.Kept.{rows_now}
 use Rattle.t1_known.specs.Private.Updates.{behind_text, updated_text}
-use Rattle.t1_known.specs.Readings.{choice_of}
+use Rattle.t1_many.specs.Choice.{choice_of}
 use Rattle.t1_many.specs.KnownFaults.{RowValue, file_text, row_text, updated}
 use Rattle.t1_known.proofs.updating.write_updated.Goals as goal
 
 pub returns-in_err-put_all : goal.returns-in_err-put_all
 returns-in_err-put_all g c = λ all are.
-    let choice = choice_of c.args.only.now c.args.except.now in
+    let choice = choice_of c.args.choice in
     let header : List ℕ = codes "# Known faults: count, rule, unit, font.\n" in
     all_failed _ _ _ c.from_residual.result c.from_residual.ensures.1
     (PutFailed-first _ _ header (flat_map row_text (updated choice all c.args.known.now)) c.in_err-put_all.ensures)
 
 pub returns-in_err-put_rows : goal.returns-in_err-put_rows
 returns-in_err-put_rows g c = λ all are.
-    let choice = choice_of c.args.only.now c.args.except.now in
+    let choice = choice_of c.args.choice in
     let header : List ℕ = codes "# Known faults: count, rule, unit, font.\n" in
     let rows = rows_now c.known.inside.rows.entries in
     let whole = updated_text choice c.args.readings.now [] rows in
@@ -32,7 +32,7 @@ returns-in_err-put_rows g c = λ all are.
 
 pub returns-in_err-put_others : goal.returns-in_err-put_others
 returns-in_err-put_others g c = λ all are.
-    let choice = choice_of c.args.only.now c.args.except.now in
+    let choice = choice_of c.args.choice in
     let header : List ℕ = codes "# Known faults: count, rule, unit, font.\n" in
     let rows = rows_now c.known.inside.rows.entries in
     let whole = updated_text choice c.args.readings.now [] rows in
@@ -48,7 +48,7 @@ returns-in_err-put_others g c = λ all are.
 
 pub returns : goal.returns
 returns g c = λ all are.
-    let choice = choice_of c.args.only.now c.args.except.now in
+    let choice = choice_of c.args.choice in
     let header : List ℕ = codes "# Known faults: count, rule, unit, font.\n" in
     let rows = rows_now c.known.inside.rows.entries in
     let whole = updated_text choice c.args.readings.now [] rows in

@@ -1,0 +1,26 @@
+-- How the lines of a form end.
+use Rattle.std.proofs.Common.{◌≡◌, None, Result, Ok, Err, refl, ap, ap₂}
+use Rattle.t1_answer_all.specs.Checks.{ChecksFonts, IsFound}
+use Rattle.t1_answer_all.specs.Plans.{PlanValue}
+use Rattle.t1_answer_all.specs.Unlisted.{GivesEach}
+use Rattle.t1_answer_all.specs.Writing.{FinishesChecked, FormatterForm, WritesFormatted}
+use Rattle.t1_answer_all.specs.Writing.WritesFormatted.{stopped, unfinished, written}
+use Rattle.t1_answer_all.specs.declared.findings.Findings.{Findings}
+use Rattle.t1_io.specs.Devices.{SinkState}
+use Rattle.t1_many.specs.Files.{Files}
+use Rattle.t1_many.specs.Plain.{Devices}
+use Rattle.t1_many.specs.declared.recipient.Lost.{Lost}
+use Rattle.t1_many_forms.specs.Formatting.{FormattedTakes, Formatting}
+use Rattle.t1_run.specs.declared.status.Status.{Status}
+
+module _ {T : Type 0} (form : FormatterForm T) (plan : PlanValue) (files : Files) (old new : Devices) (found : Findings) (begun ended : Formatting T)
+    (given : GivesEach form.Writes form.begun begun.formatter old.out begun.out plan.unlisted None) (errors_are : begun.errors ≡ old.errors)
+    (left_are : new.errors ≡ ended.errors) where
+  pub formatted_ends : (status result : Result Status Lost)
+      → ChecksFonts (FormattedTakes form.reasons form.Writes) plan files begun ended (IsFound plan found) status
+      → FinishesChecked (form.Finishes ended.formatter) ended.out new.out status result → WritesFormatted form plan files old new found result
+  formatted_ends (Ok status) (Ok s) checked (finished, is) = written begun ended given errors_are status checked finished left_are (ap Ok is)
+  formatted_ends (Ok status) (Err lost) checked (finished, is) = unfinished begun ended given errors_are status checked lost finished left_are refl
+  formatted_ends (Err lost) result checked (same, is) =
+      stopped begun ended given errors_are lost checked
+      (ap₂ (λ (o e : SinkState). record { out = o; errors = e }) same left_are) is

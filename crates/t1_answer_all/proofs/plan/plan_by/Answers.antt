@@ -1,0 +1,15 @@
+use Rattle.std.proofs.Common.{refl}
+use Rattle.t1_answer_all.proofs.plan.plan_by.Goals as goal
+
+pub returns-clause-plan : goal.returns-clause-plan
+returns-clause-plan c =
+    rw (
+      c.as_slice.ensures.value,
+      c.mode_by.ensures,
+      c.as_slice-2.ensures.value,
+      c.as_slice-3.ensures.value,
+      c.layout_of.ensures,
+      c.unlisted.ensures.undecoded,
+      c.unlisted.ensures.unsearched,
+      c.is_quiet.ensures,
+    ) refl

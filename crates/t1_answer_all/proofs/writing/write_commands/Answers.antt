@@ -1,0 +1,20 @@
+use Rattle.std.proofs.Common.{ap, refl}
+use Rattle.t1_answer_all.proofs.writing.write_commands.Goals as goal
+use Rattle.t1_answer_all.specs.Writing.WritesCommands.{unflushed, unlistable, written}
+use Rattle.t1_many.specs.declared.recipient.Lost.TheVariants.{Device}
+
+pub returns-in-Err : goal.returns-in-Err
+returns-in-Err g c =
+    unlistable _ c.give_unlisted.new.formatter c.in-Err.lost (rw c.unwritten.ensures.out c.in-Err.ensures) (ap g.E.Sink.state c.unwritten.ensures.errors)
+    refl c.unwritten.ensures.status
+
+pub returns-in-Ok : goal.returns-in-Ok
+returns-in-Ok g c =
+    written _ c.give_unlisted.new.formatter (g.W.Sink.state c.give_unlisted.new.out) (g.W.Sink.state c.flush.new.self) c.in_default.ensures
+    c.in-Ok.ensures.flushes c.write_groups.ensures
+
+pub returns-in-Err-flush : goal.returns-in-Err-flush
+returns-in-Err-flush g c =
+    unflushed _ c.give_unlisted.new.formatter (g.W.Sink.state c.give_unlisted.new.out) c.in_default.ensures Device
+    (rw c.unwritten-in-Err-flush.ensures.out c.in-Err-flush.ensures.flushes.0) (ap g.E.Sink.state c.unwritten-in-Err-flush.ensures.errors)
+    refl c.unwritten-in-Err-flush.ensures.status

@@ -1,0 +1,33 @@
+use Rattle.std.proofs.Common.{Bool, ap, refl, sym}
+use Rattle.t1_answer_all.proofs.FormMaps.{fonts-kept}
+use Rattle.t1_answer_all.proofs.FormattedRuns.{formatted_ends}
+use Rattle.t1_answer_all.proofs.writing.write_formatted.Goals as goal
+use Rattle.t1_answer_all.specs.Writing.WritesFormatted.{unlistable}
+use Rattle.t1_many_forms.specs.Formatting.{FormattedTakes}
+
+pub returns-in-Err : goal.returns-in-Err
+returns-in-Err g c =
+    unlistable c.give_unlisted.new.formatter c.in-Err.lost (rw c.unwritten.ensures.out c.in-Err.ensures) (ap g.E.Sink.state c.unwritten.ensures.errors)
+    refl c.unwritten.ensures.status
+
+pub returns : goal.returns
+returns g c =
+    formatted_ends
+    (record { reasons = c.args.reasons; Writes = g.T.Formatter.writes; Finishes = g.T.Formatter.finishes; begun = c.args.formatter }) _ _ _ _ _
+    (record {
+      formatter = c.new-form.result.formatter;
+      out = g.W.Sink.state c.new-form.result.out;
+      errors = g.E.Sink.state c.new-form.result.errors;
+    })
+    (record {
+      formatter = c.check_fonts-checked.result.form.formatter;
+      out = g.W.Sink.state c.check_fonts-checked.result.form.out;
+      errors = g.E.Sink.state c.check_fonts-checked.result.form.errors;
+    })
+    (rw (c.new-form.ensures.formatter, c.new-form.ensures.out) c.in_default.ensures)
+    (ap g.E.Sink.state c.new-form.ensures.errors) (ap g.E.Sink.state c.into_parts-formatter.ensures.errors) _ _
+    (rw c.new-form.ensures.reasons at
+    (fonts-kept (λ (reasons : Bool). FormattedTakes reasons g.T.Formatter.writes) (λ form. form.reasons)
+    (λ form. record { formatter = form.formatter; out = g.W.Sink.state form.out; errors = g.E.Sink.state form.errors }) _ _ _ _ _ _
+    c.check_fonts-checked.ensures))
+    (rw (sym c.into_parts-formatter.ensures.formatter, sym c.into_parts-formatter.ensures.out) c.finish_checked-status.ensures)

@@ -1,0 +1,73 @@
+-- How a run over many fonts ends, and what is left to do.
+use Rattle.std.specs.Prelude.{◌≡◌, ℕ, List, codes, Option, None, Some, option_map, Result, Ok, Err, if◌then◌else◌}
+use Rattle.t1_answer_all.specs.Endings.{AreFoundBy, Ends, text_of}
+use Rattle.t1_answer_all.specs.Plans.{PlanValue}
+use Rattle.t1_answer_all.specs.Unlisted.{is_whole}
+use Rattle.t1_answer_all.specs.Writing.{WritesIn}
+use Rattle.t1_answer_all.specs.declared.findings.Findings.{Findings}
+use Rattle.t1_answer_all.specs.declared.ending.Ended.{Ended}
+use Rattle.t1_answer_all.specs.declared.running.Left.{Left}
+use Rattle.t1_io.specs.Devices.{SinkState}
+use Rattle.t1_many.specs.Files.{Files}
+use Rattle.t1_many.specs.KnownFaults.{Reading}
+use Rattle.t1_many.specs.Plain.{Devices}
+use Rattle.t1_many.specs.declared.recipient.Lost.{Lost}
+use Rattle.t1_many.specs.declared.recipient.Lost.TheVariants.{Device, Memory}
+use Rattle.t1_run.specs.Failures.{out_of_memory_line, write_failed_line}
+use Rattle.t1_run.specs.Telling.{Tells}
+use Rattle.t1_run.specs.declared.status.Status.{Status}
+use Rattle.t1_run.specs.declared.status.Status.TheVariants.{Failed}
+use Rattle.t1_waiving.specs.FontTexts.{FontText}
+
+abbrev pub program : List ℕ
+program = codes "t1check-all"
+
+-- Why a run stopped.
+abbrev pub lost_line : Lost → List ℕ
+lost_line Device = write_failed_line program
+lost_line Memory = out_of_memory_line program
+
+-- What is left to do.
+pub record LeftValue : Type 0 where
+  pub status : Status
+  pub known_faults : Option (List ℕ)
+  pub waivers : Option (List FontText)
+
+abbrev pub left_value : Left → LeftValue
+left_value left = record {
+  status = left.status;
+  known_faults = option_map (λ text. text.items) left.known_faults;
+  waivers = left.waivers;
+}
+
+abbrev pub nothing_left : Status → LeftValue
+nothing_left status = record { status = status; known_faults = None; waivers = None }
+
+-- All that was found is printed, and the files are left to be replaced. Where not all could be listed the status is that of a failure.
+-- Or it stopped, which is printed, and nothing is left.
+pub data Concludes (plan : PlanValue) (found : Findings) (old new : SinkState) (left : LeftValue) : Type 0 where
+  told :
+      (ended : Ended)
+      → ((all : List Reading) → AreFoundBy plan.mode found.readings.items all → Ends plan found all old new (Ok ended))
+      → left ≡ record { status = if is_whole plan.unlisted then ended.status else Failed; known_faults = text_of ended; waivers = Some found.kept }
+      → Concludes plan found old new left
+  stopped :
+      (lost : Lost) → (behind : SinkState)
+      → ((all : List Reading) → AreFoundBy plan.mode found.readings.items all → Ends plan found all old behind (Err lost))
+      → (status : Status) → Tells (lost_line lost) Failed behind new status → left ≡ nothing_left status → Concludes plan found old new left
+
+-- The same once what is chosen of the fonts was written, and where that stopped.
+abbrev pub ConcludesWritten : PlanValue → Findings → Result Status Lost → SinkState → SinkState → LeftValue → Type 0
+ConcludesWritten plan found (Ok status) old new left = Concludes plan found old new left
+ConcludesWritten plan found (Err lost) old new left =
+    (status : Status) × Tells (lost_line lost) Failed old new status × (left ≡ nothing_left status)
+
+-- What is chosen of the fonts was written, and all was printed. Or it stopped while that was written, which is printed, and nothing is left.
+pub data Runs (plan : PlanValue) (files : Files) (old new : Devices) (left : LeftValue) : Type 0 where
+  concluded :
+      (behind : Devices) → (found : Findings) → (status : Status) → WritesIn plan files old behind found (Ok status)
+      → Concludes plan found behind.errors new.errors left → new.out ≡ behind.out → Runs plan files old new left
+  stopped :
+      (behind : Devices) → (found : Findings) → (lost : Lost) → WritesIn plan files old behind found (Err lost)
+      → (status : Status) → Tells (lost_line lost) Failed behind.errors new.errors status → new.out ≡ behind.out → left ≡ nothing_left status
+      → Runs plan files old new left

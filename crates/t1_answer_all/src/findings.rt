@@ -1,0 +1,184 @@
+//! Checks fonts, and keeps what is to be kept of them.
+
+ghost use Rattle.std.specs.Prelude.{◌≡◌};
+ghost use Rattle.t1_answer_all.specs.Checks.{ChecksFonts, IsFound, IsKept};
+ghost use Rattle.t1_answer_all.specs.Plans.{plan_value};
+ghost use Rattle.t1_many.specs.Files.{files_by};
+
+use crate::mode::{Borrowed, Mode};
+use crate::plan::Plan;
+use std::alloc::Global;
+use t1_many::{
+    Anew, Beyond, Counted, FontFiles, Form, Lost, Reading, Telling, check_all, tell_all,
+};
+use t1_run::Status;
+use t1_summary::Tally;
+use t1_waiving::{Kept, Waiving, waive_all};
+
+/// What was found in fonts, besides what was written of them.
+#[derive(Drop)]
+pub struct Findings {
+    /// How the fonts were found, and how many lines of each rule were reported.
+    pub tally: Tally,
+    /// The fonts whose reports were made, in order.
+    pub readings: Vec<Reading>,
+    /// The waivers of the fonts that have some.
+    pub kept: Kept,
+}
+
+impl Findings {
+    /// What is found in no font.
+    pub(crate) fn none(alloc: Global) -> Findings {
+        Findings {
+            tally: Tally::new(),
+            readings: Vec::new(alloc),
+            kept: Kept::new(alloc),
+        }
+    }
+}
+
+/// Fonts that were checked.
+#[derive(Drop)]
+pub struct Checked<F: Form + Drop> {
+    /// The greatest status of the fonts, or why it stopped at one of them.
+    pub status: Result<Status, Lost>,
+    /// The form that took their lines.
+    pub form: F,
+    /// What was found in them.
+    pub found: Findings,
+}
+
+/// The same with a form that counts.
+#[derive(Drop)]
+struct CheckedOnes<F: Form + Drop> {
+    status: Result<Status, Lost>,
+    counted: Counted<F>,
+    readings: Vec<Reading>,
+    kept: Kept,
+}
+
+/// Checks fonts in order. The form takes the lines that are chosen, why there is no report of a font, and how each font was found.
+pub fn check_fonts<S, F>(alloc: Global, plan: Plan<'_>, files: &mut S, form: F) -> Checked<F>
+where
+    S: FontFiles,
+    F: Form + Drop,
+    ensures { ChecksFonts F.takes (plan_value plan.entry) (files_by S.calls plan.entry.beside files.old files.new) form result.form
+        (IsFound (plan_value plan.entry) result.found) result.status }
+{
+    let counted = Counted {
+        tally: Tally::new(),
+        form,
+    };
+    let checked = check_ones(alloc, plan, files, counted);
+    Checked {
+        status: checked.status,
+        form: checked.counted.form,
+        found: Findings {
+            tally: checked.counted.tally,
+            readings: checked.readings,
+            kept: checked.kept,
+        },
+    }
+}
+
+/// Checks fonts with a form that counts.
+fn check_ones<S, F>(
+    alloc: Global,
+    plan: Plan<'_>,
+    files: &mut S,
+    counted: Counted<F>,
+) -> CheckedOnes<F>
+where
+    S: FontFiles,
+    F: Form + Drop,
+    ensures { ChecksFonts ⟦<Counted<F> as Form>⟧.takes (plan_value plan.entry)
+        (files_by S.calls plan.entry.beside files.old files.new) counted result.counted
+        (IsKept (plan_value plan.entry) result.readings.items result.kept) result.status }
+{
+    match plan.mode {
+        Mode::Told => {
+            let mut telling = Telling {
+                rules: plan.rules,
+                form: counted,
+            };
+            let status = tell_all(
+                alloc,
+                plan.names,
+                plan.beside,
+                files,
+                plan.edition,
+                &mut telling,
+            );
+            CheckedOnes {
+                status,
+                counted: telling.form,
+                readings: Vec::new(alloc),
+                kept: Kept::new(alloc),
+            }
+        }
+        Mode::Beyond(known) => {
+            let mut beyond = Beyond {
+                rules: plan.rules,
+                known: Borrowed { known },
+                form: counted,
+                readings: Vec::new(alloc),
+            };
+            let status = check_all(
+                alloc,
+                plan.names,
+                plan.beside,
+                files,
+                plan.edition,
+                &mut beyond,
+            );
+            CheckedOnes {
+                status,
+                counted: beyond.form,
+                readings: beyond.readings,
+                kept: Kept::new(alloc),
+            }
+        }
+        Mode::Anew(_) => {
+            let mut anew = Anew {
+                rules: plan.rules,
+                form: counted,
+                readings: Vec::new(alloc),
+            };
+            let status = check_all(
+                alloc,
+                plan.names,
+                plan.beside,
+                files,
+                plan.edition,
+                &mut anew,
+            );
+            CheckedOnes {
+                status,
+                counted: anew.form,
+                readings: anew.readings,
+                kept: Kept::new(alloc),
+            }
+        }
+        Mode::Waived => {
+            let mut waiving = Waiving {
+                rules: plan.rules,
+                form: counted,
+                kept: Kept::new(alloc),
+            };
+            let status = waive_all(
+                alloc,
+                plan.names,
+                plan.beside,
+                files,
+                plan.edition,
+                &mut waiving,
+            );
+            CheckedOnes {
+                status,
+                counted: waiving.form,
+                readings: Vec::new(alloc),
+                kept: waiving.kept,
+            }
+        }
+    }
+}

@@ -1,0 +1,242 @@
+//! Writes what is chosen of fonts, in the layout that is requested.
+
+ghost use Rattle.std.specs.Prelude.{◌≡◌, Err};
+ghost use Rattle.t1_answer_all.specs.Plans.{plan_value};
+ghost use Rattle.t1_answer_all.specs.Writing.{FinishesChecked, FinishesForm, WritesCommands, WritesFormatted, WritesGroups, WritesIn, WritesPlain, lost_by};
+ghost use Rattle.t1_many.specs.Files.{files_by};
+ghost use Rattle.t1_many.specs.Handing.{lost_of};
+
+use crate::findings::{Findings, check_fonts};
+use crate::layout::Layout;
+use crate::plan::Plan;
+use crate::unlisted::give_unlisted;
+use std::alloc::Global;
+use t1_forms::{FormatError, Sarif};
+use t1_grouped::{GitHubGroups, GroupForm, Grouped};
+use t1_io::Sink;
+use t1_many::{FontFiles, Lost, Plain};
+use t1_many_forms::{Formatted, Formatter, GitHubCommands, JsonLines};
+use t1_run::Status;
+
+/// Fonts of which was written what is chosen.
+#[derive(Drop)]
+pub(crate) struct Written<W: Sink + Drop, E: Sink + Drop> {
+    /// The greatest status of the fonts, or why it stopped.
+    pub(crate) status: Result<Status, Lost>,
+    /// What was found in them.
+    pub(crate) found: Findings,
+    /// The output.
+    pub(crate) out: W,
+    /// Standard error.
+    pub(crate) errors: E,
+}
+
+/// Checks fonts in order, and writes what is chosen of them and why there is no report of a font. In a form for another program it also writes
+/// what couldn't be listed.
+pub(crate) fn write_fonts<S, W, E>(
+    alloc: Global,
+    plan: Plan<'_>,
+    files: &mut S,
+    out: W,
+    errors: E,
+) -> Written<W, E>
+where
+    S: FontFiles,
+    W: Sink + Drop,
+    E: Sink + Drop,
+    ensures { WritesIn (plan_value plan.entry) (files_by S.calls plan.entry.beside files.old files.new)
+        (record { out = W.state out; errors = E.state errors }) (record { out = W.state result.out; errors = E.state result.errors })
+        result.found result.status }
+{
+    let mut out = out;
+    match plan.layout {
+        Layout::Lines { reasons } => write_plain(alloc, plan, files, reasons, out, errors),
+        Layout::Groups(terminal) => write_groups(alloc, plan, files, terminal, out, errors),
+        Layout::JsonLines { reasons } => {
+            write_formatted(alloc, plan, files, reasons, JsonLines, out, errors)
+        }
+        Layout::GitHub { reasons } => write_commands(alloc, plan, files, reasons, out, errors),
+        Layout::Sarif { pages, reasons } => match Sarif::begin(alloc, &mut out, pages) {
+            Ok(document) => write_formatted(alloc, plan, files, reasons, document, out, errors),
+            Err(error) => unwritten(alloc, lost_by(error), out, errors),
+        },
+    }
+}
+
+/// The same as `NAME: LINE`.
+fn write_plain<S, W, E>(
+    alloc: Global,
+    plan: Plan<'_>,
+    files: &mut S,
+    reasons: bool,
+    out: W,
+    errors: E,
+) -> Written<W, E>
+where
+    S: FontFiles,
+    W: Sink + Drop,
+    E: Sink + Drop,
+    ensures { WritesPlain reasons (plan_value plan.entry) (files_by S.calls plan.entry.beside files.old files.new)
+        (record { out = W.state out; errors = E.state errors }) (record { out = W.state result.out; errors = E.state result.errors })
+        result.found result.status }
+{
+    let form = Plain {
+        reasons,
+        out,
+        errors,
+    };
+    let checked = check_fonts(alloc, plan, files, form);
+    Written {
+        status: checked.status,
+        found: checked.found,
+        out: checked.form.out,
+        errors: checked.form.errors,
+    }
+}
+
+/// The same by groups.
+fn write_groups<S, T, W, E>(
+    alloc: Global,
+    plan: Plan<'_>,
+    files: &mut S,
+    form: T,
+    out: W,
+    errors: E,
+) -> Written<W, E>
+where
+    S: FontFiles,
+    T: GroupForm + Drop,
+    W: Sink + Drop,
+    E: Sink + Drop,
+    ensures { WritesGroups (T.writing form) (plan_value plan.entry) (files_by S.calls plan.entry.beside files.old files.new)
+        (record { out = W.state out; errors = E.state errors }) (record { out = W.state result.out; errors = E.state result.errors })
+        result.found result.status }
+{
+    let grouped = Grouped::new(alloc, form, out, errors);
+    let checked = check_fonts(alloc, plan, files, grouped);
+    let (_form, out, errors) = checked.form.into_parts();
+    Written {
+        status: checked.status,
+        found: checked.found,
+        out,
+        errors,
+    }
+}
+
+/// The same as commands of GitHub: first those of what couldn't be listed, which are flushed.
+fn write_commands<S, W, E>(
+    alloc: Global,
+    plan: Plan<'_>,
+    files: &mut S,
+    reasons: bool,
+    out: W,
+    errors: E,
+) -> Written<W, E>
+where
+    S: FontFiles,
+    W: Sink + Drop,
+    E: Sink + Drop,
+    ensures { WritesCommands reasons (plan_value plan.entry) (files_by S.calls plan.entry.beside files.old files.new)
+        (record { out = W.state out; errors = E.state errors }) (record { out = W.state result.out; errors = E.state result.errors })
+        result.found result.status }
+{
+    let mut out = out;
+    let mut formatter = GitHubCommands;
+    if let Err(lost) = give_unlisted(alloc, plan.unlisted, &mut formatter, &mut out) {
+        return unwritten(alloc, lost, out, errors);
+    }
+    match out.flush() {
+        Ok(()) => write_groups(alloc, plan, files, GitHubGroups { reasons }, out, errors),
+        Err(_) => unwritten(alloc, Lost::Device, out, errors),
+    }
+}
+
+/// The same in the form of a formatter, which has written what comes before all else.
+fn write_formatted<S, T, W, E>(
+    alloc: Global,
+    plan: Plan<'_>,
+    files: &mut S,
+    reasons: bool,
+    formatter: T,
+    out: W,
+    errors: E,
+) -> Written<W, E>
+where
+    S: FontFiles,
+    T: Formatter + Drop,
+    W: Sink + Drop,
+    E: Sink + Drop,
+    ensures { WritesFormatted
+        (record { reasons = reasons; Writes = T.writes; Finishes = T.finishes; begun = formatter })
+        (plan_value plan.entry) (files_by S.calls plan.entry.beside files.old files.new)
+        (record { out = W.state out; errors = E.state errors }) (record { out = W.state result.out; errors = E.state result.errors })
+        result.found result.status }
+{
+    let mut formatter = formatter;
+    let mut out = out;
+    if let Err(lost) = give_unlisted(alloc, plan.unlisted, &mut formatter, &mut out) {
+        return unwritten(alloc, lost, out, errors);
+    }
+    let form = Formatted::new(alloc, formatter, out, errors, reasons);
+    let checked = check_fonts(alloc, plan, files, form);
+    let (formatter, mut out, errors) = checked.form.into_parts();
+    let status = finish_checked(alloc, formatter, &mut out, checked.status);
+    Written {
+        status,
+        found: checked.found,
+        out,
+        errors,
+    }
+}
+
+/// Finishes a form, unless the check of its fonts stopped.
+fn finish_checked<T: Formatter + Drop, W: Sink>(
+    alloc: Global,
+    formatter: T,
+    out: &mut W,
+    status: Result<Status, Lost>,
+) -> Result<Status, Lost>
+    ensures { FinishesChecked (T.finishes formatter) (W.state out.old) (W.state out.new) status result }
+{
+    let status = status?;
+    finish_form(alloc, formatter, out)?;
+    Ok(status)
+}
+
+/// Writes what comes after all else, and flushes it.
+fn finish_form<T: Formatter, W: Sink>(alloc: Global, formatter: T, out: &mut W) -> Result<(), Lost>
+    ensures { FinishesForm (T.finishes formatter) (W.state out.old) (W.state out.new) (lost_of result) }
+{
+    formatter.finish(alloc, out)?;
+    out.flush()?;
+    Ok(())
+}
+
+/// Why a run stops where a document can't be begun.
+fn lost_by(error: FormatError) -> Lost
+    ensures { result ≡ lost_by error }
+{
+    match error {
+        FormatError::Memory => Lost::Memory,
+        FormatError::Broken => Lost::Device,
+    }
+}
+
+/// Nothing was found, since it stopped before the first font.
+fn unwritten<W: Sink + Drop, E: Sink + Drop>(
+    alloc: Global,
+    lost: Lost,
+    out: W,
+    errors: E,
+) -> Written<W, E>
+    ensures status { result.status ≡ Err lost }
+    ensures out { result.out ≡ out }
+    ensures errors { result.errors ≡ errors }
+{
+    Written {
+        status: Err(lost),
+        found: Findings::none(alloc),
+        out,
+        errors,
+    }
+}

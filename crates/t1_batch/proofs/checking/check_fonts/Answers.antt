@@ -1,7 +1,0 @@
-use Rattle.std.proofs.Common.{refl}
-use Rattle.t1_batch.proofs.CountedFonts.{fonts_counted}
-use Rattle.t1_batch.proofs.checking.check_fonts.Goals as goal
-
-pub returns : goal.returns
-returns g c =
-    fonts_counted g.F.Form.takes (λ t. t.form) (λ t. t.tally) _ _ _ _ _ _ _ _ _ c.new.ensures refl c.check_ones-checked.ensures

@@ -1,9 +1,0 @@
-use Rattle.std.proofs.Common.{refl, sym}
-use Rattle.t1_batch.proofs.RunEnds.{run_ends}
-use Rattle.t1_batch.proofs.running.run.Goals as goal
-
-pub returns : goal.returns
-returns g c =
-    run_ends _ _ _ _ _ _ _ _ _ _
-    (record { out = g.W.Sink.state c.write_fonts-status.result.out; errors = g.E.Sink.state c.write_fonts-status.result.errors }) _ _ _ _
-    c.write_fonts-status.ensures (rw (sym c.is_empty-whole.ensures) c.conclude_written-left.ensures) refl

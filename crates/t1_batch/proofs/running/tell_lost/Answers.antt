@@ -1,7 +1,0 @@
-use Rattle.t1_batch.proofs.running.tell_lost.Goals as goal
-
-pub returns-in-Device : goal.returns-in-Device
-returns-in-Device g c = rw c.in-Device.is c.tell_write_failed.ensures
-
-pub returns-in-Memory : goal.returns-in-Memory
-returns-in-Memory g c = rw c.in-Memory.is c.tell_failure.ensures

@@ -1,9 +1,0 @@
-use Rattle.std.proofs.Common.{None, replicate}
-use Rattle.t1_batch.specs.Unlisted.{GivesEach}
-use Rattle.t1_forms.specs.Tellings.{told_value}
-use Rattle.t1_batch.proofs.unlisted.give_times.Given as goal
-
-abbrev pub invariant-loop-time : goal.invariant-loop-time
-invariant-loop-time g l =
-    GivesEach g.T.Formatter.writes l.fn.formatter l.formatter (g.W.Sink.state l.fn.out) (g.W.Sink.state l.out)
-    (replicate l._time (told_value l.fn.told)) None

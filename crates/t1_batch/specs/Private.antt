@@ -1,2 +1,0 @@
--- Words that private contracts alone cite: no clause of a public function rests on them.
-pub mod Updates
