@@ -5,7 +5,7 @@ use indexmap::IndexMap;
 use std::alloc::{AllocError, Global};
 use std::process::Abort;
 use std::test::Fail;
-use t1_io::{Fuse, Limit, Out};
+use t1_io::{Broken, Fuse, Limit, Out, Sink};
 use t1_known::{KnownFaults, write_mismatches, write_updated};
 use t1_many::{Choice, Lost, Reading};
 
@@ -78,63 +78,71 @@ const SOME_ANEW: &[u8] = b"\
 1 H02 glyph A new.pfb
 ";
 
-/// The file anew.
-fn anew(rt: &HostRuntime, text: &mut Vec<u8>, only: &[&str], except: &[&str]) -> bool {
-    let Ok(known) = KnownFaults::read(rt.alloc(), FILE) else {
-        return false;
+/// Writes the file anew.
+fn write_anew<W: Sink>(
+    alloc: Global,
+    sink: &mut W,
+    known: &KnownFaults<'_>,
+    readings: &[Reading],
+    choice: Choice<'_>,
+) -> Result<(), Lost> {
+    write_updated(alloc, sink, known, readings, choice)
+}
+
+/// The file anew, where these words choose rules.
+fn anew(alloc: Global, only: &[&str], except: &[&str]) -> Result<Vec<u8>, Fail> {
+    let Ok(known) = KnownFaults::read(alloc, FILE) else {
+        return Err(Fail::from(Broken));
     };
-    let Ok(readings) = readings_of(rt.alloc(), READINGS) else {
-        return false;
-    };
-    let (Ok(only), Ok(except)) = (names_of(rt.alloc(), only), names_of(rt.alloc(), except)) else {
-        return false;
-    };
+    let readings = readings_of(alloc, READINGS)?;
+    let only = names_of(alloc, only)?;
+    let except = names_of(alloc, except)?;
     let choice = Choice {
         only: only.as_slice(),
         except: except.as_slice(),
     };
-    write_updated(
-        rt.alloc(),
-        &mut Out::new(text),
+    let mut text = Vec::new(alloc);
+    let written = write_anew(
+        alloc,
+        &mut Out::new(&mut text),
         &known,
         readings.as_slice(),
         choice,
-    )
-    .is_ok()
+    );
+    match written {
+        Ok(()) => Ok(text),
+        Err(_) => Err(Fail::from(Broken)),
+    }
 }
 
 #[test]
 fn rows_stay_go_and_come(rt: HostRuntime) -> Result<(), Fail> {
-    let mut text = Vec::new(rt.alloc());
-    assert!(rt; anew(&rt, &mut text, &[], &[]));
+    let text = anew(rt.alloc(), &[], &[])?;
     assert!(rt; text.as_slice() == ALL_ANEW);
-    let mut text = Vec::new(rt.alloc());
-    assert!(rt; anew(&rt, &mut text, &["H", "P03"], &[]));
+    let text = anew(rt.alloc(), &["H", "P03"], &[])?;
     assert!(rt; text.as_slice() == SOME_ANEW);
-    let mut text = Vec::new(rt.alloc());
-    assert!(rt; anew(&rt, &mut text, &[], &["Z"]));
+    let text = anew(rt.alloc(), &[], &["Z"])?;
     assert!(rt; text.as_slice() == SOME_ANEW);
     Ok(())
 }
 
 #[test]
-fn a_sink_that_fails_ends_the_writing(rt: HostRuntime) {
+fn a_sink_that_fails_ends_the_writing(rt: HostRuntime) -> Result<(), Fail> {
     let Ok(known) = KnownFaults::read(rt.alloc(), FILE) else {
-        panic!(rt; "the file isn't read");
+        return Err(Fail::from(Broken));
     };
-    let Ok(readings) = readings_of(rt.alloc(), READINGS) else {
-        panic!(rt; "memory ran out");
-    };
-    let mut text = Vec::new(rt.alloc());
-    let mut sink = Fuse::sink(Out::new(&mut text), Limit::Bytes(100));
+    let readings = readings_of(rt.alloc(), READINGS)?;
     let choice = Choice {
         only: &[],
         except: &[],
     };
-    let written = write_updated(rt.alloc(), &mut sink, &known, readings.as_slice(), choice);
+    let mut text = Vec::new(rt.alloc());
+    let mut sink = Fuse::sink(Out::new(&mut text), Limit::Bytes(100));
+    let written = write_anew(rt.alloc(), &mut sink, &known, readings.as_slice(), choice);
     drop(sink);
     assert!(rt; written == Err(Lost::Device));
     assert!(rt; text.as_slice() == &ALL_ANEW[..100]);
+    Ok(())
 }
 
 /// Fewer are found than known.

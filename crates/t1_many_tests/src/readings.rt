@@ -118,7 +118,13 @@ fn beyond<'a, K: Known + Drop>(
         Edition::One,
         &mut beyond,
     );
-    let Beyond { form, readings, .. } = beyond;
+    let Beyond {
+        rules: _rules,
+        known,
+        form,
+        readings,
+    } = beyond;
+    drop(known);
     let tally = form.tally;
     drop(form);
     Answer {

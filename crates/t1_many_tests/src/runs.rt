@@ -129,6 +129,17 @@ fn run_faulty<'a, W: Sink + Drop, E: Sink + Drop>(
     Ok(run_over(alloc, plan, files, out, errors))
 }
 
+/// The same, where lines beyond these known faults are written.
+fn run_beyond<'a, W: Sink + Drop, E: Sink + Drop>(
+    alloc: Global,
+    files: &'a [File<'a>],
+    known: &KnownFaults<'_>,
+    out: W,
+    errors: E,
+) -> Result<Left, AllocError> {
+    run_faulty(alloc, files, Mode::Beyond(known), out, errors)
+}
+
 /// No line goes beyond the known faults, and the row of H02 is no longer reached.
 #[test]
 fn reports_what_is_no_longer_reached(rt: HostRuntime) -> Result<(), Fail> {
@@ -139,10 +150,10 @@ fn reports_what_is_no_longer_reached(rt: HostRuntime) -> Result<(), Fail> {
     };
     let mut text = Vec::new(rt.alloc());
     let mut told = Vec::new(rt.alloc());
-    let left = run_faulty(
+    let left = run_beyond(
         rt.alloc(),
         &files,
-        Mode::Beyond(&known),
+        &known,
         Out::new(&mut text),
         Out::new(&mut told),
     )?;
@@ -173,10 +184,10 @@ fn reports_what_is_not_as_known(rt: HostRuntime) -> Result<(), Fail> {
     };
     let mut text = Vec::new(rt.alloc());
     let mut told = Vec::new(rt.alloc());
-    let left = run_faulty(
+    let left = run_beyond(
         rt.alloc(),
         &files,
-        Mode::Beyond(&known),
+        &known,
         Out::new(&mut text),
         Out::new(&mut told),
     )?;
@@ -198,6 +209,17 @@ faulty.pfb: known faults: C05 glyph A: 3 known, 1 found
     Ok(())
 }
 
+/// The same, where its faults replace these known ones.
+fn run_anew<'a, W: Sink + Drop, E: Sink + Drop>(
+    alloc: Global,
+    files: &'a [File<'a>],
+    known: &KnownFaults<'_>,
+    out: W,
+    errors: E,
+) -> Result<Left, AllocError> {
+    run_faulty(alloc, files, Mode::Anew(known), out, errors)
+}
+
 /// Rows are in the order of each kind's first fault. The row of H02 goes.
 #[test]
 fn leaves_known_faults(rt: HostRuntime) -> Result<(), Fail> {
@@ -208,10 +230,10 @@ fn leaves_known_faults(rt: HostRuntime) -> Result<(), Fail> {
     };
     let mut text = Vec::new(rt.alloc());
     let mut told = Vec::new(rt.alloc());
-    let left = run_faulty(
+    let left = run_anew(
         rt.alloc(),
         &files,
-        Mode::Anew(&known),
+        &known,
         Out::new(&mut text),
         Out::new(&mut told),
     )?;
@@ -286,6 +308,18 @@ t1check-all: lines of a font itself can not be waived
     Ok(())
 }
 
+/// Objects are written of the P03 of these fonts, after a name that isn't UTF-8 and these folders. The summary is omitted.
+fn unlisted_plan<'a>(names: &'a [String], unsearched: &'a [String]) -> Plan<'a> {
+    let mut plan = plan_of(names, only(&[Rule::P03]), Mode::Told);
+    plan.layout = Layout::JsonLines { reasons: false };
+    plan.unlisted = Unlisted {
+        undecoded: 1,
+        unsearched,
+    };
+    plan.quiet = true;
+    plan
+}
+
 /// What couldn't be listed comes first, and the status is that of a failure. `quiet` omits the summary.
 #[test]
 fn reports_what_was_not_listed(rt: HostRuntime) -> Result<(), Fail> {
@@ -295,16 +329,9 @@ fn reports_what_was_not_listed(rt: HostRuntime) -> Result<(), Fail> {
     let mut text = Vec::new(rt.alloc());
     let mut told = Vec::new(rt.alloc());
     let names = names_of(rt.alloc(), &["faulty.pfb"])?;
-    let mut plan = plan_of(names.as_slice(), only(&[Rule::P03]), Mode::Told);
-    plan.layout = Layout::JsonLines { reasons: false };
-    plan.unlisted = Unlisted {
-        undecoded: 1,
-        unsearched: unsearched.as_slice(),
-    };
-    plan.quiet = true;
     let left = run_over(
         rt.alloc(),
-        plan,
+        unlisted_plan(names.as_slice(), unsearched.as_slice()),
         &files,
         Out::new(&mut text),
         Out::new(&mut told),
