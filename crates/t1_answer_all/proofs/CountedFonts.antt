@@ -12,14 +12,14 @@ use Rattle.t1_many.specs.Counting.{Counts, all_fonts, all_lines, fonts_of, lines
 use Rattle.t1_many.specs.Files.{Files}
 use Rattle.t1_many.specs.Handing.{Handed, HandsOn, found_of, handed_of, is_told, line}
 use Rattle.t1_many.specs.Outcomes.{Entry, Outcome, Report, failed, reported}
-use Rattle.t1_many.specs.declared.recipient.Lost.{Lost}
+use Rattle.t1_many.specs.declared.policy.Lost.{Lost}
 use Rattle.t1_many.specs.declared.verdict.Verdict.{Verdict}
 use Rattle.t1_report.specs.Faults.{FaultValue}
 use Rattle.t1_report.specs.Waivers.{Waiver}
 use Rattle.t1_rules.specs.declared.rule.Rule.{Rule}
 use Rattle.t1_run.specs.declared.status.Status.{Status}
 use Rattle.t1_summary.specs.Tallies.{tally_of}
-use Rattle.t1_summary.specs.declared.found.Found.{Found}
+use Rattle.t1_summary.specs.declared.found.FontClass.{FontClass}
 use Rattle.t1_summary.specs.declared.tally.Tally.{Tally}
 
 -- ---- how fonts were found is handed on once of each
@@ -32,7 +32,7 @@ one_font : (judge : Report → FaultValue → Verdict) (name : List ℕ) (outcom
     → all_fonts (handed_of judge name outcome) ≡ found_of judge outcome ∷ []
 one_font judge name (reported report) =
     flat_map-append fonts_of (map (line name (checked report.font report.edition) report.waivers) (filter (λ fault. is_told (judge report fault)) report.faults)) _
-    ∙ ap (λ (fs : List Found). fs ++ found_of judge (reported report) ∷ [])
+    ∙ ap (λ (fs : List FontClass). fs ++ found_of judge (reported report) ∷ [])
     (no_fonts name (checked report.font report.edition) report.waivers (filter (λ fault. is_told (judge report fault)) report.faults))
 one_font judge name (failed reason) = refl
 
@@ -41,7 +41,7 @@ fonts_are : (judges : List ℕ → Report → FaultValue → Verdict) (entries :
 fonts_are judges [] = refl
 fonts_are judges (entry ∷ entries) =
     flat_map-append fonts_of (handed_of (judges entry.name) entry.name entry.outcome) (all_handed judges entries)
-    ∙ ap₂ (λ (a b : List Found). a ++ b) (one_font (judges entry.name) entry.name entry.outcome) (fonts_are judges entries)
+    ∙ ap₂ (λ (a b : List FontClass). a ++ b) (one_font (judges entry.name) entry.name entry.outcome) (fonts_are judges entries)
 
 module _ {T F : Type 0} (takes : F → F → Handed → Option Lost → Type 0) (form : T → F) (tally : T → Tally) where
   -- What a form takes that counts.
@@ -54,7 +54,7 @@ module _ {T F : Type 0} (takes : F → F → Handed → Option Lost → Type 0) 
   handed_on old new (x ∷ xs) lost (inl (next, (took, count), rest)) = inl (form next, took, handed_on next new xs lost rest)
   handed_on old new (x ∷ xs) lost (inr (reason, (took, count), is)) = inr (reason, took, is)
 
-  counted : (old new : T) (handed : List Handed) (founds : List Found) (lines : List Rule) → HandsOn Takes old new handed None
+  counted : (old new : T) (handed : List Handed) (founds : List FontClass) (lines : List Rule) → HandsOn Takes old new handed None
       → tally old ≡ tally_of founds lines → tally new ≡ tally_of (founds ++ all_fonts handed) (lines ++ all_lines handed)
   counted old new [] founds lines (same, none) is =
       ap tally same ∙ is ∙ ap₂ tally_of (sym (append-nil founds)) (sym (append-nil lines))
@@ -71,7 +71,7 @@ module _ {T F : Type 0} (takes : F → F → Handed → Option Lost → Type 0) 
       whole entries are (handed_on old new handed_are None handed)
       (record {
         counted = tally_is ∙ counted old new handed_are [] [] handed none
-            ∙ ap (λ (fs : List Found). tally_of fs (all_lines handed_are)) (fonts_are (judges_in plan) entries);
+            ∙ ap (λ (fs : List FontClass). tally_of fs (all_lines handed_are)) (fonts_are (judges_in plan) entries);
         kept = kept;
       }) is
   fonts_counted plan files old new found result none tally_is (cut_short count entries are lost stop handed why is) =

@@ -15,13 +15,13 @@ use Rattle.t1_many.specs.Handing.{Handed, HandsOn, found_of, handed_of}
 use Rattle.t1_many.specs.Outcomes.{Entry, Outcome, Report, failed, reported}
 use Rattle.t1_many.specs.Readings.{IsReadingOf, TakesOutcome}
 use Rattle.t1_many.specs.declared.readings.Reading.{Reading as Kept}
-use Rattle.t1_many.specs.declared.recipient.Lost.{Lost}
-use Rattle.t1_many.specs.declared.recipient.Lost.TheVariants.{Memory}
+use Rattle.t1_many.specs.declared.policy.Lost.{Lost}
+use Rattle.t1_many.specs.declared.policy.Lost.TheVariants.{Memory}
 use Rattle.t1_many.specs.declared.verdict.Verdict.{Verdict}
 use Rattle.t1_report.specs.Faults.{FaultValue}
 use Rattle.t1_rules.specs.declared.mask.Mask.{Mask}
 use Rattle.t1_run.specs.declared.status.Status.{Status}
-use Rattle.t1_summary.specs.declared.found.Found.{Found}
+use Rattle.t1_summary.specs.declared.found.FontClass.{FontClass}
 
 zip-append : {A B : Type 0} (R : A → B → Type 0) (xs xs' : List A) (ys ys' : List B) → AllZip R xs ys → AllZip R xs' ys'
     → AllZip R (xs ++ xs') (ys ++ ys')
@@ -33,13 +33,13 @@ zip-append R (x ∷ xs) xs' (y ∷ ys) ys' (first, rest) more = (first, zip-appe
 module _ {T F : Type 0} (takes : F → F → Handed → Option Lost → Type 0) (form : T → F) (kept : T → List Kept) (rules : T → Mask)
     (judges : T → List ℕ → Report → FaultValue → Verdict) where
   -- A font is taken, and what decides the next one stays.
-  pub record TakesFont (old new : T) (entry : Entry) (taken : Result Found Lost) : Type 0 where
+  pub record TakesFont (old new : T) (entry : Entry) (taken : Result FontClass Lost) : Type 0 where
     pub rules_stay : rules new ≡ rules old
     pub judges_stay : judges new ≡ judges old
     pub outcome : TakesOutcome takes (judges old entry.name) (rules old) (form old) (form new) (kept old) (kept new) entry.name entry.outcome taken
 
   record HasTaken (judge : Report → FaultValue → Verdict) (mask : Mask) (a b : F) (old new : List Kept) (name : List ℕ) (outcome : Outcome)
-      (found : Found) : Type 0 where
+      (found : FontClass) : Type 0 where
     pub handed : HandsOn takes a b (handed_of judge name outcome) None
     pub found_is : found ≡ found_of judge outcome
     pub added : List Kept
@@ -47,7 +47,7 @@ module _ {T F : Type 0} (takes : F → F → Handed → Option Lost → Type 0) 
     pub texts : AllZip IsReadingOf added (outcome_readings mask name outcome)
 
   has_taken : (judge : Report → FaultValue → Verdict) (mask : Mask) (a b : F) (old new : List Kept) (name : List ℕ) (outcome : Outcome)
-      (found : Found) → TakesOutcome takes judge mask a b old new name outcome (Ok found)
+      (found : FontClass) → TakesOutcome takes judge mask a b old new name outcome (Ok found)
       → HasTaken judge mask a b old new name outcome found
   has_taken judge mask a b old new name (reported report) found (hands, reading, is, keeps) = record {
     handed = hands.0;
@@ -78,7 +78,7 @@ module _ {T F : Type 0} (takes : F → F → Handed → Option Lost → Type 0) 
   has_stopped judge mask a b old new name (failed reason) lost (hands, same) = record { stop = Some lost; handed = hands.0; why = inl refl }
 
   -- Fonts that were taken.
-  record HaveTaken (old new : T) (entries : List Entry) (founds : List Found) : Type 0 where
+  record HaveTaken (old new : T) (entries : List Entry) (founds : List FontClass) : Type 0 where
     pub rules_stay : rules new ≡ rules old
     pub judges_stay : judges new ≡ judges old
     pub handed : HandsOn takes (form old) (form new) (all_handed (judges old) entries) None
@@ -87,7 +87,7 @@ module _ {T F : Type 0} (takes : F → F → Handed → Option Lost → Type 0) 
     pub kept_is : kept new ≡ kept old ++ added
     pub texts : AllZip IsReadingOf added (flat_map (entry_readings (rules old)) entries)
 
-  have_taken : (old new : T) (entries : List Entry) (founds : List Found) → AreTaken TakesFont old new entries founds
+  have_taken : (old new : T) (entries : List Entry) (founds : List FontClass) → AreTaken TakesFont old new entries founds
       → HaveTaken old new entries founds
   have_taken old new [] founds (same, none) = record {
     rules_stay = ap rules same;
@@ -109,7 +109,7 @@ module _ {T F : Type 0} (takes : F → F → Handed → Option Lost → Type 0) 
             one.handed
             (subst (λ (j : List ℕ → Report → FaultValue → Verdict). HandsOn takes (form next) (form new) (all_handed j entries) None)
             took.judges_stay more.handed);
-        founds_are = are ∙ ap₂ (λ f (fs : List Found). f ∷ fs) one.found_is
+        founds_are = are ∙ ap₂ (λ f (fs : List FontClass). f ∷ fs) one.found_is
             (more.founds_are ∙ ap (λ (j : List ℕ → Report → FaultValue → Verdict). founds_of j entries) took.judges_stay);
         added = one.added ++ more.added;
         kept_is = more.kept_is ∙ ap (λ ks. ks ++ more.added) one.kept_is ∙ append_assoc (kept old) one.added more.added;

@@ -6,7 +6,7 @@ use Rattle.t1_answer_all.specs.Plans.{PlanValue}
 use Rattle.t1_many.specs.Files.{Files}
 use Rattle.t1_many.specs.Handing.{Handed, HandsOn}
 use Rattle.t1_many.specs.Outcomes.{Entry}
-use Rattle.t1_many.specs.declared.recipient.Lost.{Lost}
+use Rattle.t1_many.specs.declared.policy.Lost.{Lost}
 use Rattle.t1_run.specs.declared.status.Status.{Status}
 
 module _ {A B X : Type 0} (takes : X → B → B → Handed → Option Lost → Type 0) (kept : A → X) (view : A → B) where

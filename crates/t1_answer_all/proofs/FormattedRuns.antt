@@ -9,8 +9,8 @@ use Rattle.t1_answer_all.specs.declared.findings.Findings.{Findings}
 use Rattle.t1_io.specs.Devices.{SinkState}
 use Rattle.t1_many.specs.Files.{Files}
 use Rattle.t1_many.specs.Plain.{Devices}
-use Rattle.t1_many.specs.declared.recipient.Lost.{Lost}
-use Rattle.t1_many_forms.specs.Formatting.{FormattedTakes, Formatting}
+use Rattle.t1_many.specs.declared.policy.Lost.{Lost}
+use Rattle.t1_printers.specs.Formatting.{FormattedTakes, Formatting}
 use Rattle.t1_run.specs.declared.status.Status.{Status}
 
 module _ {T : Type 0} (form : FormatterForm T) (plan : PlanValue) (files : Files) (old new : Devices) (found : Findings) (begun ended : Formatting T)

@@ -5,7 +5,7 @@ use Rattle.std.proofs.lemmas.Option.{none-some}
 use Rattle.t1_answer_all.specs.Unlisted.{GivesEach}
 use Rattle.t1_forms.specs.Tellings.{ToldValue}
 use Rattle.t1_io.specs.Devices.{SinkState}
-use Rattle.t1_many.specs.declared.recipient.Lost.{Lost}
+use Rattle.t1_many.specs.declared.policy.Lost.{Lost}
 
 module _ {T : Type 0} (writes : T → T → SinkState → SinkState → ToldValue → Option Lost → Type 0) where
   -- all of some, and then others

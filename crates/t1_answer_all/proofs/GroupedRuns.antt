@@ -3,12 +3,12 @@ use Rattle.std.proofs.Common.{◌≡◌, List, Result}
 use Rattle.t1_answer_all.specs.Checks.{ChecksFonts}
 use Rattle.t1_answer_all.specs.Checks.ChecksFonts.{cut_short, whole}
 use Rattle.t1_answer_all.specs.Plans.{PlanValue}
-use Rattle.t1_grouped.proofs.Written.{seen}
-use Rattle.t1_grouped.specs.GroupLines.{Writing}
-use Rattle.t1_grouped.specs.Grouping.{GroupedTakes, Grouping}
+use Rattle.t1_printers.proofs.Written.{seen}
+use Rattle.t1_printers.specs.GroupLines.{Writing}
+use Rattle.t1_printers.specs.Grouping.{GroupedTakes, Grouping}
 use Rattle.t1_many.specs.Files.{Files}
 use Rattle.t1_many.specs.Outcomes.{Entry}
-use Rattle.t1_many.specs.declared.recipient.Lost.{Lost}
+use Rattle.t1_many.specs.declared.policy.Lost.{Lost}
 use Rattle.t1_run.specs.declared.status.Status.{Status}
 
 module _ {F T : Type 0} (form : F → T) (writes : T → Writing) (view : Writing → F → Grouping) where

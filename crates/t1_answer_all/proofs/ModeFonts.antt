@@ -18,12 +18,12 @@ use Rattle.t1_many.specs.Told.{TellsAll, all_handed, founds_of}
 use Rattle.t1_many.specs.Told.TellsAll.{cut_short, whole}
 use Rattle.t1_many.specs.Verdicts.{of_rules}
 use Rattle.t1_many.specs.declared.readings.Reading.{Reading as Kept}
-use Rattle.t1_many.specs.declared.recipient.Lost.{Lost}
+use Rattle.t1_many.specs.declared.policy.Lost.{Lost}
 use Rattle.t1_many.specs.declared.verdict.Verdict.{Verdict}
 use Rattle.t1_report.specs.Faults.{FaultValue}
 use Rattle.t1_rules.specs.declared.mask.Mask.{Mask}
 use Rattle.t1_run.specs.declared.status.Status.{Status}
-use Rattle.t1_summary.specs.declared.found.Found.{Found}
+use Rattle.t1_summary.specs.declared.found.FontClass.{FontClass}
 use Rattle.t1_waiving.specs.FontTexts.{FontText, all_texts}
 use Rattle.t1_waiving.specs.Waived.{WaivesAll}
 use Rattle.t1_waiving.specs.Waived.WaivesAll.{cut_short as waived_short, whole as waived_whole}
@@ -71,9 +71,9 @@ module _ {F : Type 0} (takes : F → F → Handed → Option Lost → Type 0) (p
 
 -- ---- by known faults
 
-module _ {T : Type 0} (A B : T → T → Entry → Result Found Lost → Type 0)
-    (each : (old new : T) (entry : Entry) (taken : Result Found Lost) → A old new entry taken → B old new entry taken) where
-  taken-map : (old new : T) (entries : List Entry) (founds : List Found) → AreTaken A old new entries founds → AreTaken B old new entries founds
+module _ {T : Type 0} (A B : T → T → Entry → Result FontClass Lost → Type 0)
+    (each : (old new : T) (entry : Entry) (taken : Result FontClass Lost) → A old new entry taken → B old new entry taken) where
+  taken-map : (old new : T) (entries : List Entry) (founds : List FontClass) → AreTaken A old new entries founds → AreTaken B old new entries founds
   taken-map old new [] founds are = are
   taken-map old new (entry ∷ entries) founds (next, found, others, took, rest, is) =
       (next, found, others, each old next entry _ took, taken-map next new entries others rest, is)

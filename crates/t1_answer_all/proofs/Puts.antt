@@ -1,23 +1,27 @@
 -- Files that are put one after another.
-use Rattle.std.proofs.Common.{◌≡◌, ◌++◌, ◌&&◌, ℕ, Bool, true, false, List, [], ◌∷◌, Option, ap, inr, refl, subst, ◌∙◌}
+use Rattle.std.proofs.Common.{◌≡◌, ◌++◌, ◌&&◌, ℕ, Bool, true, false, List, [], ◌∷◌, ap, inr, refl, subst, ◌∙◌}
 use Rattle.t1_answer_all.specs.Replacing.{IsKeptBack, PutsEach, PutsWaiversOf}
+use Rattle.t1_answer_all.specs.Stores.{Putting, Replacing}
 use Rattle.t1_io.specs.Devices.{SinkState}
-use Rattle.t1_names.specs.declared.causes.Cause.{Cause}
 use Rattle.t1_waiving.specs.FontTexts.{FontText}
 
-module _ {F : Type 0} (Puts : F → F → List ℕ → List ℕ → Option Cause → Type 0) (Has : F → List ℕ → Bool → Type 0) (overwrites : Bool) where
+-- The files and standard error between two states.
+abbrev from : {F : Type 0} → F → F → SinkState → SinkState → Putting F
+from f g a b = record { files = f; files' = g; errors = a; errors' = b }
+
+module _ {F : Type 0} (store : Replacing F) (overwrites : Bool) where
   -- the waivers of one font more
   pub each-push : (fonts : List FontText) (font : FontText) (f g h : F) (a b c : SinkState) (done one : Bool)
-      → PutsEach Puts Has overwrites fonts f g a b done → PutsWaiversOf Puts Has overwrites font g h b c one
-      → PutsEach Puts Has overwrites (fonts ++ font ∷ []) f h a c (done && one)
-  each-push [] font f g h a b c done one (same, same_errors, all) put = (
+      → PutsEach store overwrites fonts (from f g a b) done → PutsWaiversOf store overwrites font (from g h b c) one
+      → PutsEach store overwrites (fonts ++ font ∷ []) (from f h a c) (done && one)
+  each-push [] font f g h a b c done one ((same, same_errors), all) put = (
     h,
     c,
     one,
     true,
-    subst (λ (s : F). PutsWaiversOf Puts Has overwrites font s h a c one) same
-        (subst (λ (s : SinkState). PutsWaiversOf Puts Has overwrites font g h s c one) same_errors put),
-    (refl, refl, refl),
+    subst (λ (s : F). PutsWaiversOf store overwrites font (from s h a c) one) same
+        (subst (λ (s : SinkState). PutsWaiversOf store overwrites font (from g h s c) one) same_errors put),
+    ((refl, refl), refl),
     ap (λ d. d && one) all ∙ and-true one,
   )
     where
@@ -39,6 +43,7 @@ module _ {F : Type 0} (Puts : F → F → List ℕ → List ℕ → Option Cause
       and-assoc false y z = refl
 
   -- whether waivers are kept back, by what is there
-  pub kept_back : (files : F) (name : List ℕ) (there : Bool) → overwrites ≡ false → Has files name there → IsKeptBack Has overwrites files name there
+  pub kept_back : (files : F) (name : List ℕ) (there : Bool) → overwrites ≡ false → store.Has files name there
+      → IsKeptBack store.Has overwrites files name there
   kept_back files name true kept has = (kept, has)
   kept_back files name false kept has = inr has

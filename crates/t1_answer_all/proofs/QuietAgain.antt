@@ -20,19 +20,19 @@ use Rattle.t1_many.proofs.Texts.{equal, itself}
 use Rattle.t1_many.specs.Beyond.{verdict_of}
 use Rattle.t1_many.specs.Choice.{Choice, is_told}
 use Rattle.t1_many.specs.Counting.{all_lines, lines_of}
-use Rattle.t1_many.specs.Groups.{told_faults}
 use Rattle.t1_many.specs.Handing.{found_by, found_of, handed_of, is_told as is_handed}
 use Rattle.t1_many.specs.Known.{key_in}
 use Rattle.t1_many.specs.KnownFaults.{IsKind, Reading, RowValue, beyond, file_text, found_count, kind_of, kinds_in, known_count, rule_of, updated}
 use Rattle.t1_many.specs.Laws.{AreReadings, IsReading, KindsNameTheirRules}
 use Rattle.t1_many.specs.Outcomes.{Entry, Outcome, Report, failed, reported}
+use Rattle.t1_many.specs.Verdicts.{told_faults}
 use Rattle.t1_many.specs.declared.verdict.Verdict.{Verdict}
-use Rattle.t1_many.specs.declared.verdict.Verdict.TheVariants.{Known, Left}
+use Rattle.t1_many.specs.declared.verdict.Verdict.TheVariants.{Known, Skipped}
 use Rattle.t1_report.specs.Faults.{FaultValue}
 use Rattle.t1_rules.specs.Book.{number_of}
 use Rattle.t1_rules.specs.Mask.{has}
 use Rattle.t1_rules.specs.declared.mask.Mask.{Mask}
-use Rattle.t1_summary.specs.declared.found.Found.TheVariants as founds
+use Rattle.t1_summary.specs.declared.found.FontClass.TheVariants as founds
 use Rattle.t1_answer_all.specs.Laws.{AnUpdateIsQuietNextTime, AreChosenBy, IsQuietFont}
 
 -- ---- lists
@@ -170,7 +170,7 @@ quiet_count : (c n : ℕ) → nat_lt c n ≡ false → n < 2 ^ 64 → nat_lt (mi
 quiet_count c n e few = grind (arith, nat_tests, e, few)
 
 abbrev IsQuietVerdict : Verdict → Type 0
-IsQuietVerdict verdict = (verdict ≡ Known) ⊎ (verdict ≡ Left)
+IsQuietVerdict verdict = (verdict ≡ Known) ⊎ (verdict ≡ Skipped)
 
 quiet_verdict : (told more : Bool) → (told ≡ true → more ≡ false) → IsQuietVerdict (verdict_of told more)
 quiet_verdict true more quiet = let none : more ≡ false = quiet refl in rw none (inl refl)

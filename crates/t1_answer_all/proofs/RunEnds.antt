@@ -8,7 +8,7 @@ use Rattle.t1_answer_all.specs.Writing.{WritesBy, WritesIn}
 use Rattle.t1_answer_all.specs.declared.findings.Findings.{Findings}
 use Rattle.t1_many.specs.Files.{Files}
 use Rattle.t1_many.specs.Plain.{Devices}
-use Rattle.t1_many.specs.declared.recipient.Lost.{Lost}
+use Rattle.t1_many.specs.declared.policy.Lost.{Lost}
 use Rattle.t1_run.specs.declared.status.Status.{Status}
 
 -- What was written by a layout, where that is the plan's

@@ -4,7 +4,7 @@ use Rattle.std.specs.Io.KnownBytes.{Appends}
 use Rattle.std.specs.Result.{is_ok}
 use Rattle.t1_io.specs.Devices.{SinkState, Wrote}
 use Rattle.t1_known.specs.Writes.{WritesAll}
-use Rattle.t1_many.specs.declared.recipient.Lost.{Lost}
+use Rattle.t1_many.specs.declared.policy.Lost.{Lost}
 
 pub written_whole : (old new : SinkState) (text : List ℕ) (result : Result (Unit {0}) Lost) → is_ok result ≡ true → WritesAll old new text result
     → Wrote old new text

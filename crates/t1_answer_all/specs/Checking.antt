@@ -2,7 +2,6 @@
 use Rattle.std.specs.Prelude.{◌≡◌, ℕ, Bool, true, false, not, List, Ok, length}
 use Rattle.t1_io.specs.Devices.{SinkState}
 use Rattle.t1_known.specs.Reads.{IsReadAs}
-use Rattle.t1_many.specs.Calls.{Calls}
 use Rattle.t1_many.specs.Files.{files_by}
 use Rattle.t1_many.specs.KnownFaults.{RowValue}
 use Rattle.t1_many.specs.Plain.{Devices}
@@ -14,6 +13,7 @@ use Rattle.t1_answer_all.specs.Listing.{AreFonts, FontsValue, HasNoFonts}
 use Rattle.t1_answer_all.specs.Places.{ListsGiven, Texts}
 use Rattle.t1_answer_all.specs.Plans.{AskedValue, beside_of, is_quiet, plan_by}
 use Rattle.t1_answer_all.specs.Runs.{LeftValue, Runs, nothing_left, program}
+use Rattle.t1_answer_all.specs.Stores.{Change, Fonts}
 use Rattle.t1_answer_all.specs.Telling.{IsTold, unlisted_text}
 use Rattle.t1_answer_all.specs.Usage.{IsToldSo}
 
@@ -29,34 +29,33 @@ ExpectsIf Expects true count old new = Expects old new count
 ExpectsIf Expects false count old new = new ≡ old
 
 -- What couldn't be listed is printed first. Then the files are told, unless it is a quiet run, how many fonts there are.
-abbrev pub TellsAndChecks : {F : Type 0} → Calls F → (F → F → ℕ → Type 0) → AskedValue → List RowValue → FontsValue → F → F → Devices → Devices
-    → LeftValue → Type 0
-TellsAndChecks {F} calls Expects asked rows fonts files files' old new left =
-    (behind : SinkState) × IsTold (unlisted_text fonts.undecoded fonts.unsearched) old.errors behind
-    × (begun : F) × ExpectsIf Expects (not (is_quiet asked.options fonts)) (length fonts.names) files begun
-    × Runs (plan_by asked rows fonts) (files_by calls (beside_of asked.options.waivers) begun files') (record { out = old.out; errors = behind }) new left
+abbrev pub TellsAndChecks : {F : Type 0} → Fonts F → AskedValue → List RowValue → FontsValue → Change F → LeftValue → Type 0
+TellsAndChecks {F} store asked rows fonts c left =
+    (behind : SinkState) × IsTold (unlisted_text fonts.undecoded fonts.unsearched) c.old.errors behind
+    × (begun : F) × ExpectsIf store.Expects (not (is_quiet asked.options fonts)) (length fonts.names) c.files begun
+    × Runs (plan_by asked rows fonts) (files_by store.calls (beside_of asked.options.waivers) begun c.files') (record { out = c.old.out; errors = behind })
+    c.new left
 
 -- Given the text of the file of known faults: its rows are read, and fonts are listed and checked; or one of these can't be done, and no file is
 -- opened.
-pub data ChecksKnown {F : Type 0} (lists : ListsGiven) (calls : Calls F) (Expects : F → F → ℕ → Type 0) (asked : AskedValue) (text : List ℕ)
-    (files files' : F) (old new : Devices) (left : LeftValue) : Type 0 where
+pub data ChecksKnown {F : Type 0} (lists : ListsGiven) (store : Fonts F) (asked : AskedValue) (text : List ℕ) (c : Change F) (left : LeftValue)
+    : Type 0 where
   checked :
       (rows : List RowValue) → IsReadAs text (Ok rows) → (fonts : FontsValue) → AreFonts lists asked.options fonts
-      → TellsAndChecks calls Expects asked rows fonts files files' old new left
-      → ChecksKnown lists calls Expects asked text files files' old new left
+      → TellsAndChecks store asked rows fonts c left → ChecksKnown lists store asked text c left
   no_rows :
-      (error : UsageError) → IsToldSo (IsWrong (file_of asked.options.known_faults) text) error → Stops error old new left → files' ≡ files
-      → ChecksKnown lists calls Expects asked text files files' old new left
+      (error : UsageError) → IsToldSo (IsWrong (file_of asked.options.known_faults) text) error → Stops error c.old c.new left → c.files' ≡ c.files
+      → ChecksKnown lists store asked text c left
   no_fonts :
-      (rows : List RowValue) → IsReadAs text (Ok rows) → (error : UsageError) → IsToldSo (HasNoFonts lists asked.options) error → Stops error old new left
-      → files' ≡ files → ChecksKnown lists calls Expects asked text files files' old new left
+      (rows : List RowValue) → IsReadAs text (Ok rows) → (error : UsageError) → IsToldSo (HasNoFonts lists asked.options) error
+      → Stops error c.old c.new left → c.files' ≡ c.files → ChecksKnown lists store asked text c left
 
 -- The file of known faults is read first.
-pub data ChecksBy {F : Type 0} (known : Texts) (lists : ListsGiven) (calls : Calls F) (Expects : F → F → ℕ → Type 0) (asked : AskedValue)
-    (files files' : F) (old new : Devices) (left : LeftValue) : Type 0 where
+pub data ChecksBy {F : Type 0} (known : Texts) (lists : ListsGiven) (store : Fonts F) (asked : AskedValue) (c : Change F) (left : LeftValue)
+    : Type 0 where
   checked :
-      (text : List ℕ) → IsKnownText known asked.options.known_faults text → ChecksKnown lists calls Expects asked text files files' old new left
-      → ChecksBy known lists calls Expects asked files files' old new left
+      (text : List ℕ) → IsKnownText known asked.options.known_faults text → ChecksKnown lists store asked text c left
+      → ChecksBy known lists store asked c left
   no_text :
-      (error : UsageError) → IsToldSo (IsNotKnownText known asked.options.known_faults) error → Stops error old new left → files' ≡ files
-      → ChecksBy known lists calls Expects asked files files' old new left
+      (error : UsageError) → IsToldSo (IsNotKnownText known asked.options.known_faults) error → Stops error c.old c.new left → c.files' ≡ c.files
+      → ChecksBy known lists store asked c left

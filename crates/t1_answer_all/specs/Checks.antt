@@ -9,8 +9,8 @@ use Rattle.t1_many.specs.Outcomes.{Entry}
 use Rattle.t1_many.specs.Readings.{IsReadingOf}
 use Rattle.t1_many.specs.Told.{all_handed, founds_of}
 use Rattle.t1_many.specs.declared.readings.Reading.{Reading as Kept}
-use Rattle.t1_many.specs.declared.recipient.Lost.{Lost}
-use Rattle.t1_many.specs.declared.recipient.Lost.TheVariants.{Memory}
+use Rattle.t1_many.specs.declared.policy.Lost.{Lost}
+use Rattle.t1_many.specs.declared.policy.Lost.TheVariants.{Memory}
 use Rattle.t1_run.specs.declared.status.Status.{Status}
 use Rattle.t1_summary.specs.Tallies.{tally_of}
 use Rattle.t1_waiving.specs.FontTexts.{FontText}

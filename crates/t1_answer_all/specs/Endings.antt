@@ -7,8 +7,8 @@ use Rattle.t1_known.specs.Reads.{IsReadAs}
 use Rattle.t1_many.specs.Choice.{Choice}
 use Rattle.t1_many.specs.KnownFaults.{Reading, RowValue, file_text, mismatch, updated}
 use Rattle.t1_many.specs.declared.readings.Reading.{Reading as Kept}
-use Rattle.t1_many.specs.declared.recipient.Lost.{Lost}
-use Rattle.t1_many.specs.declared.recipient.Lost.TheVariants.{Device, Memory}
+use Rattle.t1_many.specs.declared.policy.Lost.{Lost}
+use Rattle.t1_many.specs.declared.policy.Lost.TheVariants.{Device, Memory}
 use Rattle.t1_rules.specs.Book.{number_of, rules}
 use Rattle.t1_rules.specs.Mask.{has}
 use Rattle.t1_rules.specs.declared.mask.Mask.{Mask}
@@ -17,7 +17,7 @@ use Rattle.t1_run.specs.declared.status.Status.{Status}
 use Rattle.t1_run.specs.declared.status.Status.TheVariants.{Clean, Failed, Faults, Refused}
 use Rattle.t1_summary.specs.Summaries.{summary_text as text_of_summary}
 use Rattle.t1_summary.specs.Tallies.{fonts_in, lines_in}
-use Rattle.t1_summary.specs.declared.found.Found.TheVariants as founds
+use Rattle.t1_summary.specs.declared.found.FontClass.TheVariants as founds
 use Rattle.t1_summary.specs.declared.tally.Tally.{Tally}
 use Rattle.t1_waiving.specs.TooMany.{has_too_many, too_many_line}
 use Rattle.t1_answer_all.specs.Modes.{ModeValue, anew, beyond, told, waived}

@@ -26,8 +26,8 @@ use Rattle.t1_many.specs.declared.font_error.FontError.TheVariants.{Refused, Unc
 use Rattle.t1_many.specs.declared.font_error.Obstacle.TheVariants.{LineEnd, Memory, Unread, WaiversUnread}
 use Rattle.t1_names.specs.declared.causes.Cause.{Cause}
 use Rattle.t1_summary.specs.Tallies.{tally_of}
-use Rattle.t1_summary.specs.declared.found.Found.{Found}
-use Rattle.t1_summary.specs.declared.found.Found.TheVariants.{Clean, Known}
+use Rattle.t1_summary.specs.declared.found.FontClass.{FontClass}
+use Rattle.t1_summary.specs.declared.found.FontClass.TheVariants.{Clean, Known}
 
 -- The rules are those that the codes choose.
 abbrev pub AreChosenBy : Choice → Mask → Type 0
@@ -39,7 +39,7 @@ pub record CanBeKnown (rules : Mask) (entries : List Entry) : Type 0 where
   pub readable : AllByRecursion IsReadable (readings_of (anew []) rules entries)
 
 -- A font is clean or has known faults alone; of one without a report it is said why there is none.
-abbrev pub IsQuietFont : Outcome → Found → Type 0
+abbrev pub IsQuietFont : Outcome → FontClass → Type 0
 IsQuietFont (reported report) found = (found ≡ Clean) ⊎ (found ≡ Known)
 IsQuietFont (failed reason) found = found ≡ found_of_error reason
 
@@ -109,5 +109,5 @@ AnUpdateOfFilesIsQuietNextTime =
 -- A tally has a line of one of these rules exactly where such a line was counted.
 abbrev pub StatusesAreByLines : Type 0
 StatusesAreByLines =
-    (failing : Mask) (founds : List Found) (lines : List Rule)
+    (failing : Mask) (founds : List FontClass) (lines : List Rule)
     → has_failing failing (tally_of founds lines) ≡ list_any (λ line. has failing (number_of line)) lines

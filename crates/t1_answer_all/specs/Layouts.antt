@@ -3,9 +3,9 @@ use Rattle.std.specs.Prelude.{ℕ, Bool, true, false, List, Option, None, Some, 
 use Rattle.t1_forms.specs.PageValues.{PageValue, PagesValue, pages_value}
 use Rattle.t1_answer_all.specs.declared.layout.Layout.{Layout}
 use Rattle.t1_answer_all.specs.declared.layout.Layout.TheVariants as layouts
-use Rattle.t1_grouped.specs.declared.terminal.Terminal.{Terminal}
-use Rattle.t1_options.specs.declared.asked.Form.{Form}
-use Rattle.t1_options.specs.declared.asked.Form.TheVariants.{GitHub, JsonLines, Sarif}
+use Rattle.t1_printers.specs.declared.terminal.Terminal.{Terminal}
+use Rattle.t1_options.specs.declared.asked.Format.{Format}
+use Rattle.t1_options.specs.declared.asked.Format.TheVariants.{GitHub, JsonLines, Sarif}
 use Rattle.t1_options.specs.declared.asked.Options.{Options}
 use Rattle.t1_options.specs.declared.asked.Reasons.{Reasons}
 use Rattle.t1_options.specs.declared.asked.Reasons.TheVariants.{Each, LeftOut}
@@ -44,7 +44,7 @@ lines_or_groups false (Some columns) colour reasons =
 lines_or_groups false None colour reasons = lines (have_each reasons)
 
 -- In a form for another program where one is requested.
-abbrev pub layout_by : Option Form → PagesValue → Bool → LayoutValue → LayoutValue
+abbrev pub layout_by : Option Format → PagesValue → Bool → LayoutValue → LayoutValue
 layout_by None pages reasons other = other
 layout_by (Some JsonLines) pages reasons other = json_lines reasons
 layout_by (Some Sarif) pages reasons other = sarif pages reasons

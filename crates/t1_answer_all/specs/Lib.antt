@@ -12,6 +12,7 @@ pub mod Plans
 pub mod Private
 pub mod Replacing
 pub mod Runs
+pub mod Stores
 pub mod Telling
 pub mod Unlisted
 pub mod Usage

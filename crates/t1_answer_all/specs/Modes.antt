@@ -2,12 +2,11 @@
 use Rattle.std.specs.Prelude.{ℕ, ◌-◌, ◌^◌, min, List, [], ◌∷◌, map}
 use Rattle.std.specs.List.{flat_map}
 use Rattle.t1_known.specs.Keys.{count_at}
-use Rattle.t1_many.specs.Groups.{told_faults}
 use Rattle.t1_many.specs.Known.{kind_in}
 use Rattle.t1_many.specs.KnownFaults.{RowValue, Reading}
 use Rattle.t1_many.specs.Outcomes.{Entry, Outcome, Report, failed, reported}
 use Rattle.t1_many.specs.Readings.{as_known, by_known}
-use Rattle.t1_many.specs.Verdicts.{of_rules}
+use Rattle.t1_many.specs.Verdicts.{of_rules, told_faults}
 use Rattle.t1_many.specs.declared.verdict.Verdict.{Verdict}
 use Rattle.t1_report.specs.Faults.{FaultValue}
 use Rattle.t1_rules.specs.declared.mask.Mask.{Mask}
@@ -25,10 +24,10 @@ pub data ModeValue : Type 0 where
   waived : ModeValue
 
 abbrev pub mode_value : Mode → ModeValue
-mode_value modes.Told = told
-mode_value (modes.Beyond known) = beyond known.now
-mode_value (modes.Anew known) = anew known.now
-mode_value modes.Waived = waived
+mode_value modes.ReportAll = told
+mode_value (modes.ReportNew known) = beyond known.now
+mode_value (modes.UpdateBaseline known) = anew known.now
+mode_value modes.WriteWaivers = waived
 
 -- How often the rows say a key; a number of 64 bits says no more.
 abbrev pub counts_in : List RowValue → List ℕ → ℕ

@@ -15,8 +15,8 @@ use Rattle.t1_many.specs.Outcomes.{Report}
 use Rattle.t1_many.specs.declared.font_files.WaiverFiles.{WaiverFiles}
 use Rattle.t1_many.specs.declared.font_files.WaiverFiles.TheVariants as files
 use Rattle.t1_many.specs.declared.verdict.Verdict.{Verdict}
-use Rattle.t1_options.specs.declared.asked.KnownFaults.{KnownFaults}
-use Rattle.t1_options.specs.declared.asked.KnownFaults.TheVariants as faults
+use Rattle.t1_options.specs.declared.asked.Baseline.{Baseline}
+use Rattle.t1_options.specs.declared.asked.Baseline.TheVariants as faults
 use Rattle.t1_options.specs.declared.asked.Options.{Options}
 use Rattle.t1_options.specs.declared.asked.Waivers.{Waivers}
 use Rattle.t1_options.specs.declared.asked.Waivers.TheVariants as waivers
@@ -71,13 +71,13 @@ beside_of waivers.Written = files.LeftAside
 beside_of waivers.Overwritten = files.LeftAside
 
 -- By the file of known faults, whose rows these are.
-abbrev pub mode_of_file : KnownFaults → List RowValue → ModeValue
+abbrev pub mode_of_file : Baseline → List RowValue → ModeValue
 mode_of_file faults.Unnamed rows = told
-mode_of_file (faults.Beyond file) rows = beyond rows
-mode_of_file (faults.Anew file) rows = anew rows
+mode_of_file (faults.Compared file) rows = beyond rows
+mode_of_file (faults.Updated file) rows = anew rows
 
 -- Waivers that are to be written go before known faults.
-abbrev pub mode_by : Waivers → KnownFaults → List RowValue → ModeValue
+abbrev pub mode_by : Waivers → Baseline → List RowValue → ModeValue
 mode_by waivers.Read file rows = mode_of_file file rows
 mode_by waivers.LeftAside file rows = mode_of_file file rows
 mode_by waivers.Written file rows = waived

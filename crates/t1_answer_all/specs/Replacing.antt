@@ -1,10 +1,11 @@
 -- Files that are replaced once all was printed.
-use Rattle.std.specs.Prelude.{◌≡◌, ◌⊎◌, ◌++◌, ◌&&◌, ℕ, Bool, true, false, List, [], ◌∷◌, codes, Option, None, Some, Result, Ok, Err, string_bytes, if◌then◌else◌}
+use Rattle.std.specs.Prelude.{◌≡◌, ◌⊎◌, ◌++◌, ◌&&◌, ℕ, Bool, true, false, List, [], ◌∷◌, codes, Option, None, Some, string_bytes, if◌then◌else◌}
 use Rattle.std.specs.List.{concat}
 use Rattle.t1_answer_all.specs.Runs.{LeftValue, program}
+use Rattle.t1_answer_all.specs.Stores.{IsNothing, Putting, Replacing}
 use Rattle.t1_io.specs.Devices.{SinkState}
-use Rattle.t1_options.specs.declared.asked.KnownFaults.{KnownFaults}
-use Rattle.t1_options.specs.declared.asked.KnownFaults.TheVariants.{Anew, Beyond, Unnamed}
+use Rattle.t1_options.specs.declared.asked.Baseline.{Baseline}
+use Rattle.t1_options.specs.declared.asked.Baseline.TheVariants.{Compared, Unnamed, Updated}
 use Rattle.t1_options.specs.declared.asked.Options.{Options}
 use Rattle.t1_options.specs.declared.asked.Waivers.{Waivers}
 use Rattle.t1_options.specs.declared.asked.Waivers.TheVariants as waivers
@@ -13,15 +14,8 @@ use Rattle.t1_run.specs.Telling.{Tells}
 use Rattle.t1_run.specs.declared.status.Status.{Status}
 use Rattle.t1_run.specs.declared.status.Status.TheVariants.{Failed}
 use Rattle.t1_waiving.specs.FontTexts.{FontText}
-use Rattle.t1_names.specs.Causes.{cause_of, cause_text}
+use Rattle.t1_names.specs.Causes.{cause_text}
 use Rattle.t1_names.specs.declared.causes.Cause.{Cause}
-use Rattle.std.specs.IoError.{error_kind}
-use Rattle.std.specs.declared.io.Error.{Error}
-
--- Why a text couldn't be put in the place of a file, if it couldn't.
-abbrev pub put_failure : Result (Unit {0}) Error → Option Cause
-put_failure (Ok done) = None
-put_failure (Err error) = Some (cause_of (error_kind error))
 
 -- ---- what is printed
 
@@ -41,20 +35,18 @@ TellsFailure text errors errors' = (status : Status) × Tells text Failed errors
 -- ---- one file
 
 -- A text was put in the place of a file; or that failed, which is printed with the cause.
-pub data PutsFile {F : Type 0} (Puts : F → F → List ℕ → List ℕ → Option Cause → Type 0) (name text : List ℕ) (old new : F) (errors errors' : SinkState)
-    (done : Bool) : Type 0 where
-  put : Puts old new name text None → errors' ≡ errors → done ≡ true → PutsFile Puts name text old new errors errors' done
+pub data PutsFile {F : Type 0} (store : Replacing F) (name text : List ℕ) (p : Putting F) (done : Bool) : Type 0 where
+  put : store.Puts p.files p.files' name text None → p.errors' ≡ p.errors → done ≡ true → PutsFile store name text p done
   unwritten :
-      (cause : Cause) → Puts old new name text (Some cause) → TellsFailure (unwritten_line name cause) errors errors' → done ≡ false
-      → PutsFile Puts name text old new errors errors' done
+      (cause : Cause) → store.Puts p.files p.files' name text (Some cause) → TellsFailure (unwritten_line name cause) p.errors p.errors' → done ≡ false
+      → PutsFile store name text p done
 
 -- The file of known faults, if it is made anew and there is a text for it.
-abbrev pub PutsKnownFaults : {F : Type 0} → (F → F → List ℕ → List ℕ → Option Cause → Type 0) → KnownFaults → Option (List ℕ) → F → F → SinkState
-    → SinkState → Bool → Type 0
-PutsKnownFaults Puts (Anew file) (Some text) old new errors errors' done = PutsFile Puts (string_bytes file) text old new errors errors' done
-PutsKnownFaults Puts (Anew file) None old new errors errors' done = (new ≡ old) × (errors' ≡ errors) × (done ≡ true)
-PutsKnownFaults Puts (Beyond file) text old new errors errors' done = (new ≡ old) × (errors' ≡ errors) × (done ≡ true)
-PutsKnownFaults Puts Unnamed text old new errors errors' done = (new ≡ old) × (errors' ≡ errors) × (done ≡ true)
+abbrev pub PutsKnownFaults : {F : Type 0} → Replacing F → Baseline → Option (List ℕ) → Putting F → Bool → Type 0
+PutsKnownFaults store (Updated file) (Some text) p done = PutsFile store (string_bytes file) text p done
+PutsKnownFaults store (Updated file) None p done = IsNothing p × (done ≡ true)
+PutsKnownFaults store (Compared file) text p done = IsNothing p × (done ≡ true)
+PutsKnownFaults store Unnamed text p done = IsNothing p × (done ≡ true)
 
 -- ---- waivers
 
@@ -75,40 +67,37 @@ IsKeptBack Has overwrites files name true = (overwrites ≡ false) × Has files 
 IsKeptBack Has overwrites files name false = (overwrites ≡ true) ⊎ Has files name false
 
 -- The waivers of a font are put into their file; or they are kept back, or memory runs out, and that is printed.
-pub data TriesToPut {F : Type 0} (Puts : F → F → List ℕ → List ℕ → Option Cause → Type 0) (Has : F → List ℕ → Bool → Type 0) (overwrites : Bool)
-    (font text : List ℕ) (old new : F) (errors errors' : SinkState) (done : Bool) : Type 0 where
+pub data TriesToPut {F : Type 0} (store : Replacing F) (overwrites : Bool) (font text : List ℕ) (p : Putting F) (done : Bool) : Type 0 where
   tried :
-      IsKeptBack Has overwrites old (waivers_name font) false → PutsFile Puts (waivers_name font) text old new errors errors' done
-      → TriesToPut Puts Has overwrites font text old new errors errors' done
+      IsKeptBack store.Has overwrites p.files (waivers_name font) false → PutsFile store (waivers_name font) text p done
+      → TriesToPut store overwrites font text p done
   there_already :
-      IsKeptBack Has overwrites old (waivers_name font) true → new ≡ old → TellsFailure (there_line font) errors errors' → done ≡ false
-      → TriesToPut Puts Has overwrites font text old new errors errors' done
+      IsKeptBack store.Has overwrites p.files (waivers_name font) true → p.files' ≡ p.files → TellsFailure (there_line font) p.errors p.errors'
+      → done ≡ false → TriesToPut store overwrites font text p done
   no_memory :
-      new ≡ old → TellsFailure (out_of_memory_line program) errors errors' → done ≡ false
-      → TriesToPut Puts Has overwrites font text old new errors errors' done
+      p.files' ≡ p.files → TellsFailure (out_of_memory_line program) p.errors p.errors' → done ≡ false
+      → TriesToPut store overwrites font text p done
 
 -- Of a font with too many waivers none is written.
-abbrev pub PutsText : {F : Type 0} → (F → F → List ℕ → List ℕ → Option Cause → Type 0) → (F → List ℕ → Bool → Type 0) → Bool → List ℕ → Option (List ℕ)
-    → F → F → SinkState → SinkState → Bool → Type 0
-PutsText Puts Has overwrites font None old new errors errors' done = (new ≡ old) × (errors' ≡ errors) × (done ≡ true)
-PutsText Puts Has overwrites font (Some text) old new errors errors' done = TriesToPut Puts Has overwrites font text old new errors errors' done
+abbrev pub PutsText : {F : Type 0} → Replacing F → Bool → List ℕ → Option (List ℕ) → Putting F → Bool → Type 0
+PutsText store overwrites font None p done = IsNothing p × (done ≡ true)
+PutsText store overwrites font (Some text) p done = TriesToPut store overwrites font text p done
 
-abbrev pub PutsWaiversOf : {F : Type 0} → (F → F → List ℕ → List ℕ → Option Cause → Type 0) → (F → List ℕ → Bool → Type 0) → Bool → FontText → F → F
-    → SinkState → SinkState → Bool → Type 0
-PutsWaiversOf Puts Has overwrites font old new errors errors' done = PutsText Puts Has overwrites font.name font.text old new errors errors' done
+abbrev pub PutsWaiversOf : {F : Type 0} → Replacing F → Bool → FontText → Putting F → Bool → Type 0
+PutsWaiversOf store overwrites font p done = PutsText store overwrites font.name font.text p done
 
 -- Those of fonts, one after another, whatever failed before.
-abbrev pub PutsEach : {F : Type 0} → (F → F → List ℕ → List ℕ → Option Cause → Type 0) → (F → List ℕ → Bool → Type 0) → Bool → List FontText → F → F
-    → SinkState → SinkState → Bool → Type 0
-PutsEach Puts Has overwrites [] old new errors errors' done = (new ≡ old) × (errors' ≡ errors) × (done ≡ true)
-PutsEach {F} Puts Has overwrites (font ∷ fonts) old new errors errors' done =
-    (next : F) × (behind : SinkState) × (one others : Bool) × PutsWaiversOf Puts Has overwrites font old next errors behind one
-    × PutsEach Puts Has overwrites fonts next new behind errors' others × (done ≡ (one && others))
+abbrev pub PutsEach : {F : Type 0} → Replacing F → Bool → List FontText → Putting F → Bool → Type 0
+PutsEach store overwrites [] p done = IsNothing p × (done ≡ true)
+PutsEach {F} store overwrites (font ∷ fonts) p done =
+    (next : F) × (behind : SinkState) × (one others : Bool)
+    × PutsWaiversOf store overwrites font (record { files = p.files; files' = next; errors = p.errors; errors' = behind }) one
+    × PutsEach store overwrites fonts (record { files = next; files' = p.files'; errors = behind; errors' = p.errors' }) others
+    × (done ≡ (one && others))
 
-abbrev pub PutsWaivers : {F : Type 0} → (F → F → List ℕ → List ℕ → Option Cause → Type 0) → (F → List ℕ → Bool → Type 0) → Bool → Option (List FontText)
-    → F → F → SinkState → SinkState → Bool → Type 0
-PutsWaivers Puts Has overwrites None old new errors errors' done = (new ≡ old) × (errors' ≡ errors) × (done ≡ true)
-PutsWaivers Puts Has overwrites (Some fonts) old new errors errors' done = PutsEach Puts Has overwrites fonts old new errors errors' done
+abbrev pub PutsWaivers : {F : Type 0} → Replacing F → Bool → Option (List FontText) → Putting F → Bool → Type 0
+PutsWaivers store overwrites None p done = IsNothing p × (done ≡ true)
+PutsWaivers store overwrites (Some fonts) p done = PutsEach store overwrites fonts p done
 
 -- ---- all files
 
@@ -117,12 +106,15 @@ status_if done status = if done then status else Failed
 
 -- The file of known faults is replaced, if it is left to be, and the waivers are written that are left to be: no other file is touched. Where
 -- something failed, that is printed, and the status is that of a failure.
-pub record Replaces {F : Type 0} (Puts : F → F → List ℕ → List ℕ → Option Cause → Type 0) (Has : F → List ℕ → Bool → Type 0) (options : Options)
-    (left : LeftValue) (old new : F) (errors errors' : SinkState) (status : Status) : Type 0 where
+pub record Replaces {F : Type 0} (store : Replacing F) (options : Options) (left : LeftValue) (p : Putting F) (status : Status) : Type 0 where
   pub between : F
   pub behind : SinkState
   pub known : Bool
   pub waivers : Bool
-  pub known_faults : PutsKnownFaults Puts options.known_faults left.known_faults old between errors behind known
-  pub waivers_are : PutsWaivers Puts Has (overwrites options.waivers) left.waivers between new behind errors' waivers
+  pub known_faults :
+      PutsKnownFaults store options.known_faults left.known_faults
+      (record { files = p.files; files' = between; errors = p.errors; errors' = behind }) known
+  pub waivers_are :
+      PutsWaivers store (overwrites options.waivers) left.waivers
+      (record { files = between; files' = p.files'; errors = behind; errors' = p.errors' }) waivers
   pub status_is : status ≡ status_if (known && waivers) left.status

@@ -11,8 +11,8 @@ use Rattle.t1_io.specs.Devices.{SinkState}
 use Rattle.t1_many.specs.Files.{Files}
 use Rattle.t1_many.specs.KnownFaults.{Reading}
 use Rattle.t1_many.specs.Plain.{Devices}
-use Rattle.t1_many.specs.declared.recipient.Lost.{Lost}
-use Rattle.t1_many.specs.declared.recipient.Lost.TheVariants.{Device, Memory}
+use Rattle.t1_many.specs.declared.policy.Lost.{Lost}
+use Rattle.t1_many.specs.declared.policy.Lost.TheVariants.{Device, Memory}
 use Rattle.t1_run.specs.Failures.{out_of_memory_line, write_failed_line}
 use Rattle.t1_run.specs.Telling.{Tells}
 use Rattle.t1_run.specs.declared.status.Status.{Status}

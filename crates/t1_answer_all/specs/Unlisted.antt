@@ -3,7 +3,7 @@ use Rattle.std.specs.Prelude.{◌≡◌, ◌⊎◌, ◌++◌, ℕ, Bool, true, f
 use Rattle.t1_forms.specs.Tellings.{ToldValue, of_unchecked}
 use Rattle.t1_answer_all.specs.declared.unlisted.Unlisted.{Unlisted}
 use Rattle.t1_io.specs.Devices.{SinkState}
-use Rattle.t1_many.specs.declared.recipient.Lost.{Lost}
+use Rattle.t1_many.specs.declared.policy.Lost.{Lost}
 
 -- These were given one after another; or it stopped at one of them, and no later one was.
 abbrev pub GivesEach : {T : Type 0} → (T → T → SinkState → SinkState → ToldValue → Option Lost → Type 0) → T → T → SinkState → SinkState

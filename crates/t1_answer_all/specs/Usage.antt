@@ -2,16 +2,14 @@
 use Rattle.std.specs.Prelude.{◌++◌, ℕ, List, codes, string_bytes}
 use Rattle.std.specs.Fmt.{decimal}
 use Rattle.std.specs.Str.Lossy.{utf8_lossy}
-use Rattle.t1_names.specs.Causes.{cause_text}
 use Rattle.t1_names.specs.declared.causes.Cause.{Cause}
+use Rattle.t1_options.specs.Settings.Finding.{unread_text}
 use Rattle.t1_run.specs.declared.usage.UsageError.{UsageError}
 use Rattle.t1_run.specs.declared.usage.UsageError.TheVariants.{Help, Memory, Usage}
 
 -- A file can't be read, for this cause.
 abbrev pub unreadable_text : List ℕ → Cause → List ℕ
-unreadable_text file cause =
-    codes "t1check-all: "
-    ++ (file ++ (codes " can't be read" ++ (cause_text cause ++ codes "\nt1check-all: 't1check-all --help' says how it is used\n")))
+unreadable_text file cause = unread_text file cause ++ codes "t1check-all: 't1check-all --help' says how it is used\n"
 
 -- The words name no font.
 abbrev pub no_font_text : List ℕ

@@ -11,24 +11,23 @@ use Rattle.t1_forms.specs.Tellings.{ToldValue}
 use Rattle.t1_forms.specs.declared.error.FormatError.{FormatError}
 use Rattle.t1_forms.specs.declared.error.FormatError.TheVariants as errors
 use Rattle.t1_forms.specs.declared.sarif.Sarif.{Sarif as Document}
-use Rattle.t1_grouped.specs.Commands.{command_writing}
-use Rattle.t1_grouped.specs.GroupLines.{Writing}
-use Rattle.t1_grouped.specs.Grouping.{GroupedTakes}
-use Rattle.t1_grouped.specs.Groups.{GroupValue}
-use Rattle.t1_grouped.specs.RuleGroups.{no_groups}
-use Rattle.t1_grouped.specs.Terminals.{terminal_writing}
+use Rattle.t1_printers.specs.Commands.{command_writing, command_written}
+use Rattle.t1_printers.specs.GroupLines.{Writing}
+use Rattle.t1_printers.specs.Grouping.{GroupedTakes}
+use Rattle.t1_printers.specs.Groups.{GroupValue}
+use Rattle.t1_printers.specs.RuleGroups.{no_groups}
+use Rattle.t1_printers.specs.Terminals.{terminal_writing}
 use Rattle.t1_io.specs.Devices.{SinkState, Wrote}
 use Rattle.t1_many.specs.Files.{AreUntouched, Files}
 use Rattle.t1_many.specs.Handing.{lost_of}
 use Rattle.t1_many.specs.Plain.{Devices, IsFlushed, IsLinePut, PlainTakes}
-use Rattle.t1_many.specs.declared.recipient.Lost.{Lost}
-use Rattle.t1_many.specs.declared.recipient.Lost.TheVariants.{Device, Memory}
-use Rattle.t1_many_forms.specs.Commands.{command_written}
-use Rattle.t1_many_forms.specs.Documents.{end_written, telling_written}
-use Rattle.t1_many_forms.specs.Formatting.{FormattedTakes, Formatting}
-use Rattle.t1_many_forms.specs.JsonLines.{object_written}
-use Rattle.t1_many_forms.specs.declared.github.GitHubCommands.{GitHubCommands as Commands}
-use Rattle.t1_many_forms.specs.declared.json_lines.JsonLines.{JsonLines as Objects}
+use Rattle.t1_many.specs.declared.policy.Lost.{Lost}
+use Rattle.t1_many.specs.declared.policy.Lost.TheVariants.{Device, Memory}
+use Rattle.t1_printers.specs.Documents.{end_written, telling_written}
+use Rattle.t1_printers.specs.Formatting.{FormattedTakes, Formatting}
+use Rattle.t1_printers.specs.JsonLines.{object_written}
+use Rattle.t1_printers.specs.declared.github.GitHubCommands.{GitHubCommands as Commands}
+use Rattle.t1_printers.specs.declared.json_lines.JsonLines.{JsonLines as Objects}
 use Rattle.t1_run.specs.declared.status.Status.{Status}
 
 -- As `NAME: LINE`.

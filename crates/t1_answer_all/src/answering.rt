@@ -8,14 +8,15 @@ ghost use Rattle.t1_options.specs.Settings.Finding.{files_by};
 
 use crate::checking::{check_by, stopped};
 use crate::plan::Asked;
-use crate::replacing::{FileStore, replace_files};
+use crate::progress::ShowsProgress;
+use crate::replacing::replace_files;
 use crate::running::PROGRAM;
 use std::alloc::Global;
 use std::convert::AsStr;
 use t1_forms::Page;
 use t1_io::Sink;
 use t1_many::FontFiles;
-use t1_names::FileSystem;
+use t1_names::{FileStore, FileSystem};
 use t1_options::{HELP, Options, Request, options};
 use t1_run::{Status, UsageError, give};
 
@@ -43,13 +44,23 @@ pub fn answer<S, F, W, E>(
 ) -> Answered<W, E>
 where
     S: AsStr,
-    F: FileSystem + FontFiles + FileStore,
+    F: FileSystem + FontFiles + FileStore + ShowsProgress,
     W: Sink + Drop,
     E: Sink + Drop,
-    ensures { Answers HELP.now version.now (map page_value pages.now) (map S.text words.now) (files_by (F.leads files.old) (F.has_text files.old))
-        (known_by (F.has_text files.old)) (lists_by (F.has_list files.old) (F.leads files.old) (F.lists files.old))
-        (record { calls = F.calls; Expects = F.expects; Puts = F.puts; Has = F.has }) files.old files.new
-        (record { out = W.state out; errors = E.state errors }) (record { out = W.state result.out; errors = E.state result.errors }) result.status }
+    ensures { Answers (record {
+      help = HELP.now;
+      version = version.now;
+      pages = map page_value pages.now;
+      settings = files_by (F.leads files.old) (F.has_text files.old);
+      known = known_by (F.has_text files.old);
+      lists = lists_by (F.has_list files.old) (F.leads files.old) (F.lists files.old);
+    }) (map S.text words.now) (record { calls = F.calls; Expects = F.expects; Puts = F.puts; Has = F.has })
+        (record {
+          files = files.old;
+          files' = files.new;
+          old = record { out = W.state out; errors = E.state errors };
+          new = record { out = W.state result.out; errors = E.state result.errors };
+        }) result.status }
 {
     match options(alloc, words, files) {
         Ok(Request::Check(options)) => check(alloc, options, pages, files, out, errors),
@@ -68,12 +79,17 @@ fn check<F, W, E>(
     errors: E,
 ) -> Answered<W, E>
 where
-    F: FileSystem + FontFiles + FileStore,
+    F: FileSystem + FontFiles + FileStore + ShowsProgress,
     W: Sink + Drop,
     E: Sink + Drop,
     ensures { Checks (known_by (F.has_text files.old)) (lists_by (F.has_list files.old) (F.leads files.old) (F.lists files.old))
-        (record { calls = F.calls; Expects = F.expects; Puts = F.puts; Has = F.has }) (map page_value pages.now) options files.old files.new
-        (record { out = W.state out; errors = E.state errors }) (record { out = W.state result.out; errors = E.state result.errors }) result.status }
+        (record { calls = F.calls; Expects = F.expects; Puts = F.puts; Has = F.has }) (record { options = options; pages = map page_value pages.now })
+        (record {
+          files = files.old;
+          files' = files.new;
+          old = record { out = W.state out; errors = E.state errors };
+          new = record { out = W.state result.out; errors = E.state result.errors };
+        }) result.status }
 {
     let asked = Asked {
         options: &options,

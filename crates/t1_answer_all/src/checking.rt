@@ -9,7 +9,7 @@ ghost use Rattle.t1_answer_all.specs.Runs.{left_value};
 use crate::known::{file_of, read_known, text_of_known};
 use crate::listing::{Fonts, fonts_of};
 use crate::plan::{Asked, plan_by};
-use crate::replacing::FileStore;
+use crate::progress::ShowsProgress;
 use crate::running::{PROGRAM, Ran, nothing_left, run};
 use crate::telling::tell_unlisted;
 use std::alloc::Global;
@@ -29,13 +29,17 @@ pub(crate) fn check_by<F, W, E>(
     errors: E,
 ) -> Ran<W, E>
 where
-    F: FileSystem + FontFiles + FileStore,
+    F: FileSystem + FontFiles + ShowsProgress,
     W: Sink + Drop,
     E: Sink + Drop,
     ensures { ChecksBy (known_by (F.has_text files.old)) (lists_by (F.has_list files.old) (F.leads files.old) (F.lists files.old))
-        F.calls F.expects (asked_value asked.entry) files.old files.new
-        (record { out = W.state out; errors = E.state errors }) (record { out = W.state result.out; errors = E.state result.errors })
-        (left_value result.left) }
+        (record { calls = F.calls; Expects = F.expects }) (asked_value asked.entry)
+        (record {
+          files = files.old;
+          files' = files.new;
+          old = record { out = W.state out; errors = E.state errors };
+          new = record { out = W.state result.out; errors = E.state result.errors };
+        }) (left_value result.left) }
 {
     match text_of_known(alloc, &asked.options.known_faults, files) {
         Ok(text) => check_known(alloc, asked, text.as_slice(), files, out, errors),
@@ -53,12 +57,17 @@ fn check_known<F, W, E>(
     errors: E,
 ) -> Ran<W, E>
 where
-    F: FileSystem + FontFiles + FileStore,
+    F: FileSystem + FontFiles + ShowsProgress,
     W: Sink + Drop,
     E: Sink + Drop,
     ensures { ChecksKnown (lists_by (F.has_list files.old) (F.leads files.old) (F.lists files.old))
-        F.calls F.expects (asked_value asked.entry) text.now files.old files.new (record { out = W.state out; errors = E.state errors })
-        (record { out = W.state result.out; errors = E.state result.errors }) (left_value result.left) }
+        (record { calls = F.calls; Expects = F.expects }) (asked_value asked.entry) text.now
+        (record {
+          files = files.old;
+          files' = files.new;
+          old = record { out = W.state out; errors = E.state errors };
+          new = record { out = W.state result.out; errors = E.state result.errors };
+        }) (left_value result.left) }
 {
     match read_known(alloc, file_of(&asked.options.known_faults), text) {
         Ok(known) => match fonts_of(alloc, asked.options, files) {
@@ -80,12 +89,16 @@ fn tell_and_check<F, W, E>(
     errors: E,
 ) -> Ran<W, E>
 where
-    F: FontFiles + FileStore,
+    F: FontFiles + ShowsProgress,
     W: Sink + Drop,
     E: Sink + Drop,
-    ensures { TellsAndChecks F.calls F.expects (asked_value asked.entry) known.now (fonts_value fonts.now) files.old files.new
-        (record { out = W.state out; errors = E.state errors }) (record { out = W.state result.out; errors = E.state result.errors })
-        (left_value result.left) }
+    ensures { TellsAndChecks (record { calls = F.calls; Expects = F.expects }) (asked_value asked.entry) known.now (fonts_value fonts.now)
+        (record {
+          files = files.old;
+          files' = files.new;
+          old = record { out = W.state out; errors = E.state errors };
+          new = record { out = W.state result.out; errors = E.state result.errors };
+        }) (left_value result.left) }
 {
     let mut errors = errors;
     // Where that fails the status is that of a failure all the same.
@@ -96,7 +109,7 @@ where
 }
 
 /// Tells the files how many fonts are checked from now on, if they are to know it.
-fn expect_if<F: FileStore>(told: bool, count: usize, files: &mut F)
+fn expect_if<F: ShowsProgress>(told: bool, count: usize, files: &mut F)
     ensures { ExpectsIf F.expects told count files.old files.new }
 {
     if told {

@@ -15,13 +15,13 @@ use crate::findings::Findings;
 use crate::mode::Mode;
 use crate::plan::Plan;
 use std::alloc::Global;
+use t1_forms::Text;
 use t1_io::{Broken, Sink, put_all};
 use t1_known::{KnownFaults, write_mismatches, write_updated};
 use t1_many::{Choice, Lost, Reading};
 use t1_rules::{Mask, Rule, all_rules};
 use t1_run::Status;
-use t1_summary::{Found, Tally, summary};
-use t1_text::Text;
+use t1_summary::{FontClass, Tally, summary};
 use t1_waiving::tell_too_many;
 
 /// What is left to do once all was printed.
@@ -97,7 +97,7 @@ fn known_faults_anew(
 ) -> Result<Option<Remade>, Lost>
     ensures { IsUpdated (mode_value mode.entry) (choice_of choice.entry) readings.now result }
 {
-    let Mode::Anew(known) = mode else {
+    let Mode::UpdateBaseline(known) = mode else {
         return Ok(None);
     };
     let Some(text) = text_anew(alloc, known, readings, choice) else {
@@ -141,8 +141,8 @@ fn tell_mismatches<E: Sink>(
         (mismatches_text (mode_value mode.entry) (choice_of choice.entry) all) result }
 {
     match mode {
-        Mode::Beyond(known) => write_mismatches(alloc, errors, known, readings, choice),
-        Mode::Told | Mode::Anew(_) | Mode::Waived => Ok(()),
+        Mode::ReportNew(known) => write_mismatches(alloc, errors, known, readings, choice),
+        Mode::ReportAll | Mode::UpdateBaseline(_) | Mode::WriteWaivers => Ok(()),
     }
 }
 
@@ -184,8 +184,8 @@ fn has_known(mode: Mode<'_>) -> bool
     ensures { result ≡ has_known (mode_value mode.entry) }
 {
     match mode {
-        Mode::Beyond(_) | Mode::Anew(_) => true,
-        Mode::Told | Mode::Waived => false,
+        Mode::ReportNew(_) | Mode::UpdateBaseline(_) => true,
+        Mode::ReportAll | Mode::WriteWaivers => false,
     }
 }
 
@@ -194,7 +194,7 @@ fn tell_unwaived<E: Sink>(mode: Mode<'_>, tally: &Tally, errors: &mut E) -> Resu
     ensures { Writes (E.state errors.old) (E.state errors.new) (unwaived_text (mode_value mode.entry) tally.now) result }
 {
     match mode {
-        Mode::Waived if 0 < tally.fonts_found(Found::Faulty) => put_all(
+        Mode::WriteWaivers if 0 < tally.fonts_found(FontClass::Faulty) => put_all(
             errors,
             b"t1check-all: lines of a font itself can not be waived\n",
         ),
@@ -206,9 +206,9 @@ fn tell_unwaived<E: Sink>(mode: Mode<'_>, tally: &Tally, errors: &mut E) -> Resu
 pub fn status_of(failing: Mask, tally: &Tally) -> Status
     ensures { result ≡ status_of failing tally.now }
 {
-    if 0 < tally.fonts_found(Found::Unchecked) {
+    if 0 < tally.fonts_found(FontClass::Unchecked) {
         Status::Failed
-    } else if 0 < tally.fonts_found(Found::Refused) {
+    } else if 0 < tally.fonts_found(FontClass::Refused) {
         Status::Refused
     } else if has_failing(failing, tally) {
         Status::Faults

@@ -9,11 +9,12 @@ use crate::mode::{Borrowed, Mode};
 use crate::plan::Plan;
 use std::alloc::Global;
 use t1_many::{
-    Anew, Beyond, Counted, FontFiles, Form, Lost, Reading, Telling, check_all, tell_all,
+    Counted, FontFiles, Lost, Printer, Reading, ReportAll, ReportNew, UpdateBaseline, check_all,
+    tell_all,
 };
 use t1_run::Status;
 use t1_summary::Tally;
-use t1_waiving::{Kept, Waiving, waive_all};
+use t1_waiving::{Kept, WriteWaivers, waive_all};
 
 /// What was found in fonts, besides what was written of them.
 #[derive(Drop)]
@@ -39,7 +40,7 @@ impl Findings {
 
 /// Fonts that were checked.
 #[derive(Drop)]
-pub struct Checked<F: Form + Drop> {
+pub struct Checked<F: Printer + Drop> {
     /// The greatest status of the fonts, or why it stopped at one of them.
     pub status: Result<Status, Lost>,
     /// The form that took their lines.
@@ -50,7 +51,7 @@ pub struct Checked<F: Form + Drop> {
 
 /// The same with a form that counts.
 #[derive(Drop)]
-struct CheckedOnes<F: Form + Drop> {
+struct CheckedOnes<F: Printer + Drop> {
     status: Result<Status, Lost>,
     counted: Counted<F>,
     readings: Vec<Reading>,
@@ -61,7 +62,7 @@ struct CheckedOnes<F: Form + Drop> {
 pub fn check_fonts<S, F>(alloc: Global, plan: Plan<'_>, files: &mut S, form: F) -> Checked<F>
 where
     S: FontFiles,
-    F: Form + Drop,
+    F: Printer + Drop,
     ensures { ChecksFonts F.takes (plan_value plan.entry) (files_by S.calls plan.entry.beside files.old files.new) form result.form
         (IsFound (plan_value plan.entry) result.found) result.status }
 {
@@ -90,14 +91,14 @@ fn check_ones<S, F>(
 ) -> CheckedOnes<F>
 where
     S: FontFiles,
-    F: Form + Drop,
-    ensures { ChecksFonts ⟦<Counted<F> as Form>⟧.takes (plan_value plan.entry)
+    F: Printer + Drop,
+    ensures { ChecksFonts ⟦<Counted<F> as Printer>⟧.takes (plan_value plan.entry)
         (files_by S.calls plan.entry.beside files.old files.new) counted result.counted
         (IsKept (plan_value plan.entry) result.readings.items result.kept) result.status }
 {
     match plan.mode {
-        Mode::Told => {
-            let mut telling = Telling {
+        Mode::ReportAll => {
+            let mut telling = ReportAll {
                 rules: plan.rules,
                 form: counted,
             };
@@ -116,8 +117,8 @@ where
                 kept: Kept::new(alloc),
             }
         }
-        Mode::Beyond(known) => {
-            let mut beyond = Beyond {
+        Mode::ReportNew(known) => {
+            let mut beyond = ReportNew {
                 rules: plan.rules,
                 known: Borrowed { known },
                 form: counted,
@@ -138,8 +139,8 @@ where
                 kept: Kept::new(alloc),
             }
         }
-        Mode::Anew(_) => {
-            let mut anew = Anew {
+        Mode::UpdateBaseline(_) => {
+            let mut anew = UpdateBaseline {
                 rules: plan.rules,
                 form: counted,
                 readings: Vec::new(alloc),
@@ -159,8 +160,8 @@ where
                 kept: Kept::new(alloc),
             }
         }
-        Mode::Waived => {
-            let mut waiving = Waiving {
+        Mode::WriteWaivers => {
+            let mut waiving = WriteWaivers {
                 rules: plan.rules,
                 form: counted,
                 kept: Kept::new(alloc),

@@ -10,26 +10,26 @@ use crate::usage::{no_row, two_rows, unreadable};
 use std::alloc::Global;
 use t1_known::{KnownFaults, NotKnown};
 use t1_names::{Cause, FileSystem};
-use t1_options::KnownFaults as File;
+use t1_options::Baseline;
 use t1_run::UsageError;
 
 /// The text of the file of known faults: empty where none is named, or where one is made that isn't there yet.
 pub(crate) fn text_of_known<F: FileSystem>(
     alloc: Global,
-    file: &File,
+    file: &Baseline,
     files: &F,
 ) -> Result<Vec<u8>, UsageError>
     ensures text { IfOk result (λ bytes. IsKnownText (known_by (F.has_text files.now)) file.now bytes.items) }
     ensures none { IfErr result (IsToldSo (IsNotKnownText (known_by (F.has_text files.now)) file.now)) }
 {
     match file {
-        File::Unnamed => Ok(Vec::new(alloc)),
-        File::Beyond(name) => match files.text(name.as_str()) {
+        Baseline::Unnamed => Ok(Vec::new(alloc)),
+        Baseline::Compared(name) => match files.text(name.as_str()) {
             Some(Ok(text)) => Ok(text),
             Some(Err(error)) => Err(unreadable(alloc, name.as_str(), Cause::of(&error))),
             None => Err(unreadable(alloc, name.as_str(), Cause::NoFile)),
         },
-        File::Anew(name) => match files.text(name.as_str()) {
+        Baseline::Updated(name) => match files.text(name.as_str()) {
             Some(Ok(text)) => Ok(text),
             Some(Err(error)) => Err(unreadable(alloc, name.as_str(), Cause::of(&error))),
             None => Ok(Vec::new(alloc)),
@@ -38,12 +38,12 @@ pub(crate) fn text_of_known<F: FileSystem>(
 }
 
 /// The name of the file of known faults: empty where none is named.
-pub(crate) fn file_of(file: &File) -> &str
+pub(crate) fn file_of(file: &Baseline) -> &str
     ensures { result.now ≡ file_of file.now }
 {
     match file {
-        File::Unnamed => "",
-        File::Beyond(name) | File::Anew(name) => name.as_str(),
+        Baseline::Unnamed => "",
+        Baseline::Compared(name) | Baseline::Updated(name) => name.as_str(),
     }
 }
 

@@ -1,12 +1,13 @@
 //! How what is chosen is written.
 
-ghost use Rattle.std.specs.Prelude.{◌≡◌, map, option_map, string_bytes};
+ghost use Rattle.std.specs.Prelude.{◌≡◌, map};
 ghost use Rattle.t1_answer_all.specs.Layouts.{have_each, have_first, layout_of, layout_value, lines_or_groups};
 ghost use Rattle.t1_forms.specs.PageValues.{page_value};
 
 use t1_forms::{Page, Pages};
-use t1_grouped::Terminal;
-use t1_options::{Form, Options, Reasons};
+use t1_options::{Format, Options, Reasons};
+use t1_printers::Terminal;
+use t1_run::borrowed;
 
 /// How what is chosen is written.
 #[derive(Clone, Copy, Debug)]
@@ -29,26 +30,16 @@ pub fn layout_of<'a>(options: &'a Options, pages: &'a [Page]) -> Layout<'a>
 {
     let reasons = have_each(options.reasons);
     match options.form {
-        Some(Form::JsonLines) => Layout::JsonLines { reasons },
-        Some(Form::Sarif) => Layout::Sarif {
+        Some(Format::JsonLines) => Layout::JsonLines { reasons },
+        Some(Format::Sarif) => Layout::Sarif {
             pages: Pages {
                 list: pages,
-                docs: docs_of(options),
+                docs: borrowed(&options.docs),
             },
             reasons,
         },
-        Some(Form::GitHub) => Layout::GitHub { reasons },
+        Some(Format::GitHub) => Layout::GitHub { reasons },
         None => without_form(options),
-    }
-}
-
-/// The URL of the page of all rules, if there is one.
-fn docs_of(options: &Options) -> Option<&str>
-    ensures { option_map (λ docs. docs.now) result ≡ option_map string_bytes options.now.docs }
-{
-    match &options.docs {
-        Some(docs) => Some(docs.as_str()),
-        None => None,
     }
 }
 

@@ -1,8 +1,9 @@
 //! What t1check-all answers to the words of its command line, and which files it replaces then.
 //!
-//! [`answer`] is a whole run: words and settings become options, fonts are listed and checked, what is selected of them is written, and files are
+//! [`answer`] is a whole run: words and settings become options, fonts are listed and checked, what is chosen of them is written, and files are
 //! replaced. What the system has it asks of one value, which is a [`FileSystem`](t1_names::FileSystem) for lists, settings and known faults,
-//! [`FontFiles`](t1_many::FontFiles) for fonts and their waivers, and a [`FileStore`] for the files that are replaced.
+//! [`FontFiles`](t1_many::FontFiles) for fonts and their waivers, a [`FileStore`](t1_names::FileStore) for the files that are replaced, and
+//! [`ShowsProgress`].
 //!
 //! What is promised:
 //!
@@ -29,6 +30,7 @@ mod layout;
 mod listing;
 mod mode;
 mod plan;
+mod progress;
 mod replacing;
 mod running;
 mod shards;
@@ -45,7 +47,8 @@ pub use laws::{
 pub use layout::Layout;
 pub use mode::Mode;
 pub use plan::Plan;
-pub use replacing::{FileStore, replace_files, waivers_name};
+pub use progress::ShowsProgress;
+pub use replacing::{replace_files, waivers_name};
 pub use running::{Left, PROGRAM, Ran, run};
 pub use shards::names_of_part;
 pub use unlisted::Unlisted;

@@ -10,13 +10,13 @@ use t1_many::Known;
 #[derive(Clone, Copy)]
 pub enum Mode<'a> {
     /// All of them.
-    Told,
+    ReportAll,
     /// Those that go beyond known faults.
-    Beyond(&'a KnownFaults<'a>),
+    ReportNew(&'a KnownFaults<'a>),
     /// None: what is found becomes known, in the place of these known faults.
-    Anew(&'a KnownFaults<'a>),
+    UpdateBaseline(&'a KnownFaults<'a>),
     /// Those outside glyphs: of the others waivers are kept.
-    Waived,
+    WriteWaivers,
 }
 
 /// Known faults that belong to somebody else.

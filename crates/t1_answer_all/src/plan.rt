@@ -13,7 +13,7 @@ use t1_char::Edition;
 use t1_forms::Page;
 use t1_known::KnownFaults;
 use t1_many::{Choice, WaiverFiles};
-use t1_options::{KnownFaults as File, Options, Waivers};
+use t1_options::{Baseline, Options, Waivers};
 use t1_rules::Mask;
 
 /// What is requested.
@@ -91,12 +91,12 @@ fn mode_by<'a>(options: &Options, known: &'a KnownFaults<'a>) -> Mode<'a>
     ensures { mode_value result ≡ mode_by options.now.waivers options.now.known_faults known.now }
 {
     if options.waivers == Waivers::Written || options.waivers == Waivers::Overwritten {
-        return Mode::Waived;
+        return Mode::WriteWaivers;
     }
     match &options.known_faults {
-        File::Unnamed => Mode::Told,
-        File::Beyond(_) => Mode::Beyond(known),
-        File::Anew(_) => Mode::Anew(known),
+        Baseline::Unnamed => Mode::ReportAll,
+        Baseline::Compared(_) => Mode::ReportNew(known),
+        Baseline::Updated(_) => Mode::UpdateBaseline(known),
     }
 }
 

@@ -1,44 +1,18 @@
 //! Files that are replaced once all was printed.
 
-ghost use Rattle.std.specs.Prelude.{◌≡◌, ℕ, IfOk, List, Bool, Option, map, option_map, string_bytes};
-ghost use Rattle.t1_answer_all.specs.Replacing.{IsKeptBack, PutsEach, PutsFile, PutsKnownFaults, PutsWaivers, PutsWaiversOf, Replaces, TriesToPut, overwrites, put_failure, status_if, unwritten_text, waivers_name};
+ghost use Rattle.std.specs.Prelude.{◌≡◌, IfOk, map, option_map, string_bytes};
+ghost use Rattle.t1_answer_all.specs.Replacing.{IsKeptBack, PutsEach, PutsFile, PutsKnownFaults, PutsWaivers, PutsWaiversOf, Replaces, TriesToPut, overwrites, status_if, unwritten_text, waivers_name};
 ghost use Rattle.t1_answer_all.specs.Runs.{left_value};
-ghost use Rattle.t1_names.specs.declared.causes.Cause.{Cause};
 ghost use Rattle.t1_run.specs.Telling.{Tells};
 ghost use Rattle.t1_waiving.specs.FontTexts.{font_text};
 
 use crate::running::{Left, PROGRAM};
 use std::alloc::{AllocError, Global};
-use std::io;
 use t1_io::Sink;
-use t1_names::Cause;
-use t1_options::{KnownFaults, Options, Waivers};
+use t1_names::{Cause, FileStore};
+use t1_options::{Baseline, Options, Waivers};
 use t1_run::{Failure, Status, tell_failure, tell_parts};
 use t1_waiving::{FontWaivers, Kept};
-
-/// Files that can be replaced, by their names, and what is told of how far a run is.
-pub trait FileStore {
-    // So many fonts are checked from now on.
-    ghost expects: { Self → Self → ℕ → Type 0 };
-
-    // A text was put in the place of a file, or that failed for a cause.
-    ghost puts: { Self → Self → List ℕ → List ℕ → Option Cause → Type 0 };
-
-    // There is a file of this name, or there is none.
-    ghost has: { Self → List ℕ → Bool → Type 0 };
-
-    /// So many fonts are checked from now on: how far the run is may be shown.
-    fn expect(&mut self, fonts: usize)
-        ensures { expects self.old self.new fonts };
-
-    /// Puts a text in the place of a file.
-    fn replace(&mut self, name: &str, text: &[u8]) -> io::Result<()>
-        ensures { puts self.old self.new name.now text.now (put_failure result) };
-
-    /// Whether there is a file of this name.
-    fn is_there(&self, name: &str) -> bool
-        ensures { has self.now name.now result };
-}
 
 /// Replaces the files that a run by these options left to be replaced, and returns the status. A file that can't be replaced is reported; so are
 /// waivers that are there already, unless they are overwritten. Then the status is that of a failure, and the rest is done all the same.
@@ -49,7 +23,8 @@ pub fn replace_files<F: FileStore, E: Sink>(
     files: &mut F,
     errors: &mut E,
 ) -> Status
-    ensures { Replaces F.puts F.has options.now (left_value left.now) files.old files.new (E.state errors.old) (E.state errors.new) result }
+    ensures { Replaces (record { Puts = F.puts; Has = F.has }) options.now (left_value left.now)
+        (record { files = files.old; files' = files.new; errors = E.state errors.old; errors' = E.state errors.new }) result }
 {
     let known_faults = put_known_faults(&options.known_faults, &left.known_faults, files, errors);
     let overwrites = overwrites(options.waivers);
@@ -76,15 +51,16 @@ fn status_if(done: bool, status: Status) -> Status
 
 /// Replaces the file of known faults, if it is made anew and there is a text for it. Whether nothing failed.
 fn put_known_faults<F: FileStore, E: Sink>(
-    file: &KnownFaults,
+    file: &Baseline,
     text: &Option<Vec<u8>>,
     files: &mut F,
     errors: &mut E,
 ) -> bool
-    ensures { PutsKnownFaults F.puts file.now (option_map (λ t. t.items) text.now) files.old files.new (E.state errors.old) (E.state errors.new) result }
+    ensures { PutsKnownFaults (record { Puts = F.puts; Has = F.has }) file.now (option_map (λ t. t.items) text.now)
+        (record { files = files.old; files' = files.new; errors = E.state errors.old; errors' = E.state errors.new }) result }
 {
     match (file, text) {
-        (KnownFaults::Anew(name), Some(text)) => put_file(
+        (Baseline::Updated(name), Some(text)) => put_file(
             name.as_str(),
             text.as_slice(),
             files,
@@ -102,7 +78,8 @@ fn put_waivers<F: FileStore, E: Sink>(
     files: &mut F,
     errors: &mut E,
 ) -> bool
-    ensures { PutsWaivers F.puts F.has overwrites waivers.now files.old files.new (E.state errors.old) (E.state errors.new) result }
+    ensures { PutsWaivers (record { Puts = F.puts; Has = F.has }) overwrites waivers.now
+        (record { files = files.old; files' = files.new; errors = E.state errors.old; errors' = E.state errors.new }) result }
 {
     match waivers {
         Some(waivers) => put_each(alloc, waivers.fonts(), overwrites, files, errors),
@@ -118,7 +95,8 @@ fn put_each<F: FileStore, E: Sink>(
     files: &mut F,
     errors: &mut E,
 ) -> bool
-    ensures { PutsEach F.puts F.has overwrites (map font_text fonts.now) files.old files.new (E.state errors.old) (E.state errors.new) result }
+    ensures { PutsEach (record { Puts = F.puts; Has = F.has }) overwrites (map font_text fonts.now)
+        (record { files = files.old; files' = files.new; errors = E.state errors.old; errors' = E.state errors.new }) result }
 {
     let mut done = true;
     for font in fonts {
@@ -136,7 +114,8 @@ fn put_font<F: FileStore, E: Sink>(
     files: &mut F,
     errors: &mut E,
 ) -> bool
-    ensures { PutsWaiversOf F.puts F.has overwrites (font_text font.now) files.old files.new (E.state errors.old) (E.state errors.new) result }
+    ensures { PutsWaiversOf (record { Puts = F.puts; Has = F.has }) overwrites (font_text font.now)
+        (record { files = files.old; files' = files.new; errors = E.state errors.old; errors' = E.state errors.new }) result }
 {
     match &font.text {
         Some(text) => put_text(
@@ -160,7 +139,8 @@ fn put_text<F: FileStore, E: Sink>(
     files: &mut F,
     errors: &mut E,
 ) -> bool
-    ensures { TriesToPut F.puts F.has overwrites font.now text.now files.old files.new (E.state errors.old) (E.state errors.new) result }
+    ensures { TriesToPut (record { Puts = F.puts; Has = F.has }) overwrites font.now text.now
+        (record { files = files.old; files' = files.new; errors = E.state errors.old; errors' = E.state errors.new }) result }
 {
     let Ok(name) = waivers_name(alloc, font) else {
         tell_failure(PROGRAM, Failure::Memory, errors);
@@ -201,7 +181,8 @@ pub fn waivers_name(alloc: Global, font: &str) -> Result<String, AllocError>
 
 /// Puts a text in the place of a file, and prints a failure. Whether it succeeded.
 fn put_file<F: FileStore, E: Sink>(name: &str, text: &[u8], files: &mut F, errors: &mut E) -> bool
-    ensures { PutsFile F.puts name.now text.now files.old files.new (E.state errors.old) (E.state errors.new) result }
+    ensures { PutsFile (record { Puts = F.puts; Has = F.has }) name.now text.now
+        (record { files = files.old; files' = files.new; errors = E.state errors.old; errors' = E.state errors.new }) result }
 {
     match files.replace(name, text) {
         Ok(()) => true,

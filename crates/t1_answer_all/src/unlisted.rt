@@ -4,13 +4,13 @@ ghost use Rattle.std.specs.Prelude.{◌≡◌, map, replicate, string_bytes};
 ghost use Rattle.t1_answer_all.specs.Unlisted.{GivesEach, is_whole, undecoded, unlisted_in, unsearched};
 ghost use Rattle.t1_forms.specs.Tellings.{told_value};
 ghost use Rattle.t1_many.specs.Handing.{lost_of};
-ghost use Rattle.t1_many_forms.specs.Formatting.{HasItsLine};
+ghost use Rattle.t1_printers.specs.Formatting.{HasItsLine};
 
 use std::alloc::Global;
 use t1_forms::{Told, What};
 use t1_io::Sink;
 use t1_many::Lost;
-use t1_many_forms::{Formatter, give};
+use t1_printers::{Formatter, give};
 
 /// What of a list of fonts couldn't be listed.
 #[derive(Clone, Copy, Debug)]
@@ -71,7 +71,7 @@ fn give_times<T: Formatter, W: Sink>(
     formatter: &mut T,
     out: &mut W,
 ) -> Result<(), Lost>
-    requires { HasItsLine told.now }
+    requires { HasItsLine T.has_lines told.now }
     ensures { GivesEach T.writes formatter.old formatter.new (W.state out.old) (W.state out.new)
         (replicate count (told_value told.now)) (lost_of result) }
 {

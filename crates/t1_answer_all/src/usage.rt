@@ -7,6 +7,7 @@ ghost use Rattle.t1_answer_all.specs.Usage.{line_text, no_font_text, no_row_text
 use std::alloc::{AllocError, Global};
 use t1_known::Line;
 use t1_names::Cause;
+use t1_options::unread_text;
 use t1_run::UsageError;
 
 /// A file can't be read, for this cause.
@@ -50,11 +51,8 @@ fn usage_of(text: Result<String, AllocError>) -> UsageError
 fn unreadable_text(alloc: Global, file: &str, cause: Cause) -> Result<String, AllocError>
     ensures { IfOk result (λ text. string_bytes text ≡ unreadable_text file.now cause) }
 {
-    let mut text = String::from_str(alloc, "t1check-all: ")?;
-    text.push_str(file)?;
-    text.push_str(" can't be read")?;
-    text.push_str(cause.text())?;
-    text.push_str("\nt1check-all: 't1check-all --help' says how it is used\n")?;
+    let mut text = unread_text(alloc, file, cause)?;
+    text.push_str("t1check-all: 't1check-all --help' says how it is used\n")?;
     Ok(text)
 }
 

@@ -12,10 +12,11 @@ use crate::plan::Plan;
 use crate::unlisted::give_unlisted;
 use std::alloc::Global;
 use t1_forms::{FormatError, Sarif};
-use t1_grouped::{GitHubGroups, GroupForm, Grouped};
 use t1_io::Sink;
 use t1_many::{FontFiles, Lost, Plain};
-use t1_many_forms::{Formatted, Formatter, GitHubCommands, JsonLines};
+use t1_printers::{
+    Formatted, Formatter, GitHubCommands, GitHubGroups, GroupForm, Grouped, JsonLines,
+};
 use t1_run::Status;
 
 /// Fonts of which was written what is chosen.

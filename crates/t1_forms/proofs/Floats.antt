@@ -1,14 +1,12 @@
 -- No object that a line means has a float in it.
-use Rattle.std.proofs.Common.{◌≡◌, ℕ, List, [], ◌∷◌, Option, Some, None, Ordering, Less, Equal, Greater, nat_cmp, option_map, codes, false, map, refl}
-use Rattle.std.proofs.lemmas.Bool.{or_parts}
-use Rattle.std.specs.Cmp.Lexicographic.{slice_cmp}
-use Rattle.std.specs.Ordering.{match_ordering}
+use Rattle.std.proofs.Common.{◌≡◌, ℕ, List, [], ◌∷◌, Option, Some, None, option_map, codes, false, map, refl}
 use Rattle.std.specs.Prelude.{IfSome}
-use Rattle.serde_json.specs.Data.{Data, Members, member, no_members, number, put, string, unsigned}
+use Rattle.serde_json.specs.Data.{Members, number, string, unsigned}
 use Rattle.serde_json.specs.View.{items_of}
 use Rattle.serde_json.specs.Written.{has_float, items_have_float, members_have_float}
 use Rattle.t1_rules.specs.declared.rule.Rule.{Rule}
 use Rattle.t1_lines.specs.Lines.{PlaceValue, at_key, at_step, at_waiver, of_fault, of_refusal}
+use Rattle.t1_forms.proofs.NoFloats.{no_floats, put_none}
 use Rattle.t1_forms.specs.declared.reason.ToldReason.{ToldReason}
 use Rattle.t1_forms.specs.declared.told.Told.{Told}
 use Rattle.t1_forms.specs.Objects.{fault_members, object_of, reason_object, what_members, with_font, with_reason}
@@ -35,19 +33,7 @@ in_what (Some name) (of_line (of_refusal code)) = refl
 in_what None (of_unchecked reason) = refl
 in_what (Some name) (of_unchecked reason) = refl
 
--- ---- one member more
-
-put_at : (o : Ordering) (k l : List ℕ) (d e : Data) (ms : Members) → has_float d ≡ false → members_have_float (member l e ms) ≡ false
-    → members_have_float (put k d ms) ≡ false
-    → members_have_float (match_ordering o (member k d (member l e ms)) (member l d ms) (member l e (put k d ms))) ≡ false
-put_at Less k l d e ms own all later = rw own all
-put_at Equal k l d e ms own all later = rw own (or_parts (has_float e) (members_have_float ms) all).1
-put_at Greater k l d e ms own all later = rw (or_parts (has_float e) (members_have_float ms) all).0 later
-
-pub put_none : (k : List ℕ) (d : Data) (ms : Members) → has_float d ≡ false → members_have_float ms ≡ false → members_have_float (put k d ms) ≡ false
-put_none k d no_members own all = rw own refl
-put_none k d (member l e ms) own all =
-    put_at (slice_cmp nat_cmp k l) k l d e ms own all (put_none k d ms own (or_parts (has_float e) (members_have_float ms) all).1)
+-- ---- the reason
 
 abbrev HasNone : Option ReasonValue → Type 0
 HasNone reason = IfSome reason (λ r. members_have_float r.numbers ≡ false)
@@ -60,7 +46,7 @@ in_all (Some r) ms none all =
 
 has_none : (reason : Option ToldReason) → HasNone (option_map reason_value reason)
 has_none None = tt
-has_none (Some r) = r.no_float
+has_none (Some r) = no_floats r.font.now r.reason
 
 pub has_no_float : (t : Told) → has_float (object_of (told_value t)) ≡ false
 has_no_float t =

@@ -1,6 +1,7 @@
 pub mod CommandParts
 pub mod Floats
 pub mod Messages
+pub mod NoFloats
 pub mod OneObject
 pub mod SarifCounts
 pub mod SarifFloats
@@ -9,3 +10,4 @@ pub mod SarifRuns
 pub mod SarifUnits
 pub mod ShownNames
 pub mod ShownWords
+pub mod Written

@@ -9,7 +9,8 @@ use Rattle.std.specs.List.{flat_map, AllByRecursion}
 use Rattle.std.specs.Str.{chars, is_utf8}
 use Rattle.hex.specs.Hex.{hex_digit_value}
 use Rattle.t1_forms.specs.NameWords.{name_behind, name_of_word, nothing}
-use Rattle.t1_forms.specs.Shown.{hexadecimal_digit, escaped, shown_char, shown_byte, shown}
+use Rattle.t1_reason_texts.specs.Names.{hexadecimal_digit}
+use Rattle.t1_forms.specs.Shown.{escaped, shown_char, shown_byte, shown}
 use Rattle.t1_forms.specs.Laws.{ShownNamesAreWords}
 
 -- ---- digits

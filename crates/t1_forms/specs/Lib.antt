@@ -1,5 +1,6 @@
 pub mod Commands
 pub mod Laws
+pub mod Members
 pub mod NameWords
 pub mod Objects
 pub mod PageValues

@@ -13,7 +13,8 @@ use Rattle.t1_rules.specs.declared.level.Level.TheVariants.{Must, Should, Tidy}
 use Rattle.t1_lines.specs.Lines.{LineValue, PlaceValue, at_key, at_step, at_waiver, of_fault, of_refusal}
 use Rattle.t1_forms.specs.Objects.{refusal_code_of}
 use Rattle.t1_forms.specs.PageValues.{PageValue, PagesValue, place_among}
-use Rattle.t1_forms.specs.Shown.{hexadecimal_digit, shown}
+use Rattle.t1_forms.specs.Shown.{shown}
+use Rattle.t1_reason_texts.specs.Names.{hexadecimal_digit}
 use Rattle.t1_forms.specs.Tellings.{ReasonValue}
 
 -- ---- rules

@@ -3,7 +3,7 @@
 //!
 //! A [`Told`] is what is reported: a fault, a refusal, or why a font wasn't checked, with the font's name and the reason where there
 //! is one. [`write_object`] writes it as an object in a line of its own, [`Sarif`] as a result in a document, [`write_command`] as a
-//! command.
+//! command. The object alone has a reason's numbers, as members of their own. [`Text`] is a device that keeps in memory what is written.
 //!
 //! What is promised, for all bytes:
 //!
@@ -30,6 +30,7 @@
 mod commands;
 mod error;
 mod laws;
+mod members;
 mod names;
 mod objects;
 mod page;
@@ -37,6 +38,7 @@ mod reason;
 mod sarif;
 mod sarif_laws;
 mod sarif_objects;
+mod text;
 mod told;
 mod version;
 
@@ -48,10 +50,11 @@ pub use laws::{
 pub use names::{push_escaped, shown};
 pub use objects::{object, write_object};
 pub use page::{Page, Pages};
-pub use reason::ToldReason;
+pub use reason::{OwnReason, ToldReason, as_told};
 pub use sarif::{RESULT_COUNTS, Sarif};
 pub use sarif_laws::{
     all_is_told_in_documents, documents_are_of_their_runs, fingerprints_stay, results_are_read_back,
 };
+pub use text::Text;
 pub use told::{Told, What};
 pub use version::VERSION;

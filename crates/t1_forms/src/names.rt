@@ -1,23 +1,12 @@
 //! Names as text: those of fonts and glyphs are bytes, and JSON needs UTF-8.
 
-ghost use Rattle.std.specs.Prelude.{◌≡◌, ◌<◌, ◌++◌, IfOk, OnOk, string_bytes};
+ghost use Rattle.std.specs.Prelude.{◌≡◌, ◌++◌, IfOk, OnOk, string_bytes};
 ghost use Rattle.std.specs.Str.{chars};
 ghost use Rattle.std.specs.List.{flat_map};
-ghost use Rattle.t1_forms.specs.Shown.{escaped, hexadecimal_digit, shown, shown_byte, shown_char};
+ghost use Rattle.t1_forms.specs.Shown.{escaped, shown, shown_byte, shown_char};
 
 use std::alloc::{AllocError, Global};
-
-/// A digit of a hexadecimal number, in upper case.
-pub(crate) fn hexadecimal_digit(digit: u8) -> char
-    requires { digit < 16 }
-    ensures { result ≡ hexadecimal_digit digit }
-{
-    if digit < 10 {
-        char::from(b'0' + digit)
-    } else {
-        char::from(b'A' + (digit - 10))
-    }
-}
+use t1_reason_texts::hexadecimal_digit;
 
 /// Appends a byte as `\xNN`.
 pub fn push_escaped(text: &mut String, byte: u8) -> Result<(), AllocError>

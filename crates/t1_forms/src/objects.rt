@@ -9,6 +9,7 @@ ghost use Rattle.t1_forms.specs.Shown.{shown};
 ghost use Rattle.t1_forms.specs.Tellings.{reason_value, told_value, what_value};
 ghost use Rattle.t1_forms.specs.Writing.{WritesLine};
 
+use crate::members::reason_members;
 use crate::{FormatError, Told, ToldReason, What, shown};
 use serde_json::{Map, Value, put};
 use std::alloc::{AllocError, Global};
@@ -218,22 +219,11 @@ fn what_members(alloc: Global, what: &What<'_>) -> Result<Map<String, Value>, Al
     Ok(members)
 }
 
-/// The same members once more.
-fn copied(alloc: Global, members: &Map<String, Value>) -> Result<Map<String, Value>, AllocError>
-    ensures { IfOk result (λ m. members_view m.entries ≡ members_view members.now.entries) }
-{
-    let mut copies = Map::new(alloc);
-    for (key, member) in members.iter() {
-        put(&mut copies, alloc, key.as_str(), member.clone()?)?;
-    }
-    Ok(copies)
-}
-
 /// The object of a reason: its numbers and its text.
 fn reason_object(alloc: Global, reason: &ToldReason<'_>) -> Result<Value, AllocError>
     ensures { IfOk result (λ v. view v ≡ reason_object (reason_value reason.now)) }
 {
-    let mut members = copied(alloc, reason.numbers)?;
+    let mut members = reason_members(alloc, reason.font, reason.reason)?;
     put(&mut members, alloc, "text", text(alloc, reason.text)?)?;
     Ok(Value::Object(members))
 }

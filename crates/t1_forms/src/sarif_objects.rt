@@ -11,12 +11,12 @@ ghost use Rattle.t1_forms.specs.Shown.{shown};
 ghost use Rattle.t1_forms.specs.Tellings.{reason_value};
 ghost use Rattle.t1_forms.specs.SarifObjects.{and_reason, behind_colon, fault_locations, fingerprint, font_locations, help_object, is_plain_in_uri, level_coded, line_code, level_object, line_id, line_level, line_locations, line_message, line_unit, logical_location, logical_locations, notification_object, one, page_members, page_object, physical_location, place_unit, result_object, sarif_level, text_object, tool_object, unit_of, uri_byte};
 
-use crate::names::hexadecimal_digit;
 use crate::objects::refusal_code;
 use crate::{Page, Pages, ToldReason, VERSION, shown};
 use serde_json::{Map, Value, json, put};
 use std::alloc::{AllocError, Global};
 use t1_lines::{Line, Place};
+use t1_reason_texts::hexadecimal_digit;
 use t1_rules::{Level, Rule, key_text, rule_code, rule_level};
 
 /// An object with a text.

@@ -1,10 +1,10 @@
 //! What is reported of fonts.
 
-use crate::ToldReason;
+use crate::reason::ToldReason;
 use t1_lines::Line;
 
 /// What is reported, with its line.
-#[derive(Debug, PartialEq, Drop)]
+#[derive(Drop)]
 pub struct Told<'a> {
     /// The font's name; none where what is reported is of no font.
     pub font: Option<&'a [u8]>,

@@ -10,12 +10,12 @@ use Rattle.t1_lines.proofs.NamesKept.{glyph_named}
 use Rattle.t1_lines.proofs.WaiverNames.{waivers_have_names}
 use Rattle.t1_lines.specs.Lines.{IsPlace, PlaceValue, at_key, at_step, at_waiver, place_in}
 use Rattle.t1_lines.specs.Names.{HasNames, HaveNames}
-use Rattle.t1_many.proofs.GroupKinds.{IsPlaced, font_named, placed}
-use Rattle.t1_many.proofs.GroupKinds.IsPlaced.{in_font, in_glyph, in_waivers}
+use Rattle.t1_many.proofs.FaultKinds.{IsPlaced, font_named, placed}
+use Rattle.t1_many.proofs.FaultKinds.IsPlaced.{in_font, in_glyph, in_waivers}
 use Rattle.t1_many.proofs.LineKinds.{have_kinds}
-use Rattle.t1_many.specs.Groups.{told_faults}
 use Rattle.t1_many.specs.Known.{kind_in}
 use Rattle.t1_many.specs.KnownFaults.{kind_at}
+use Rattle.t1_many.specs.Verdicts.{told_faults}
 use Rattle.t1_report.proofs.FewFaults.{few_faults}
 use Rattle.t1_report.proofs.InFont.{in_font as stands_in_font}
 use Rattle.t1_report.specs.Checked.{checked}
@@ -57,11 +57,11 @@ waiver_is_regular (v ∷ waivers) (suc i) w names at =
 module _ (font : FontValue) (waivers : List Waiver) (names : HasNames font) (waiver_names : HaveNames waivers) where
   short_place : (fault : FaultValue) → IsInFont font waivers fault → IsPlaced font waivers fault
       → IsPlace (short (place_in font waivers fault)) fault.rule
-  short_place fault there (in_font unit part key place) =
+  short_place fault there (in_font unit key place) =
       subst (λ p. IsPlace (short p) fault.rule) (sym place) (key, omega arith)
-  short_place fault there (in_waivers w unit part low high at place) =
+  short_place fault there (in_waivers w unit at place) =
       subst (λ p. IsPlace (short p) fault.rule) (sym place) (waiver_is_regular waivers (fault.step - 1) w waiver_names at, (there.waiver unit).0)
-  short_place fault there (in_glyph low high part place) =
+  short_place fault there (in_glyph place) =
       subst (λ p. IsPlace (short p) fault.rule) (sym place) (glyph_named font (fault.unit - 1) names, omega arith, tt, omega arith)
 
   plain_kinds : (faults : List FaultValue) → AllByRecursion (IsInFont font waivers) faults

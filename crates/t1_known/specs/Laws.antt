@@ -12,11 +12,11 @@ use Rattle.t1_known.specs.declared.known.NotKnown.{NotKnown}
 use Rattle.t1_known.specs.declared.known.NotKnown.TheVariants.{Memory, NoRow, Twice}
 use Rattle.t1_lines.specs.Lines.{FaultLineValue, IsFaultLine}
 use Rattle.t1_many.specs.Choice.{Choice}
-use Rattle.t1_many.specs.Groups.{told_faults}
 use Rattle.t1_many.specs.Known.{kind_in}
 use Rattle.t1_many.specs.KnownFaults.{IsRow, Reading, RowValue, beyond, file_text, kind_of, kinds_in, mismatch, updated}
 use Rattle.t1_many.specs.Laws.{AreReadings}
 use Rattle.t1_many.specs.Outcomes.{IsRead}
+use Rattle.t1_many.specs.Verdicts.{told_faults}
 use Rattle.t1_report.specs.Checked.{checked}
 use Rattle.t1_report.specs.Faults.{FaultValue}
 use Rattle.t1_report.specs.Reports.{IsReport}

@@ -1,8 +1,8 @@
 //! What the lines say that t1check writes: a fault, a waiver that isn't used, a refusal; and how they are spelled.
 //!
 //! A [`Line`] says it. A fault has its number in the report, its rule and its place: a key of the font and an index; a glyph's
-//! name, the Subrs that are being executed and the step; or a waiver. A refusal has its code. [`cut`] cuts a text in two at
-//! a byte.
+//! name, the Subrs that are being executed and the step; or a waiver. A refusal has its code. [`fault_line`] says it of a fault.
+//! [`cut`] cuts a text in two at a byte.
 //!
 //! What is promised:
 //!
@@ -18,10 +18,12 @@
 //! ```
 #![tactic(auto)]
 
+mod faults;
 mod laws;
 mod line;
 mod words;
 
+pub use faults::{fault_line, place_of};
 pub use laws::{
     each_refusal_has_a_code, faults_are_small, faults_are_written_as_lines, fonts_have_names,
     waivers_have_names,

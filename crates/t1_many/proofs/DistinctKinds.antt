@@ -51,8 +51,8 @@ pub counts_once : (kinds : List (List ℕ)) → IsDistinct bytes_eq (map (λ (c 
 counts_once kinds = subst (IsDistinct bytes_eq) (sym (kinds_stay (found_count kinds) (distinct kinds))) (kinds_once kinds)
 
 -- A kind is counted.
-abbrev pub has_kind : List (List ℕ × ℕ) → List ℕ → Bool
-has_kind counts kind = list_any (λ (c : List ℕ × ℕ). bytes_eq kind c.0) counts
+abbrev pub has_text : List (List ℕ × ℕ) → List ℕ → Bool
+has_text counts kind = list_any (λ (c : List ℕ × ℕ). bytes_eq kind c.0) counts
 
 unlike_at : (a : List ℕ) (counts : List (List ℕ × ℕ)) (i : ℕ) (c : List ℕ × ℕ)
     → AllByRecursion (λ b. bytes_eq a b ≡ false) (map (λ (d : List ℕ × ℕ). d.0) counts) → slice_get counts i ≡ Some c → bytes_eq a c.0 ≡ false
@@ -62,7 +62,7 @@ unlike_at a (d ∷ counts) (suc i) c all at = unlike_at a counts i c all.1 at
 
 -- the kind at a place is none of those before it
 pub new_at : (counts : List (List ℕ × ℕ)) (i : ℕ) (c : List ℕ × ℕ) → IsDistinct bytes_eq (map (λ (d : List ℕ × ℕ). d.0) counts)
-    → slice_get counts i ≡ Some c → has_kind (take i counts) c.0 ≡ false
+    → slice_get counts i ≡ Some c → has_text (take i counts) c.0 ≡ false
 unfolding IsDistinct
 new_at [] i c once at = absurd (none-some c at)
 new_at (d ∷ counts) zero c once at = refl
@@ -70,10 +70,10 @@ new_at (d ∷ counts) (suc i) c once at =
     let other : bytes_eq c.0 d.0 ≡ false = apart d.0 c.0 (unlike_at d.0 counts i c once.0 at) in
     rw other (new_at counts i c once.1 at)
 
-pub nowhere : (entries : List (Vec ℕ Global × ℕ)) (kind : List ℕ) → has_kind (counts_in entries) kind ≡ false
+pub nowhere : (entries : List (Vec ℕ Global × ℕ)) (kind : List ℕ) → has_text (counts_in entries) kind ≡ false
     → lookup (λ (k : Vec ℕ Global). bytes_eq kind k.items) entries ≡ None
 nowhere [] kind out = refl
 nowhere (e ∷ entries) kind out = elim (cases_Bool (bytes_eq kind e.0.items)) [
   | inl same ↦ (let there : true ≡ false = rw same at out in absurd (true≢false there))
-  | inr other ↦ (let later : has_kind (counts_in entries) kind ≡ false = rw other at out in rw other (nowhere entries kind later))
+  | inr other ↦ (let later : has_text (counts_in entries) kind ≡ false = rw other at out in rw other (nowhere entries kind later))
 ]

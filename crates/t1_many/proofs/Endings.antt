@@ -11,8 +11,8 @@ use Rattle.t1_many.specs.Files.{Given, IsFound, given_by}
 use Rattle.t1_many.specs.Files.IsFound.{breaks, breaks_waivers, no_memory, refused, reports, waivers_refused}
 use Rattle.t1_many.specs.Outcomes.{Entry, Outcome, failed, reported}
 use Rattle.t1_many.specs.Private.Checking.{Checks, of_bytes, of_font, of_text}
-use Rattle.t1_summary.specs.declared.found.Found.{Found}
-use Rattle.t1_many.specs.declared.recipient.Lost.{Lost}
+use Rattle.t1_summary.specs.declared.found.FontClass.{FontClass}
+use Rattle.t1_many.specs.declared.policy.Lost.{Lost}
 use Rattle.t1_report.specs.Checked.{checked}
 use Rattle.t1_report.specs.Faults.{FaultValue}
 use Rattle.t1_report.specs.WaiverViews.{IsReadAs}
@@ -56,21 +56,21 @@ found_by edition given wider outcome on (breaks_waivers font read broke same) =
     breaks_waivers font (on.reads _ read) (on.breaks_waivers broke) same
 found_by edition given wider outcome on (no_memory same) = no_memory same
 
-module _ {R : Type 0} (takes : R → R → Entry → Result Found Lost → Type 0) (edition : Edition) (name : List ℕ) where
-  pub checks_by : (given wider : Given) (a b : R) (result : Result (Result Found Lost) Failure) → Widens given wider
+module _ {R : Type 0} (takes : R → R → Entry → Result FontClass Lost → Type 0) (edition : Edition) (name : List ℕ) where
+  pub checks_by : (given wider : Given) (a b : R) (result : Result (Result FontClass Lost) Failure) → Widens given wider
       → Checks takes edition name given a b result → Checks takes edition name wider a b result
   checks_by given wider a b (Ok taken) on (report, found, took) = (report, found_by edition given wider (reported report) on found, took)
   checks_by given wider a b (Err failure) on (found, same) = (found_by edition given wider (ended failure) on found, same)
 
   -- the exit of a `?` at which nothing was done
-  pub not_found : (given : Given) (a b : R) (result : Result (Result Found Lost) Failure) (failure : Failure)
+  pub not_found : (given : Given) (a b : R) (result : Result (Result FontClass Lost) Failure) (failure : Failure)
       → IsErrAnd result (λ f. f ≡ failure) → b ≡ a → IsFound edition given (ended failure) → Checks takes edition name given a b result
   not_found given a b (Ok taken) failure is same found = absurd is
   not_found given a b (Err f) failure is same found =
       (subst (λ (f : Failure). IsFound edition given (ended f)) (sym is) found, same)
 
   -- a report that was taken
-  pub text_taken : (font : FontValue) (text : List ℕ) (waivers : List Waiver) (of : Edition) (a b : R) (taken : Result Found Lost)
+  pub text_taken : (font : FontValue) (text : List ℕ) (waivers : List Waiver) (of : Edition) (a b : R) (taken : Result FontClass Lost)
       → of ≡ edition → waivers_of text ≡ Some waivers → (faults : List FaultValue) × IsReport (checked font of) waivers faults
       × takes a b (record { name = name; outcome = reported (record { font = font; edition = of; waivers = waivers; faults = faults }) }) taken
       → Checks takes edition name (of_text font text) a b (Ok taken)

@@ -12,9 +12,9 @@ use Rattle.t1_many.specs.Files.{ChecksIn, files_by}
 use Rattle.t1_many.specs.Outcomes.{Entry, Outcome, status_of_found}
 use Rattle.t1_many.specs.Private.Checking.{TakesOne}
 use Rattle.t1_many.specs.Statuses.{worse, worst_of}
-use Rattle.t1_summary.specs.declared.found.Found.{Found}
+use Rattle.t1_summary.specs.declared.found.FontClass.{FontClass}
 use Rattle.t1_many.specs.declared.font_files.WaiverFiles.{WaiverFiles}
-use Rattle.t1_many.specs.declared.recipient.Lost.{Lost}
+use Rattle.t1_many.specs.declared.policy.Lost.{Lost}
 use Rattle.t1_run.specs.declared.status.Status.{Status}
 use Rattle.t1_run.specs.declared.status.Status.TheVariants.{Clean}
 
@@ -30,12 +30,12 @@ names_next f xs i x less is =
     ap (map f) (ap (λ n. take n xs) (add-one i) ∙ take-suc xs i x less ∙ ap (λ y. take i xs ++ y ∷ []) (sym is))
     ∙ map-append f (take i xs) (x ∷ [])
 
-status-push : (founds : List Found) (found : Found) → status_of_all (founds ++ found ∷ []) ≡ worse (status_of_all founds) (status_of_found found)
+status-push : (founds : List FontClass) (found : FontClass) → status_of_all (founds ++ found ∷ []) ≡ worse (status_of_all founds) (status_of_found found)
 status-push founds found =
     ap worst_of (map-append status_of_found founds (found ∷ [])) ∙ worst_push (map status_of_found founds) (status_of_found found)
 
-module _ {R : Type 0} (takes : R → R → Entry → Result Found Lost → Type 0) where
-  taken-push : (a b c : R) (entries : List Entry) (founds : List Found) (entry : Entry) (found : Found) → AreTaken takes a b entries founds
+module _ {R : Type 0} (takes : R → R → Entry → Result FontClass Lost → Type 0) where
+  taken-push : (a b c : R) (entries : List Entry) (founds : List FontClass) (entry : Entry) (found : FontClass) → AreTaken takes a b entries founds
       → takes b c entry (Ok found) → AreTaken takes a c (entries ++ entry ∷ []) (founds ++ found ∷ [])
   taken-push a b c [] founds entry found (same, none) took =
       (c, found, [], subst (λ s. takes s c entry (Ok found)) same took, (refl, refl), ap (λ l. l ++ found ∷ []) none)
@@ -58,7 +58,7 @@ module _ {R : Type 0} (takes : R → R → Entry → Result Found Lost → Type 
     -- The fonts of these names so far, by the files at first and now.
     pub record HaveGone (names : List (List ℕ)) (files files' : F) (old new : R) (worst : Status) : Type 0 where
       pub entries : List Entry
-      pub founds : List Found
+      pub founds : List FontClass
       pub are : AreEntries (files_by calls beside files files') edition names entries
       pub taken : AreTaken takes old new entries founds
       pub worst_is : worst ≡ status_of_all founds
@@ -83,7 +83,7 @@ module _ {R : Type 0} (takes : R → R → Entry → Result Found Lost → Type 
 
     module _ (names : List (List ℕ)) (name : List ℕ) (files between files' : F) (a b c : R) (worst : Status)
         (gone : HaveGone names files between a b worst) where
-      pub one_gone : (found : Found) → TakesOne takes calls beside edition name between files' b c (Ok found)
+      pub one_gone : (found : FontClass) → TakesOne takes calls beside edition name between files' b c (Ok found)
           → HaveGone (names ++ name ∷ []) files files' a c (worse worst (status_of_found found))
       one_gone found (outcome, is, took) = record {
         entries = gone.entries ++ record { name = name; outcome = outcome } ∷ [];

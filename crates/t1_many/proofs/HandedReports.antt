@@ -5,8 +5,8 @@ use Rattle.t1_many.proofs.Handed.{handed-append, handed-one, handed-stopped}
 use Rattle.t1_many.proofs.ReportLines.{lost_same, no_ok}
 use Rattle.t1_many.specs.Handing.{Handed, HandsOn, HandsReport, done, found_by, lines_by}
 use Rattle.t1_many.specs.Private.Handing.{HandsLines}
-use Rattle.t1_summary.specs.declared.found.Found.{Found}
-use Rattle.t1_many.specs.declared.recipient.Lost.{Lost}
+use Rattle.t1_summary.specs.declared.found.FontClass.{FontClass}
+use Rattle.t1_many.specs.declared.policy.Lost.{Lost}
 use Rattle.t1_many.specs.declared.verdict.Verdict.{Verdict}
 use Rattle.t1_report.specs.Checked.{CheckedFont}
 use Rattle.t1_report.specs.Faults.{FaultValue}
@@ -15,7 +15,7 @@ use Rattle.t1_report.specs.Waivers.{Waiver}
 module _ {F : Type 0} (takes : F → F → Handed → Option Lost → Type 0) (name : List ℕ) where
   module _ (judges : FaultValue → Verdict) (font : CheckedFont) (waivers : List Waiver) (a b : F) where
     -- it stopped in a line
-    pub stopped_early : (lost : Lost) → HandsLines takes judges name font waivers a b (Err lost) → (r : Result Found Lost)
+    pub stopped_early : (lost : Lost) → HandsLines takes judges name font waivers a b (Err lost) → (r : Result FontClass Lost)
         → IsErrAnd r (λ l. l ≡ lost) → HandsReport takes judges name font waivers a b r
     stopped_early lost (faults, is, handed, none) r at = (
       faults,
@@ -25,17 +25,17 @@ module _ {F : Type 0} (takes : F → F → Handed → Option Lost → Type 0) (n
       no_ok r (λ l. l ≡ lost) (λ found. found ≡ found_by judges faults) at,
     )
 
-    behind_lines : (c : F) (found : Found) (lost : Option Lost) (faults : List FaultValue)
+    behind_lines : (c : F) (found : FontClass) (lost : Option Lost) (faults : List FaultValue)
         → HandsOn takes a b (lines_by judges name font waivers faults) None → found ≡ found_by judges faults
         → takes b c (done name found) lost
         → HandsOn takes a c (lines_by judges name font waivers faults ++ done name (found_by judges faults) ∷ []) lost
     behind_lines c found lost faults handed same took =
         handed-append takes a b c (lines_by judges name font waivers faults) _ lost handed
-        (subst (λ (f : Found). HandsOn takes b c (done name f ∷ []) lost) same (handed-one takes b c (done name found) lost took))
+        (subst (λ (f : FontClass). HandsOn takes b c (done name f ∷ []) lost) same (handed-one takes b c (done name found) lost took))
 
     -- or after all of them
-    pub stopped_late : (c : F) (found : Found) (lost : Lost) → HandsLines takes judges name font waivers a b (Ok found)
-        → takes b c (done name found) (Some lost) → (r : Result Found Lost) → IsErrAnd r (λ l. l ≡ lost)
+    pub stopped_late : (c : F) (found : FontClass) (lost : Lost) → HandsLines takes judges name font waivers a b (Ok found)
+        → takes b c (done name found) (Some lost) → (r : Result FontClass Lost) → IsErrAnd r (λ l. l ≡ lost)
         → HandsReport takes judges name font waivers a c r
     stopped_late c found lost (faults, is, handed, same) took r at = (
       faults,
@@ -45,6 +45,6 @@ module _ {F : Type 0} (takes : F → F → Handed → Option Lost → Type 0) (n
       no_ok r (λ l. l ≡ lost) (λ f. f ≡ found_by judges faults) at,
     )
 
-    pub all_done : (c : F) (found : Found) → HandsLines takes judges name font waivers a b (Ok found) → takes b c (done name found) None
+    pub all_done : (c : F) (found : FontClass) → HandsLines takes judges name font waivers a b (Ok found) → takes b c (done name found) None
         → HandsReport takes judges name font waivers a c (Ok found)
     all_done c found (faults, is, handed, same) took = (faults, is, behind_lines c found None faults handed same took, same)

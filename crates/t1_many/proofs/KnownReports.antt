@@ -1,19 +1,26 @@
 -- Reports of which the lines beyond known faults are handed on.
-use Rattle.std.proofs.Common.{◌≡◌, ◌||◌, ℕ, Bool, true, false, nat_eq, nat_lt, List, [], ◌∷◌, ◌++◌, Option, Result, Ok, Err, cond, filter, map, inl, inr, refl, sym, ap, ap₂, subst, ◌∙◌, arith}
+use Rattle.std.proofs.Common.{◌≡◌, ◌||◌, ℕ, Bool, true, false, nat_lt, List, [], ◌∷◌, ◌++◌, Option, Result, Ok, Err, cond, filter, map, inl, inr, refl, sym, ap, ap₂, subst, ◌∙◌}
 use Rattle.std.proofs.lemmas.Bool.{cases_Bool}
-use Rattle.std.proofs.lemmas.Bool.Decides.{nat_tests}
 use Rattle.std.specs.List.{AllByRecursion}
 use Rattle.std.specs.Result.{IfOk}
+use Rattle.std.specs.Str.{bytes_eq}
 use Rattle.t1_font.specs.Fonts.{FontValue}
-use Rattle.t1_many.proofs.KindRows.{groups_count}
-use Rattle.t1_many.specs.Beyond.{HandsBeyond, verdict_beyond, verdict_of}
-use Rattle.t1_many.specs.Groups.{CountsReport, group_of, groups_of, is_among, told_faults}
+use Rattle.t1_many.proofs.FaultKinds.{unit_in}
+use Rattle.t1_many.proofs.KindCounts.{count_is_found, found_is_had}
+use Rattle.t1_many.proofs.TextCounts.{or_true}
+use Rattle.t1_many.proofs.Texts.{itself}
+use Rattle.t1_many.specs.Beyond.{verdict_beyond, verdict_of}
+use Rattle.t1_many.specs.Counts.{text_counts}
 use Rattle.t1_many.specs.Handing.{Handed, HandsFont, HandsOn, HandsReport, done, found_by, found_with, is_told, line, lines_by, lost_of}
-use Rattle.t1_many.specs.Known.{key_in, verdict_known}
+use Rattle.t1_many.specs.Kinds.{KindValue, counted_in}
+use Rattle.t1_many.specs.Known.{kind_in, verdict_known}
+use Rattle.t1_many.specs.KnownFaults.{counts_of, is_among}
 use Rattle.t1_many.specs.Outcomes.{Entry, IsRead, Report, reported}
-use Rattle.t1_many.specs.Readings.{IsReading, Keeps, TakesOutcome, as_known, by_known}
+use Rattle.t1_many.specs.Private.Counts.{AreCounts, AreKnown, CountsReport}
+use Rattle.t1_many.specs.Readings.{IsReading, IsReadingOf, Keeps, TakesOutcome, as_known, by_known}
+use Rattle.t1_many.specs.Verdicts.{told_faults}
 use Rattle.t1_many.specs.declared.readings.Reading.{Reading}
-use Rattle.t1_many.specs.declared.recipient.Lost.{Lost}
+use Rattle.t1_many.specs.declared.policy.Lost.{Lost}
 use Rattle.t1_many.specs.declared.verdict.Verdict.{Verdict}
 use Rattle.t1_report.specs.Checked.{CheckedFont}
 use Rattle.t1_report.specs.Faults.{FaultValue}
@@ -24,7 +31,7 @@ use Rattle.t1_report.specs.Waivers.{Waiver}
 use Rattle.t1_rules.specs.Book.{number_of}
 use Rattle.t1_rules.specs.Mask.{has}
 use Rattle.t1_rules.specs.declared.mask.Mask.{Mask}
-use Rattle.t1_summary.specs.declared.found.Found.{Found}
+use Rattle.t1_summary.specs.declared.found.FontClass.{FontClass}
 
 -- ---- faults that are judged alike
 
@@ -52,72 +59,62 @@ all_by : {X : Type 0} (P Q : X → Type 0) → ((x : X) → P x → Q x) → (xs
 all_by P Q step [] all = tt
 all_by P Q step (x ∷ xs) all = (step x all.0, all_by P Q step xs all.1)
 
-all_some : {X : Type 0} (P : X → Type 0) (p : X → Bool) (xs : List X) → AllByRecursion P xs → AllByRecursion P (filter p xs)
-all_some P p [] all = tt
-all_some P p (x ∷ xs) all = elim (cases_Bool (p x)) [
-  | inl is ↦ rw is (all.0, all_some P p xs all.1)
-  | inr not_is ↦ rw not_is (all_some P p xs all.1)
-]
-
-or_true : (b : Bool) → (b || true) ≡ true
-or_true true = refl
-or_true false = refl
-
-module _ (font : FontValue) (rules : Mask) where
+module _ (font : FontValue) (waivers : List Waiver) (rules : Mask) where
   abbrev tells : FaultValue → Bool
   tells fault = has rules (number_of fault.rule)
 
-  -- a fault that is reported is among those that are
-  more_among : (fault x : FaultValue) (faults : List FaultValue) → is_among font fault (told_faults rules faults) ≡ true
-      → is_among font fault (told_faults rules (x ∷ faults)) ≡ true
+  abbrev kinds : List FaultValue → List (List ℕ)
+  kinds faults = map (kind_in font waivers) (told_faults rules faults)
+
+  -- the kind of a fault that is reported is among theirs
+  more_among : (fault x : FaultValue) (faults : List FaultValue) → is_among (kinds faults) (kind_in font waivers fault) ≡ true
+      → is_among (kinds (x ∷ faults)) (kind_in font waivers fault) ≡ true
   more_among fault x faults among = elim (cases_Bool (tells x)) [
-    | inl is ↦ rw (is, among) (or_true (nat_eq (group_of font fault) (group_of font x)))
+    | inl is ↦ rw (is, among) (or_true (bytes_eq (kind_in font waivers fault) (kind_in font waivers x)))
     | inr not_is ↦ rw not_is among
   ]
 
-  itself_among : (x : FaultValue) (faults : List FaultValue) → tells x ≡ true → is_among font x (told_faults rules (x ∷ faults)) ≡ true
-  itself_among x faults is = let self : nat_eq (group_of font x) (group_of font x) ≡ true = grind (arith, nat_tests) in rw (is, self) refl
+  itself_among : (x : FaultValue) (faults : List FaultValue) → tells x ≡ true → is_among (kinds (x ∷ faults)) (kind_in font waivers x) ≡ true
+  itself_among x faults is = let self = itself (kind_in font waivers x) in rw (is, self) refl
 
   members : (faults : List FaultValue)
-      → AllByRecursion (λ fault. tells fault ≡ true → is_among font fault (told_faults rules faults) ≡ true) faults
+      → AllByRecursion (λ fault. tells fault ≡ true → is_among (kinds faults) (kind_in font waivers fault) ≡ true) faults
   members [] = tt
   members (x ∷ faults) = (
     itself_among x faults,
-    all_by (λ fault. tells fault ≡ true → is_among font fault (told_faults rules faults) ≡ true)
-        (λ fault. tells fault ≡ true → is_among font fault (told_faults rules (x ∷ faults)) ≡ true)
+    all_by (λ fault. tells fault ≡ true → is_among (kinds faults) (kind_in font waivers fault) ≡ true)
+        (λ fault. tells fault ≡ true → is_among (kinds (x ∷ faults)) (kind_in font waivers fault) ≡ true)
         (λ fault so is. more_among fault x faults (so is)) faults (members faults),
   )
 
-  module _ (waivers : List Waiver) (read : IsRead font waivers) (name : List ℕ) (counts : List ℕ → ℕ) (known : ℕ → ℕ) (faults : List FaultValue)
-      (there : AllByRecursion (IsInFont font waivers) faults)
-      (are_known : (fault : FaultValue) → IsInFont font waivers fault → is_among font fault (told_faults rules faults) ≡ true
-      → known (group_of font fault) ≡ counts (key_in name font waivers fault)) where
+  module _ (read : IsRead font waivers) (name : List ℕ) (counts : List ℕ → ℕ) (known found : List (KindValue × ℕ)) (faults : List FaultValue)
+      (there : AllByRecursion (IsInFont font waivers) faults) (are_found : AreCounts (kinds faults) found)
+      (are_known : AreKnown counts name found known) where
     abbrev p : FaultValue → Verdict
-    p = verdict_beyond known rules font faults
+    p fault = verdict_beyond rules known found (counted_in font waivers fault)
 
     abbrev q : FaultValue → Verdict
     q = verdict_known counts rules name font waivers faults
 
     one_verdict : (fault : FaultValue) → IsInFont font waivers fault
-        → (tells fault ≡ true → is_among font fault (told_faults rules faults) ≡ true) → p fault ≡ q fault
+        → (tells fault ≡ true → is_among (kinds faults) (kind_in font waivers fault) ≡ true) → p fault ≡ q fault
     one_verdict fault in_font so = elim (cases_Bool (tells fault)) [
-      | inl is ↦ ap₂ (λ k n. verdict_of (tells fault) (nat_lt k n)) (are_known fault in_font (so is))
-          (groups_count font waivers read (told_faults rules faults) fault (all_some (IsInFont font waivers) tells faults there) in_font)
+      | inl is ↦
+          let unit = unit_in font waivers read fault in_font in
+          ap₂ (λ k n. verdict_of (tells fault) (nat_lt k n))
+          (are_known (counted_in font waivers fault) (found_is_had (kinds faults) found are_found (counted_in font waivers fault) unit (so is)))
+          (count_is_found (kinds faults) found are_found (counted_in font waivers fault) unit)
       | inr not_is ↦ rw not_is refl
     ]
 
     each : (xs : List FaultValue) → AllByRecursion (IsInFont font waivers) xs
-        → AllByRecursion (λ fault. tells fault ≡ true → is_among font fault (told_faults rules faults) ≡ true) xs
+        → AllByRecursion (λ fault. tells fault ≡ true → is_among (kinds faults) (kind_in font waivers fault) ≡ true) xs
         → AllByRecursion (λ fault. p fault ≡ q fault) xs
     each [] all so = tt
     each (x ∷ xs) all so = (one_verdict x all.0 so.0, each xs all.1 so.1)
 
     pub same_verdicts : AllByRecursion (λ fault. p fault ≡ q fault) faults
     same_verdicts = each faults there (members faults)
-
-pub all_told : (font : FontValue) (rules : Mask) (waivers : List Waiver) (faults : List FaultValue) → AllByRecursion (IsInFont font waivers) faults
-    → AllByRecursion (IsInFont font waivers) (told_faults rules faults)
-all_told font rules waivers faults there = all_some (IsInFont font waivers) (λ (fault : FaultValue). has rules (number_of fault.rule)) faults there
 
 -- ---- reports
 
@@ -127,12 +124,12 @@ module _ {F : Type 0} (takes : F → F → Handed → Option Lost → Type 0) (r
       record { name = name; outcome = reported (record { font = font.value; edition = font.edition; waivers = waivers; faults = faults }) }
 
   kept : (judges : Report → FaultValue → Verdict) (a b : F) (old new : List Reading) (reading : Reading) (font : CheckedFont)
-      (waivers : List Waiver) (faults : List FaultValue) (taken result : Result Found Lost)
+      (waivers : List Waiver) (faults : List FaultValue) (taken result : Result FontClass Lost)
       → HandsFont takes judges a b (entry font waivers faults) taken → IsReading name font.value waivers (told_faults rules faults) reading
       → Keeps old new reading taken result
       → TakesOutcome takes judges rules a b old new name (reported (record { font = font.value; edition = font.edition; waivers = waivers; faults = faults })) result
   kept judges a b old new reading font waivers faults (Ok found) (Ok other) hands is (same, keeps) = (
-    subst (λ (f : Found). HandsFont takes judges a b (entry font waivers faults) (Ok f)) (sym same) hands,
+    subst (λ (f : FontClass). HandsFont takes judges a b (entry font waivers faults) (Ok f)) (sym same) hands,
     reading,
     is,
     keeps,
@@ -145,57 +142,50 @@ module _ {F : Type 0} (takes : F → F → Handed → Option Lost → Type 0) (r
   )
 
   -- what is found becomes known
-  pub report_anew : HasNoOtherReport → (font : CheckedFont) (waivers : List Waiver) → IsRead font.value waivers → (found : ℕ → ℕ)
-      (groups : List (ℕ × ℕ)) → CountsReport rules font waivers found groups → (reading : Reading)
-      → ((faults : List FaultValue) → AllByRecursion (IsInFont font.value waivers) faults → groups ≡ groups_of font.value faults
-      → IsReading name font.value waivers faults reading)
-      → (a b : F) (taken : Result Found Lost)
+  pub report_anew : HasNoOtherReport → (font : CheckedFont) (waivers : List Waiver) (found : List (KindValue × ℕ))
+      → CountsReport rules font waivers found → (reading : Reading)
+      → ((kinds : List (List ℕ)) → text_counts found ≡ counts_of kinds → IsReadingOf reading (record { font = name; kinds = kinds }))
+      → (a b : F) (taken : Result FontClass Lost)
       → HandsReport takes (as_known rules (record { font = font.value; edition = font.edition; waivers = waivers; faults = [] })) name font waivers a b taken
-      → (old new : List Reading) (result : Result Found Lost) → Keeps old new reading taken result
+      → (old new : List Reading) (result : Result FontClass Lost) → Keeps old new reading taken result
       → (faults : List FaultValue) × IsReport font waivers faults
       × TakesOutcome takes (as_known rules) rules a b old new name
       (reported (record { font = font.value; edition = font.edition; waivers = waivers; faults = faults })) result
-  report_anew no_other font waivers read found groups (counted, is, there, count, order) reading is_reading a b taken
-      (faults, report, handed, found_is) old new result keeps =
-      let one : counted ≡ faults = no_other font waivers counted faults is report in
-      let told = all_told font.value rules waivers counted there in (
+  report_anew no_other font waivers found (counted, is, there, are) reading is_reading a b taken (faults, report, handed, found_is) old new result
+      keeps =
+      let one : counted ≡ faults = no_other font waivers counted faults is report in (
         faults,
         report,
         kept (as_known rules) a b old new reading font waivers faults taken result (handed, found_is)
-            (subst (λ (fs : List FaultValue). IsReading name font.value waivers (told_faults rules fs) reading) one
-            (is_reading (told_faults rules counted) told order)) keeps,
+            (subst (λ (fs : List FaultValue). IsReading name font.value waivers (told_faults rules fs) reading) one (is_reading _ are.texts)) keeps,
       )
 
 module _ {F : Type 0} (takes : F → F → Handed → Option Lost → Type 0) (rules : Mask) (name : List ℕ) (counts : List ℕ → ℕ) where
-  pub report_kept : HasNoOtherReport → (font : CheckedFont) (waivers : List Waiver) → IsRead font.value waivers → (found known : ℕ → ℕ)
-      (groups : List (ℕ × ℕ)) → CountsReport rules font waivers found groups
-      → ((faults : List FaultValue) → AllByRecursion (IsInFont font.value waivers) faults → groups ≡ groups_of font.value faults
-      → (fault : FaultValue) → IsInFont font.value waivers fault → is_among font.value fault faults ≡ true
-      → known (group_of font.value fault) ≡ counts (key_in name font.value waivers fault))
-      → (reading : Reading)
-      → ((faults : List FaultValue) → AllByRecursion (IsInFont font.value waivers) faults → groups ≡ groups_of font.value faults
-      → IsReading name font.value waivers faults reading)
-      → (a b : F) (taken : Result Found Lost) → HandsBeyond takes known rules name font waivers a b taken
-      → (old new : List Reading) (result : Result Found Lost) → Keeps old new reading taken result
+  -- lines go beyond what is known
+  pub report_kept : HasNoOtherReport → (font : CheckedFont) (waivers : List Waiver) → IsRead font.value waivers
+      → (found known : List (KindValue × ℕ)) → CountsReport rules font waivers found → AreKnown counts name found known → (reading : Reading)
+      → ((kinds : List (List ℕ)) → text_counts found ≡ counts_of kinds → IsReadingOf reading (record { font = name; kinds = kinds }))
+      → (a b : F) (taken : Result FontClass Lost)
+      → HandsReport takes (λ fault. verdict_beyond rules known found (counted_in font.value waivers fault)) name font waivers a b taken
+      → (old new : List Reading) (result : Result FontClass Lost) → Keeps old new reading taken result
       → (faults : List FaultValue) × IsReport font waivers faults
       × TakesOutcome takes (by_known counts rules name) rules a b old new name
       (reported (record { font = font.value; edition = font.edition; waivers = waivers; faults = faults })) result
-  report_kept no_other font waivers read found known groups (counted, is, there, count, order) are_known reading is_reading a b taken
+  report_kept no_other font waivers read found known (counted, is, there, are) are_known reading is_reading a b taken
       (faults, report, handed, found_is) old new result keeps =
       let one : faults ≡ counted = no_other font waivers faults counted report is in
-      let told = all_told font.value rules waivers counted there in
-      let same = same_verdicts font.value rules waivers read name counts known counted there (are_known (told_faults rules counted) told order) in
-      let p = verdict_beyond known rules font.value counted in
+      let same = same_verdicts font.value waivers rules read name counts known found counted there are are_known in
+      let p : FaultValue → Verdict = λ fault. verdict_beyond rules known found (counted_in font.value waivers fault) in
       let q = verdict_known counts rules name font.value waivers counted in
       let hands : HandsOn takes a b (lines_by q name font waivers counted ++ done name (found_by q counted) ∷ []) (lost_of taken) =
       subst (λ hs. HandsOn takes a b hs (lost_of taken)) (handed_alike p q name font waivers counted same)
-      (subst (λ (fs : List FaultValue). HandsOn takes a b
-      (lines_by (verdict_beyond known rules font.value fs) name font waivers fs
-      ++ done name (found_by (verdict_beyond known rules font.value fs) fs) ∷ []) (lost_of taken)) one handed) in
+      (subst (λ (fs : List FaultValue). HandsOn takes a b (lines_by p name font waivers fs ++ done name (found_by p fs) ∷ []) (lost_of taken)) one
+      handed) in
       let finds : IfOk taken (λ f. f ≡ found_by q counted) =
       subst (λ f. IfOk taken (λ t. t ≡ f)) (found_alike p q counted same)
-      (subst (λ (fs : List FaultValue). IfOk taken (λ t. t ≡ found_by (verdict_beyond known rules font.value fs) fs)) one found_is) in (
+      (subst (λ (fs : List FaultValue). IfOk taken (λ t. t ≡ found_by p fs)) one found_is) in (
         counted,
         is,
-        kept takes rules name (by_known counts rules name) a b old new reading font waivers counted taken result (hands, finds) (is_reading (told_faults rules counted) told order) keeps,
+        kept takes rules name (by_known counts rules name) a b old new reading font waivers counted taken result (hands, finds)
+            (is_reading _ are.texts) keeps,
       )

@@ -8,15 +8,15 @@ use Rattle.t1_many.specs.Files.{ChecksIn, Given, HasNoWaivers, IsFound}
 use Rattle.t1_many.specs.Outcomes.{Entry, Outcome, failed, reported}
 use Rattle.t1_many.specs.Private.Checking.{AsksWaivers, Checks, ChecksNamed, or_error}
 use Rattle.t1_many.specs.declared.font_files.WaiverFiles.{WaiverFiles}
-use Rattle.t1_many.specs.declared.recipient.Lost.{Lost}
+use Rattle.t1_many.specs.declared.policy.Lost.{Lost}
 use Rattle.t1_run.specs.declared.failure.Failure.{Failure}
 use Rattle.t1_many.specs.FontErrors.{error_of}
 use Rattle.t1_names.specs.declared.causes.Cause.{Cause}
-use Rattle.t1_summary.specs.declared.found.Found.{Found}
+use Rattle.t1_summary.specs.declared.found.FontClass.{FontClass}
 
 -- by what was done to the files, however it ended
-pub named_by : {R F : Type 0} (takes : R → R → Entry → Result Found Lost → Type 0) (calls : Calls F) (beside : WaiverFiles) (edition : Edition)
-    (name : List ℕ) (given : Given) (files files' : F) (a b : R) (result : Result (Result Found Lost) Failure)
+pub named_by : {R F : Type 0} (takes : R → R → Entry → Result FontClass Lost → Type 0) (calls : Calls F) (beside : WaiverFiles) (edition : Edition)
+    (name : List ℕ) (given : Given) (files files' : F) (a b : R) (result : Result (Result FontClass Lost) Failure)
     → ((outcome : Outcome) → IsFound edition given outcome → ChecksIn calls beside edition name files files' outcome)
     → Checks takes edition name given a b result → ChecksNamed takes calls beside edition name files files' a b (or_error result)
 named_by takes calls beside edition name given files files' a b (Ok taken) done (report, found, took) = (report, done (reported report) found, took)

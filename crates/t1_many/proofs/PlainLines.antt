@@ -7,8 +7,8 @@ use Rattle.t1_io.specs.Devices.{AppendsFront, SinkState}
 use Rattle.t1_many.specs.Handing.{Handed, done, failure, line}
 use Rattle.t1_many.specs.Laws.{PlainIsFlushed, PlainIsWritten}
 use Rattle.t1_many.specs.Plain.{Devices, IsLinePut, IsPut, IsWritten, PlainTakes, PutsFailure, tellings, text_of, texts, told_of}
-use Rattle.t1_many.specs.declared.recipient.Lost.{Lost}
-use Rattle.t1_many.specs.declared.recipient.Lost.TheVariants.{Device, Memory}
+use Rattle.t1_many.specs.declared.policy.Lost.{Lost}
+use Rattle.t1_many.specs.declared.policy.Lost.TheVariants.{Device, Memory}
 use Rattle.t1_many.specs.declared.font_error.FontError.{FontError}
 use Rattle.t1_many.specs.declared.font_error.FontError.TheVariants.{Refused, Unchecked}
 

@@ -4,8 +4,8 @@ use Rattle.std.specs.Result.{IsErrAnd}
 use Rattle.t1_io.specs.Devices.{CallFailed, PutFailed, SinkState}
 use Rattle.t1_many.specs.Handing.{lost_of}
 use Rattle.t1_many.specs.Plain.{IsFlushed, IsPut}
-use Rattle.t1_many.specs.declared.recipient.Lost.{Lost}
-use Rattle.t1_many.specs.declared.recipient.Lost.TheVariants.{Device}
+use Rattle.t1_many.specs.declared.policy.Lost.{Lost}
+use Rattle.t1_many.specs.declared.policy.Lost.TheVariants.{Device}
 
 -- the exit of a `?` at a put or a flush that failed
 pub put_failed : {T : Type 0} (result : Result T Lost) (a b : SinkState) (text : List ℕ) → IsErrAnd result (λ lost. lost ≡ Device)

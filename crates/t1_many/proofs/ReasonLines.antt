@@ -3,8 +3,8 @@ use Rattle.std.proofs.Common.{ℕ, List, ◌++◌, Option, None, Some}
 use Rattle.t1_io.proofs.SinkLemmas.{PutFailed-first, PutFailed-second, Wrote-trans}
 use Rattle.t1_io.specs.Devices.{SinkState}
 use Rattle.t1_many.specs.Plain.{IsLinePut, IsPut}
-use Rattle.t1_many.specs.declared.recipient.Lost.{Lost}
-use Rattle.t1_many.specs.declared.recipient.Lost.TheVariants.{Device, Memory}
+use Rattle.t1_many.specs.declared.policy.Lost.{Lost}
+use Rattle.t1_many.specs.declared.policy.Lost.TheVariants.{Device, Memory}
 
 module _ (a b : SinkState) (front behind : List ℕ) where
   pub half_put : (lost : Lost) → IsPut a b front (Some lost) → IsLinePut a b (front ++ behind) (Some lost)

@@ -7,11 +7,11 @@ use Rattle.std.specs.Result.{IfOk, IsErrAnd}
 use Rattle.t1_many.proofs.GivenFaults.{IsGiven, begin_with, most_given, none_given, one_given}
 use Rattle.t1_many.proofs.Handed.{handed-append, handed-one, handed-stopped}
 use Rattle.t1_many.specs.Handing.{Handed, HandsOn, found_by, found_with, is_told, line, lines_by, lost_of}
-use Rattle.t1_summary.specs.declared.found.Found.{Found}
-use Rattle.t1_summary.specs.declared.found.Found.TheVariants as founds
-use Rattle.t1_many.specs.declared.recipient.Lost.{Lost}
+use Rattle.t1_summary.specs.declared.found.FontClass.{FontClass}
+use Rattle.t1_summary.specs.declared.found.FontClass.TheVariants as founds
+use Rattle.t1_many.specs.declared.policy.Lost.{Lost}
 use Rattle.t1_many.specs.declared.verdict.Verdict.{Verdict}
-use Rattle.t1_many.specs.declared.verdict.Verdict.TheVariants.{Known, Left, Told}
+use Rattle.t1_many.specs.declared.verdict.Verdict.TheVariants.{Known, Skipped, Reported}
 use Rattle.t1_report.specs.Checked.{CheckedFont}
 use Rattle.t1_report.specs.Faults.{FaultValue}
 use Rattle.t1_report.specs.Laws.Walks.{GivenAreTheFront, NoneIsGivenAtFirst}
@@ -21,16 +21,16 @@ use Rattle.t1_report.specs.Walks.{IsNext, first_mark, mark_of}
 use Rattle.t1_report.specs.declared.marks.Mark.{Mark}
 
 -- which of two faults is seen first doesn't matter
-either_first : (a b : Verdict) (found : Found) → found_with a (found_with b found) ≡ found_with b (found_with a found)
-either_first Told Told found = refl
-either_first Told Known found = refl
-either_first Told Left found = refl
-either_first Known Told found = refl
+either_first : (a b : Verdict) (found : FontClass) → found_with a (found_with b found) ≡ found_with b (found_with a found)
+either_first Reported Reported found = refl
+either_first Reported Known found = refl
+either_first Reported Skipped found = refl
+either_first Known Reported found = refl
 either_first Known Known found = refl
-either_first Known Left found = refl
-either_first Left Told found = refl
-either_first Left Known found = refl
-either_first Left Left found = refl
+either_first Known Skipped found = refl
+either_first Skipped Reported found = refl
+either_first Skipped Known found = refl
+either_first Skipped Skipped found = refl
 
 -- a result that is an error says nothing of what is fine
 pub no_ok : {T E : Type 0} (r : Result T E) (P : E → Type 0) (Q : T → Type 0) → IsErrAnd r P → IfOk r Q
@@ -70,7 +70,7 @@ module _ (judges : FaultValue → Verdict) where
         ∙ ap (λ t. lines xs ++ map (line name font waivers) (cond t (fault ∷ []) [])) is
 
     -- So many faults were returned, and of those that are reported the lines were handed on.
-    pub record HaveGone {F : Type 0} (takes : F → F → Handed → Option Lost → Type 0) (count : ℕ) (mark : Mark) (old new : F) (found : Found)
+    pub record HaveGone {F : Type 0} (takes : F → F → Handed → Option Lost → Type 0) (count : ℕ) (mark : Mark) (old new : F) (found : FontClass)
         : Type 0 where
       pub given : List FaultValue
       pub is : IsGiven font waivers given count mark
@@ -82,7 +82,7 @@ module _ (judges : FaultValue → Verdict) where
       none_gone mark form first =
           record { given = []; is = none_given font waivers mark first; handed = (refl, refl); found_is = refl }
 
-      module _ (count : ℕ) (mark : Mark) (a b : F) (found : Found) (gone : HaveGone takes count mark a b found) (fault : FaultValue)
+      module _ (count : ℕ) (mark : Mark) (a b : F) (found : FontClass) (gone : HaveGone takes count mark a b found) (fault : FaultValue)
           (next : IsNext font waivers mark fault) where
         found_more : found_with (judges fault) found ≡ found_by judges (gone.given ++ fault ∷ [])
         found_more = ap (found_with (judges fault)) gone.found_is ∙ sym (found-push gone.given fault)
@@ -108,7 +108,7 @@ module _ (judges : FaultValue → Verdict) where
           found_is = found_more;
         }
 
-      module _ (count : ℕ) (mark : Mark) (a b : F) (found : Found) (gone : HaveGone takes count mark a b found)
+      module _ (count : ℕ) (mark : Mark) (a b : F) (found : FontClass) (gone : HaveGone takes count mark a b found)
           (starts : NoneIsGivenAtFirst) (fronts : GivenAreTheFront) (few : length font.value.glyphs ≤ 65535)
           (few_waivers : length waivers ≤ 1048576) (faults : List FaultValue) (report : IsReport font waivers faults) where
         -- it stopped in the line of a fault

@@ -11,8 +11,8 @@ use Rattle.t1_many.specs.Outcomes.{Entry, Report}
 use Rattle.t1_many.specs.Told.{TellsAll, all_handed, founds_of}
 use Rattle.t1_many.specs.Told.TellsAll.{cut_short, whole}
 use Rattle.t1_many.specs.Verdicts.{of_rules}
-use Rattle.t1_summary.specs.declared.found.Found.{Found}
-use Rattle.t1_many.specs.declared.recipient.Lost.{Lost}
+use Rattle.t1_summary.specs.declared.found.FontClass.{FontClass}
+use Rattle.t1_many.specs.declared.policy.Lost.{Lost}
 use Rattle.t1_many.specs.declared.verdict.Verdict.{Verdict}
 use Rattle.t1_report.specs.Faults.{FaultValue}
 use Rattle.t1_rules.specs.declared.mask.Mask.{Mask}
@@ -20,16 +20,16 @@ use Rattle.t1_run.specs.declared.status.Status.{Status}
 
 module _ {T F : Type 0} (takes : F → F → Handed → Option Lost → Type 0) (rules : T → Mask) (form : T → F) where
   -- A font is taken by rules that stay.
-  abbrev Takes : T → T → Entry → Result Found Lost → Type 0
+  abbrev Takes : T → T → Entry → Result FontClass Lost → Type 0
   Takes old new entry taken = (rules new ≡ rules old) × HandsFont takes (of_rules (rules old)) (form old) (form new) entry taken
 
   -- Fonts that were taken.
-  record HaveTold (old new : T) (entries : List Entry) (founds : List Found) : Type 0 where
+  record HaveTold (old new : T) (entries : List Entry) (founds : List FontClass) : Type 0 where
     pub rules_are : rules new ≡ rules old
     pub handed : HandsOn takes (form old) (form new) (all_handed (λ name. of_rules (rules old)) entries) None
     pub founds_are : founds ≡ founds_of (λ name. of_rules (rules old)) entries
 
-  told : (old new : T) (entries : List Entry) (founds : List Found) → AreTaken Takes old new entries founds → HaveTold old new entries founds
+  told : (old new : T) (entries : List Entry) (founds : List FontClass) → AreTaken Takes old new entries founds → HaveTold old new entries founds
   told old new [] founds (same, none) = record {
     rules_are = ap rules same;
     handed = (ap form same, refl);
@@ -41,7 +41,7 @@ module _ {T F : Type 0} (takes : F → F → Handed → Option Lost → Type 0) 
         rules_are = more.rules_are ∙ kept;
         handed = handed-append takes (form old) (form next) (form new) (handed_of (of_rules (rules old)) entry.name entry.outcome) _ None hands
             (subst (λ (r : Mask). HandsOn takes (form next) (form new) (all_handed (λ name. of_rules r) entries) None) kept more.handed);
-        founds_are = are ∙ ap₂ (λ f (fs : List Found). f ∷ fs) is
+        founds_are = are ∙ ap₂ (λ f (fs : List FontClass). f ∷ fs) is
             (more.founds_are ∙ ap (λ (r : Mask). founds_of (λ name. of_rules r) entries) kept);
       }
 

@@ -1,10 +1,10 @@
 -- What is handed on of many fonts, and in which order.
 use Rattle.std.specs.Prelude.{◌≡◌, ◌⊎◌, ℕ, List, [], ◌∷◌, ◌++◌, filter, map, Bool, true, false, Option, None, Some, Result, Ok, Err, IfOk}
 use Rattle.t1_many.specs.Outcomes.{Entry, Outcome, Report, failed, found_of_error, reported}
-use Rattle.t1_summary.specs.declared.found.Found.{Found}
-use Rattle.t1_summary.specs.declared.found.Found.TheVariants.{Clean, Faulty, Known, Refused, Unchecked}
+use Rattle.t1_summary.specs.declared.found.FontClass.{FontClass}
+use Rattle.t1_summary.specs.declared.found.FontClass.TheVariants.{Clean, Faulty, Known, Refused, Unchecked}
 use Rattle.t1_many.specs.declared.font_error.FontError.{FontError}
-use Rattle.t1_many.specs.declared.recipient.Lost.{Lost}
+use Rattle.t1_many.specs.declared.policy.Lost.{Lost}
 use Rattle.t1_many.specs.declared.verdict.Verdict.{Verdict}
 use Rattle.t1_many.specs.declared.verdict.Verdict.TheVariants as verdicts
 use Rattle.t1_report.specs.Checked.{CheckedFont, checked}
@@ -17,7 +17,7 @@ use Rattle.t1_report.specs.Waivers.{Waiver}
 pub data Handed : Type 0 where
   line : (name : List ℕ) → CheckedFont → List Waiver → FaultValue → Handed
   failure : (name : List ℕ) → FontError → Handed
-  done : (name : List ℕ) → Found → Handed
+  done : (name : List ℕ) → FontClass → Handed
 
 -- Why it stopped, if it did.
 abbrev pub lost_of : {T : Type 0} → Result T Lost → Option Lost
@@ -35,22 +35,22 @@ HandsOn {F} takes old new (handed ∷ more) lost =
 
 -- The line of a fault is handed on.
 abbrev pub is_told : Verdict → Bool
-is_told verdicts.Told = true
+is_told verdicts.Reported = true
 is_told verdicts.Known = false
-is_told verdicts.Left = false
+is_told verdicts.Skipped = false
 
 -- How a font is found that has one fault more.
-abbrev pub found_with : Verdict → Found → Found
-found_with verdicts.Told found = Faulty
+abbrev pub found_with : Verdict → FontClass → FontClass
+found_with verdicts.Reported found = Faulty
 found_with verdicts.Known Clean = Known
 found_with verdicts.Known Known = Known
 found_with verdicts.Known Faulty = Faulty
 found_with verdicts.Known Refused = Refused
 found_with verdicts.Known Unchecked = Unchecked
-found_with verdicts.Left found = found
+found_with verdicts.Skipped found = found
 
 -- How a font with these faults is found: faulty where a line is handed on, else known where there is a known fault.
-abbrev pub found_by : (FaultValue → Verdict) → List FaultValue → Found
+abbrev pub found_by : (FaultValue → Verdict) → List FaultValue → FontClass
 found_by judges [] = Clean
 found_by judges (fault ∷ faults) = found_with (judges fault) (found_by judges faults)
 
@@ -64,27 +64,27 @@ handed_of judges name (reported report) =
     lines_by (judges report) name (checked report.font report.edition) report.waivers report.faults ++ done name (found_by (judges report) report.faults) ∷ []
 handed_of judges name (failed reason) = failure name reason ∷ done name (found_of_error reason) ∷ []
 
-abbrev pub found_of : (Report → FaultValue → Verdict) → Outcome → Found
+abbrev pub found_of : (Report → FaultValue → Verdict) → Outcome → FontClass
 found_of judges (reported report) = found_by (judges report) report.faults
 found_of judges (failed reason) = found_of_error reason
 
 -- All of a font was handed on, and it was found so; or it stopped there.
 abbrev pub HandsFont : {F : Type 0} → (F → F → Handed → Option Lost → Type 0) → (Report → FaultValue → Verdict) → F → F → Entry
-    → Result Found Lost → Type 0
+    → Result FontClass Lost → Type 0
 HandsFont takes judges old new entry taken =
     HandsOn takes old new (handed_of judges entry.name entry.outcome) (lost_of taken)
     × IfOk taken (λ found. found ≡ found_of judges entry.outcome)
 
 -- The lines of a report that aren't omitted were handed on, and then how the font was found; or it stopped there.
 abbrev pub HandsReport : {F : Type 0} → (F → F → Handed → Option Lost → Type 0) → (FaultValue → Verdict) → List ℕ → CheckedFont → List Waiver
-    → F → F → Result Found Lost → Type 0
+    → F → F → Result FontClass Lost → Type 0
 HandsReport takes judges name font waivers old new taken =
     (faults : List FaultValue) × IsReport font waivers faults
     × HandsOn takes old new (lines_by judges name font waivers faults ++ done name (found_by judges faults) ∷ []) (lost_of taken)
     × IfOk taken (λ found. found ≡ found_by judges faults)
 
 -- Why there is no report was handed on, and then how the font was found; or it stopped there.
-abbrev pub HandsFailure : {F : Type 0} → (F → F → Handed → Option Lost → Type 0) → List ℕ → FontError → F → F → Result Found Lost → Type 0
+abbrev pub HandsFailure : {F : Type 0} → (F → F → Handed → Option Lost → Type 0) → List ℕ → FontError → F → F → Result FontClass Lost → Type 0
 HandsFailure takes name reason old new taken =
     HandsOn takes old new (failure name reason ∷ done name (found_of_error reason) ∷ []) (lost_of taken)
     × IfOk taken (λ found. found ≡ found_of_error reason)

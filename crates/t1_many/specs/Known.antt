@@ -4,8 +4,8 @@ use Rattle.std.specs.List.{concat}
 use Rattle.t1_font.specs.Fonts.{FontValue}
 use Rattle.t1_lines.specs.Lines.{line_in}
 use Rattle.t1_many.specs.Beyond.{verdict_of}
-use Rattle.t1_many.specs.Groups.{told_faults}
 use Rattle.t1_many.specs.KnownFaults.{found_count, kind_of}
+use Rattle.t1_many.specs.Verdicts.{told_faults}
 use Rattle.t1_many.specs.declared.verdict.Verdict.{Verdict}
 use Rattle.t1_report.specs.Faults.{FaultValue}
 use Rattle.t1_report.specs.Waivers.{Waiver}

@@ -6,23 +6,19 @@ use Rattle.std.specs.Option.{is_some}
 use Rattle.std.specs.Str.{bytes_eq}
 use Rattle.std.specs.Str.Parse.{digits_value}
 use Rattle.t1_scan.specs.Bytes.{is_decimal_digit}
-use Rattle.t1_lines.specs.Lines.{FaultLineValue, PlaceValue, at_key, at_step, at_waiver}
-use Rattle.t1_rules.specs.Book.{code_of}
-use Rattle.t1_rules.specs.Keys.{key_text_of}
+use Rattle.t1_lines.specs.Lines.{FaultLineValue, PlaceValue}
 use Rattle.t1_rules.specs.declared.rule.Rule.{Rule}
 use Rattle.t1_many.specs.Choice.{Choice, is_told}
+use Rattle.t1_many.specs.Kinds.{counted_by, kind_text, unit_of}
 
 -- ---- kinds
 
--- The kind of a fault: its rule and the unit in which it is, `RULE font KEY`, `RULE glyph NAME` or
--- `RULE waiver NAME RULE`.
+-- The kind of a fault, by its rule and its place: `RULE font KEY`, `RULE glyph NAME` or `RULE waiver NAME RULE`.
 abbrev pub kind_at : Rule → PlaceValue → List ℕ
-kind_at rule (at_key key index) = concat (code_of rule ∷ codes " font " ∷ key_text_of key ∷ [])
-kind_at rule (at_step name path step) = concat (code_of rule ∷ codes " glyph " ∷ name ∷ [])
-kind_at rule (at_waiver name waived) = concat (code_of rule ∷ codes " waiver " ∷ name ∷ codes " " ∷ code_of waived ∷ [])
+kind_at rule place = kind_text (record { rule = rule; unit = unit_of place })
 
 abbrev pub kind_of : FaultLineValue → List ℕ
-kind_of l = kind_at l.rule l.place
+kind_of l = kind_text (counted_by l)
 
 -- A kind begins with the code of its rule.
 abbrev pub rule_of : List ℕ → List ℕ

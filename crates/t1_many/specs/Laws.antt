@@ -13,8 +13,8 @@ use Rattle.t1_many.specs.Plain.{Devices, IsWritten, PlainTakes, tellings, texts}
 use Rattle.t1_many.specs.Ends.{status_of_all}
 use Rattle.t1_many.specs.Told.{all_handed}
 use Rattle.t1_many.specs.declared.verdict.Verdict.{Verdict}
-use Rattle.t1_summary.specs.declared.found.Found.{Found}
-use Rattle.t1_many.specs.declared.recipient.Lost.{Lost}
+use Rattle.t1_summary.specs.declared.found.FontClass.{FontClass}
+use Rattle.t1_many.specs.declared.policy.Lost.{Lost}
 use Rattle.t1_many.specs.Outcomes.{Entry, Report}
 use Rattle.t1_many.specs.Choice.{Choice, is_told, letters_of, picks}
 use Rattle.t1_many.specs.KnownFaults.{IsKind, IsRow, Reading, RowValue, beyond, kind_of, kinds_in, row_text, rule_of, mismatch, updated}
@@ -48,7 +48,7 @@ PlainIsWritten =
 -- After the last font nothing waits to be flushed.
 abbrev pub PlainIsFlushed : Type 0
 PlainIsFlushed =
-    (reasons : Bool) (old new : Devices) (handed : List Handed) (name : List ℕ) (found : Found)
+    (reasons : Bool) (old new : Devices) (handed : List Handed) (name : List ℕ) (found : FontClass)
     → HandsOn (PlainTakes reasons) old new (handed ++ done name found ∷ []) None → new.out.flushed ≡ true
 
 -- No text is that of two rows.
@@ -75,7 +75,7 @@ PartsAreWritten =
 -- The status of all fonts is the greatest of the parts'.
 abbrev pub PartsHaveTheStatus : Type 0
 PartsHaveTheStatus =
-    (founds_of : ℕ → List Found) (parts : ℕ)
+    (founds_of : ℕ → List FontClass) (parts : ℕ)
     → status_of_all (joined founds_of parts) ≡ worst_of (of_parts (λ part. status_of_all (founds_of part)) parts)
 
 -- The kinds that were found are of rules that are reported, and they are fewer than a number of 64 bits counts.

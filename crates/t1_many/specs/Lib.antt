@@ -2,12 +2,13 @@ pub mod Beyond
 pub mod Calls
 pub mod Choice
 pub mod Counting
+pub mod Counts
 pub mod Ends
 pub mod Files
 pub mod FontErrors
 pub mod FontFiles
-pub mod Groups
 pub mod Handing
+pub mod Kinds
 pub mod Known
 pub mod KnownFaults
 pub mod Laws

@@ -4,11 +4,11 @@ use Rattle.t1_char.specs.declared.edition.Edition.{Edition}
 use Rattle.t1_font.specs.Bounds.{most_glyphs}
 use Rattle.t1_font.specs.FontFiles.{font_in}
 use Rattle.t1_font.specs.Fonts.{FontValue}
-use Rattle.t1_summary.specs.declared.found.Found.{Found}
-use Rattle.t1_summary.specs.declared.found.Found.TheVariants as founds
+use Rattle.t1_summary.specs.declared.found.FontClass.{FontClass}
+use Rattle.t1_summary.specs.declared.found.FontClass.TheVariants as founds
 use Rattle.t1_many.specs.declared.font_error.FontError.{FontError}
 use Rattle.t1_many.specs.declared.font_error.FontError.TheVariants.{Refused, Unchecked}
-use Rattle.t1_many.specs.declared.recipient.Lost.{Lost}
+use Rattle.t1_many.specs.declared.policy.Lost.{Lost}
 use Rattle.t1_report.specs.Checked.{CheckedFont}
 use Rattle.t1_report.specs.Faults.{FaultValue}
 use Rattle.t1_report.specs.Reports.{IsReport}
@@ -43,7 +43,7 @@ pub record Entry : Type 0 where
   pub outcome : Outcome
 
 -- The status of a run over a font that was found so.
-abbrev pub status_of_found : Found → Status
+abbrev pub status_of_found : FontClass → Status
 status_of_found founds.Clean = statuses.Clean
 status_of_found founds.Known = statuses.Clean
 status_of_found founds.Faulty = statuses.Faults
@@ -51,13 +51,13 @@ status_of_found founds.Refused = statuses.Refused
 status_of_found founds.Unchecked = statuses.Failed
 
 -- How a font was found of which there is no report.
-abbrev pub found_of_error : FontError → Found
+abbrev pub found_of_error : FontError → FontClass
 found_of_error (Refused code) = founds.Refused
 found_of_error (Unchecked why) = founds.Unchecked
 
 -- The report of a font with these waivers was taken; or memory ran out, and nothing was done.
-abbrev pub TakesReport : {R E : Type 0} → (R → R → Entry → Result Found Lost → Type 0) → List ℕ → CheckedFont → List Waiver → R → R
-    → Result (Result Found Lost) E → Type 0
+abbrev pub TakesReport : {R E : Type 0} → (R → R → Entry → Result FontClass Lost → Type 0) → List ℕ → CheckedFont → List Waiver → R → R
+    → Result (Result FontClass Lost) E → Type 0
 TakesReport takes name font waivers old new (Ok taken) =
     (faults : List FaultValue) × IsReport font waivers faults
     × takes old new

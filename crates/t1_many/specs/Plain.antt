@@ -4,8 +4,8 @@ use Rattle.std.specs.Io.KnownBytes.{Appends}
 use Rattle.std.specs.List.{concat, flat_map}
 use Rattle.t1_io.specs.Devices.{AppendsFront, CallFailed, Flushed, PutFailed, SinkState, Wrote}
 use Rattle.t1_many.specs.Handing.{Handed, done, failure, line}
-use Rattle.t1_many.specs.declared.recipient.Lost.{Lost}
-use Rattle.t1_many.specs.declared.recipient.Lost.TheVariants.{Device, Memory}
+use Rattle.t1_many.specs.declared.policy.Lost.{Lost}
+use Rattle.t1_many.specs.declared.policy.Lost.TheVariants.{Device, Memory}
 use Rattle.t1_many.specs.Reasons.{told_text}
 use Rattle.t1_reason_texts.specs.Texts.{line_behind}
 use Rattle.t1_report.specs.Checked.{CheckedFont}

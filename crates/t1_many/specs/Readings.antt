@@ -3,22 +3,22 @@ use Rattle.std.specs.Global.{Global}
 use Rattle.std.specs.Prelude.{◌≡◌, ◌⊎◌, ℕ, List, [], ◌∷◌, ◌++◌, if◌then◌else◌, map, Option, None, Result, Ok, Err, string_bytes}
 use Rattle.std.specs.declared.vec.Vec.{Vec}
 use Rattle.t1_font.specs.Fonts.{FontValue}
-use Rattle.t1_many.specs.Groups.{told_faults}
 use Rattle.t1_many.specs.Handing.{Handed, HandsFont, HandsOn, handed_of}
 use Rattle.t1_many.specs.Known.{kind_in, verdict_known}
 use Rattle.t1_many.specs.KnownFaults.{Reading as FoundIn, counts_of}
 use Rattle.t1_many.specs.Outcomes.{Entry, Outcome, Report, failed, reported}
+use Rattle.t1_many.specs.Verdicts.{told_faults}
 use Rattle.t1_many.specs.declared.readings.Reading.{Reading}
-use Rattle.t1_many.specs.declared.recipient.Lost.{Lost}
-use Rattle.t1_many.specs.declared.recipient.Lost.TheVariants.{Memory}
+use Rattle.t1_many.specs.declared.policy.Lost.{Lost}
+use Rattle.t1_many.specs.declared.policy.Lost.TheVariants.{Memory}
 use Rattle.t1_many.specs.declared.verdict.Verdict.{Verdict}
-use Rattle.t1_many.specs.declared.verdict.Verdict.TheVariants.{Known, Left}
+use Rattle.t1_many.specs.declared.verdict.Verdict.TheVariants.{Known, Skipped}
 use Rattle.t1_report.specs.Faults.{FaultValue}
 use Rattle.t1_report.specs.Waivers.{Waiver}
 use Rattle.t1_rules.specs.Book.{number_of}
 use Rattle.t1_rules.specs.Mask.{has}
 use Rattle.t1_rules.specs.declared.mask.Mask.{Mask}
-use Rattle.t1_summary.specs.declared.found.Found.{Found}
+use Rattle.t1_summary.specs.declared.found.FontClass.{FontClass}
 
 -- The faults of a report are judged by what is known of its font.
 abbrev pub by_known : (List ℕ → ℕ) → Mask → List ℕ → Report → FaultValue → Verdict
@@ -26,7 +26,7 @@ by_known counts rules name report = verdict_known counts rules name report.font 
 
 -- Those whose rules are reported become known.
 abbrev pub as_known : Mask → Report → FaultValue → Verdict
-as_known rules report fault = if has rules (number_of fault.rule) then Known else Left
+as_known rules report fault = if has rules (number_of fault.rule) then Known else Skipped
 
 -- How often each kind was found, as the program keeps it.
 abbrev pub counts_in : List (Vec ℕ Global × ℕ) → List (List ℕ × ℕ)
@@ -42,7 +42,7 @@ abbrev pub IsReading : List ℕ → FontValue → List Waiver → List FaultValu
 IsReading name font waivers faults reading = IsReadingOf reading (record { font = name; kinds = map (kind_in font waivers) faults })
 
 -- What was found is kept, unless it stopped before, or memory ran out.
-abbrev pub Keeps : List Reading → List Reading → Reading → Result Found Lost → Result Found Lost → Type 0
+abbrev pub Keeps : List Reading → List Reading → Reading → Result FontClass Lost → Result FontClass Lost → Type 0
 Keeps old new reading (Ok found) (Ok kept) = (kept ≡ found) × (new ≡ old ++ reading ∷ [])
 Keeps old new reading (Ok found) (Err lost) = (lost ≡ Memory) × (new ≡ old)
 Keeps old new reading (Err before) (Ok kept) = ⊥
@@ -50,7 +50,7 @@ Keeps old new reading (Err before) (Err lost) = (lost ≡ before) × (new ≡ ol
 
 -- A font is taken: what is reported of it is handed on, and what was found in it is kept where its report was made.
 abbrev pub TakesOutcome : {F : Type 0} → (F → F → Handed → Option Lost → Type 0) → (Report → FaultValue → Verdict) → Mask → F → F
-    → List Reading → List Reading → List ℕ → Outcome → Result Found Lost → Type 0
+    → List Reading → List Reading → List ℕ → Outcome → Result FontClass Lost → Type 0
 TakesOutcome takes judges rules form form' old new name (reported report) (Ok found) =
     HandsFont takes judges form form' (record { name = name; outcome = reported report }) (Ok found)
     × (reading : Reading) × IsReading name report.font report.waivers (told_faults rules report.faults) reading × (new ≡ old ++ reading ∷ [])
@@ -62,5 +62,5 @@ TakesOutcome takes judges rules form form' old new name (failed reason) taken =
     HandsFont takes judges form form' (record { name = name; outcome = failed reason }) taken × (new ≡ old)
 
 abbrev pub TakesKnown : {F : Type 0} → (F → F → Handed → Option Lost → Type 0) → (Report → FaultValue → Verdict) → Mask → F → F
-    → List Reading → List Reading → Entry → Result Found Lost → Type 0
+    → List Reading → List Reading → Entry → Result FontClass Lost → Type 0
 TakesKnown takes judges rules form form' old new entry taken = TakesOutcome takes judges rules form form' old new entry.name entry.outcome taken

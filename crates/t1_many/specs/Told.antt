@@ -6,8 +6,8 @@ use Rattle.t1_many.specs.Ends.{AreEntries, status_of_all}
 use Rattle.t1_many.specs.Files.{Files}
 use Rattle.t1_many.specs.Handing.{Handed, HandsOn, found_of, handed_of}
 use Rattle.t1_many.specs.Outcomes.{Entry, Report}
-use Rattle.t1_summary.specs.declared.found.Found.{Found}
-use Rattle.t1_many.specs.declared.recipient.Lost.{Lost}
+use Rattle.t1_summary.specs.declared.found.FontClass.{FontClass}
+use Rattle.t1_many.specs.declared.policy.Lost.{Lost}
 use Rattle.t1_many.specs.declared.verdict.Verdict.{Verdict}
 use Rattle.t1_report.specs.Faults.{FaultValue}
 use Rattle.t1_run.specs.declared.status.Status.{Status}
@@ -16,7 +16,7 @@ use Rattle.t1_run.specs.declared.status.Status.{Status}
 abbrev pub all_handed : (List ℕ → Report → FaultValue → Verdict) → List Entry → List Handed
 all_handed judges entries = flat_map (λ entry. handed_of (judges entry.name) entry.name entry.outcome) entries
 
-abbrev pub founds_of : (List ℕ → Report → FaultValue → Verdict) → List Entry → List Found
+abbrev pub founds_of : (List ℕ → Report → FaultValue → Verdict) → List Entry → List FontClass
 founds_of judges entries = map (λ entry. found_of (judges entry.name) entry.outcome) entries
 
 -- All of all fonts was handed on, and the status is the greatest of theirs; or it stopped at one of them.

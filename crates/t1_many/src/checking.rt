@@ -11,7 +11,7 @@ use crate::font_error::{FontError, Obstacle};
 use crate::font_files::{FontFiles, WaiverFiles};
 use crate::found::status_of;
 use crate::one_font::check_opened;
-use crate::recipient::{Lost, Recipient, Taken};
+use crate::policy::{Lost, Policy, Taken};
 use crate::status::worse;
 use crate::unchecked::has_line_end;
 use std::alloc::Global;
@@ -23,7 +23,7 @@ use t1_run::{Failure, Status};
 
 /// Checks the fonts of these names in order, with their waivers where these are read and a font has some. The recipient takes how each check
 /// ended. A font that can't be read stops no other one. The status is the greatest of the fonts'.
-pub fn check_all<F: FontFiles, T: Recipient>(
+pub fn check_all<F: FontFiles, T: Policy>(
     alloc: Global,
     names: &[String],
     beside: WaiverFiles,
@@ -43,7 +43,7 @@ pub fn check_all<F: FontFiles, T: Recipient>(
 }
 
 /// Checks the font of a name, and hands on how the check ended.
-fn check_one<F: FontFiles, T: Recipient>(
+fn check_one<F: FontFiles, T: Policy>(
     alloc: Global,
     name: &str,
     beside: WaiverFiles,
@@ -60,7 +60,7 @@ fn check_one<F: FontFiles, T: Recipient>(
 }
 
 /// Opens the font of a name and its waivers, both before any is read, checks it, and leaves both. A font whose name has a line end isn't opened.
-fn check_named<F: FontFiles, T: Recipient>(
+fn check_named<F: FontFiles, T: Policy>(
     alloc: Global,
     name: &str,
     beside: WaiverFiles,

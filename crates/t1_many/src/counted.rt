@@ -1,28 +1,28 @@
-//! A form that counts what it hands on.
+//! What counts the lines and the fonts that are printed.
 
 ghost use Rattle.std.specs.Prelude.{◌≡◌, List, Option};
 ghost use Rattle.t1_many.specs.Counting.{Counts};
 ghost use Rattle.t1_many.specs.Handing.{Handed};
 
 use crate::font_error::FontError;
-use crate::form::Form;
-use crate::recipient::Lost;
+use crate::policy::Lost;
+use crate::printer::Printer;
 use t1_font::Font;
 use t1_reasons::ReportReasons;
 use t1_report::{Fault, Waivers};
-use t1_summary::{Found, Tally};
+use t1_summary::{FontClass, Tally};
 
-/// Hands on to a form, and counts the lines that it took, by their rules, and the fonts, by how they were found.
+/// Hands on to a printer, and counts the lines that it took, by their rules, and the fonts, by how they were found.
 #[derive(Drop)]
-pub struct Counted<F: Form> {
+pub struct Counted<F: Printer> {
     /// What was counted.
     pub tally: Tally,
     /// The form that takes what is handed on.
     pub form: F,
 }
 
-impl<F: Form> Form for Counted<F> {
-    ghost use Rattle.t1_many.specs.declared.recipient.Lost.{Lost};
+impl<F: Printer> Printer for Counted<F> {
+    ghost use Rattle.t1_many.specs.declared.policy.Lost.{Lost};
 
     ghost takes = { λ old new handed lost. F.takes old.form new.form handed lost × Counts old.tally new.tally handed lost };
 
@@ -43,7 +43,7 @@ impl<F: Form> Form for Counted<F> {
         self.form.failure(name, reason)
     }
 
-    fn done(&mut self, name: &str, found: Found) -> Result<(), Lost> {
+    fn done(&mut self, name: &str, found: FontClass) -> Result<(), Lost> {
         self.form.done(name, found)?;
         self.tally.add(found);
         Ok(())

@@ -9,9 +9,9 @@ ghost use Rattle.t1_report.specs.Waivers.{largest_waivers};
 ghost use Rattle.t1_rules.specs.Components.{AreOf};
 
 use crate::font_error::FontError;
-use crate::form::Form;
 use crate::found::found_of;
-use crate::recipient::Taken;
+use crate::policy::Taken;
+use crate::printer::Printer;
 use crate::verdict::Judge;
 use t1_font::Font;
 use t1_reasons::ReportReasons;
@@ -20,10 +20,10 @@ use t1_report::{
     marks_count_the_faults_given,
 };
 use t1_rules::Sidebearings;
-use t1_summary::Found;
+use t1_summary::FontClass;
 
 /// Hands on the lines of a font's report that aren't omitted, and then how the font was found.
-pub fn hand_report<'a, F: Form, J: Judge>(
+pub fn hand_report<'a, F: Printer, J: Judge>(
     form: &mut F,
     name: &str,
     font: &'a Font<'a>,
@@ -34,7 +34,7 @@ pub fn hand_report<'a, F: Form, J: Judge>(
     requires few { length font.now.glyphs ≤ most_glyphs }
     requires few_waivers { length waivers.now ≤ largest_waivers }
     requires sidebearings { AreOf font.now sidebearings.now }
-    ensures { HandsReport F.takes (J.judges judge.now font.now) name.now (checked font.now sidebearings.now.edition) waivers.now
+    ensures { HandsReport F.takes (J.judges judge.now font.now waivers.now) name.now (checked font.now sidebearings.now.edition) waivers.now
         form.old form.new result }
 {
     let found = hand_lines(form, name, font, sidebearings, waivers, judge)?;
@@ -43,7 +43,7 @@ pub fn hand_report<'a, F: Form, J: Judge>(
 }
 
 /// Hands on the lines of a font's report that aren't omitted.
-fn hand_lines<'a, F: Form, J: Judge>(
+fn hand_lines<'a, F: Printer, J: Judge>(
     form: &mut F,
     name: &str,
     font: &'a Font<'a>,
@@ -54,7 +54,7 @@ fn hand_lines<'a, F: Form, J: Judge>(
     requires few { length font.now.glyphs ≤ most_glyphs }
     requires few_waivers { length waivers.now ≤ largest_waivers }
     requires sidebearings { AreOf font.now sidebearings.now }
-    ensures { HandsLines F.takes (J.judges judge.now font.now) name.now (checked font.now sidebearings.now.edition) waivers.now
+    ensures { HandsLines F.takes (J.judges judge.now font.now waivers.now) name.now (checked font.now sidebearings.now.edition) waivers.now
         form.old form.new result }
 {
     // The calls of laws do nothing: the proof cites what they ensure.
@@ -63,12 +63,12 @@ fn hand_lines<'a, F: Form, J: Judge>(
     marks_count_the_faults_given();
     let mut walk = Walk::begin(font, sidebearings, waivers);
     let mut reasons = ReportReasons::new(font, sidebearings);
-    let mut found = Found::Clean;
+    let mut found = FontClass::Clean;
     for _fault in 0..u64::MAX {
         let Some(fault) = walk.next() else {
             break;
         };
-        let verdict = judge.judge(font, &fault);
+        let verdict = judge.judge(font, waivers, &fault);
         if verdict.is_told() {
             form.line(name, font, waivers, &fault, &mut reasons)?;
         }
@@ -78,7 +78,7 @@ fn hand_lines<'a, F: Form, J: Judge>(
 }
 
 /// Hands on why there is no report of a font.
-pub fn hand_failure<F: Form>(form: &mut F, name: &str, reason: FontError) -> Taken
+pub fn hand_failure<F: Printer>(form: &mut F, name: &str, reason: FontError) -> Taken
     ensures { HandsFailure F.takes name.now reason form.old form.new result }
 {
     form.failure(name, reason)?;

@@ -1,87 +1,76 @@
-//! How often each kind of a font's faults was found.
+//! What faults are counted by, and its text.
 
-ghost use Rattle.std.specs.Prelude.{◌≡◌, ◌≤◌, ◌-◌, [], ◌∷◌, ◌++◌, codes, IfOk, OnOk, List, Some, length, map, slice_get};
-ghost use Rattle.std.specs.List.{AllByRecursion, concat};
-ghost use Rattle.t1_lines.specs.Lines.{line_in};
-ghost use Rattle.t1_many.specs.Groups.{group_of, groups_of};
-ghost use Rattle.t1_many.specs.Known.{kind_in};
-ghost use Rattle.t1_many.specs.KnownFaults.{counts_of, kind_of};
-ghost use Rattle.t1_many.specs.Outcomes.{IsRead};
-ghost use Rattle.t1_many.specs.Readings.{counts_in};
-ghost use Rattle.t1_report.specs.Faults.{FaultValue};
+ghost use Rattle.std.specs.Prelude.{◌≡◌, [], ◌∷◌, ◌++◌, codes, OnOk};
+ghost use Rattle.std.specs.List.{concat};
+ghost use Rattle.t1_many.specs.Kinds.{counted_in, kind_text, kind_value, unit_text, unit_value};
+ghost use Rattle.t1_report.specs.Faults.{fault_value};
 ghost use Rattle.t1_report.specs.Lines.{IsInFont};
-ghost use Rattle.t1_report.specs.Waivers.{Waiver, largest_waivers};
 ghost use Rattle.t1_rules.specs.Book.{code_of};
 
-use crate::groups::Groups;
-use indexmap::IndexMap;
-use std::alloc::{AllocError, Global};
+use std::alloc::AllocError;
 use t1_font::Font;
-use t1_report::Waivers;
+use t1_lines::{Place, place_of};
+use t1_report::{Fault, Waivers};
 use t1_rules::{Rule, key_text, rule_code};
 
-/// How often faults of each kind were found in a font, in the order of their first faults. A kind is as rows of known
-/// faults name it: `H02 glyph A`, `Z04 font BlueValues`, `U01 waiver A P01`.
-pub type Counts = IndexMap<Vec<u8>, u64>;
-
-/// How often the kinds of a font's groups were found.
-pub(crate) fn count_kinds(
-    alloc: Global,
-    font: &Font<'_>,
-    waivers: &Waivers<'_>,
-    groups: &Groups,
-) -> Result<Counts, AllocError>
-    requires read { IsRead font.now waivers.now }
-    ensures { IfOk result (λ counts. (faults : List FaultValue) → AllByRecursion (IsInFont font.now waivers.now) faults
-        → groups.now.entries ≡ groups_of font.now faults
-        → counts_in counts.entries ≡ counts_of (map (kind_in font.now waivers.now) faults)) }
-{
-    let mut counts = IndexMap::new(alloc);
-    for place in 0..groups.len() {
-        let Some((group, count)) = groups.get_index(place) else {
-            break;
-        };
-        let mut kind = Vec::new(alloc);
-        push_kind(&mut kind, font, waivers, *group)?;
-        counts.insert(kind, *count)?;
-    }
-    Ok(counts)
+/// What faults are counted by: a rule, and the unit in which it is broken.
+#[derive(Clone, Copy, Debug, PartialEq, Eq, Hash)]
+pub(crate) struct Kind<'a> {
+    pub(crate) rule: Rule,
+    pub(crate) unit: KindUnit<'a>,
 }
 
-/// Appends the kind of a group of a font's faults.
-pub(crate) fn push_kind(
-    text: &mut Vec<u8>,
-    font: &Font<'_>,
-    waivers: &Waivers<'_>,
-    group: u64,
-) -> Result<(), AllocError>
-    requires few_waivers { length waivers.now ≤ largest_waivers }
-    ensures { (fault : FaultValue) → IsInFont font.now waivers.now fault → group_of font.now fault ≡ group
-        → OnOk result (text.new.items ≡ text.old.items ++ kind_of (line_in font.now waivers.now fault)) }
+/// Where a rule is broken.
+#[derive(Clone, Copy, Debug, PartialEq, Eq, Hash)]
+pub(crate) enum KindUnit<'a> {
+    /// A key of the font, by its number.
+    Key(u8),
+    /// A glyph, by its name.
+    Glyph(&'a [u8]),
+    /// A waiver that isn't used, by the glyph's name, and the rule that it waives.
+    Waiver { name: &'a [u8], rule: Rule },
+}
+
+/// What a fault of a font is counted by.
+pub(crate) fn kind_of<'a>(font: &'a Font<'_>, waivers: &'a Waivers<'_>, fault: &Fault) -> Kind<'a>
+    requires { IsInFont font.now waivers.now (fault_value fault.now) }
+    ensures { kind_value result ≡ counted_in font.now waivers.now (fault_value fault.now) }
 {
-    let Some(rule) = Rule::from_number((group % 128) as u8) else {
-        return Ok(());
+    let unit = match place_of(font, waivers, fault) {
+        Place::Key { key, .. } => KindUnit::Key(key),
+        Place::Step { name, .. } => KindUnit::Glyph(name),
+        Place::Waiver { name, rule } => KindUnit::Waiver { name, rule },
     };
-    text.extend_from_slice(rule_code(rule).as_bytes())?;
-    let unit = group / 128 / 4_294_967_296;
-    let part = group / 128 % 4_294_967_296;
-    if unit == 0 {
-        push_two(text, b" font ", key_text(part.min(255) as u8).as_bytes())
-    } else if unit as usize == font.glyphs().len() + 1 {
-        push_waiver(text, waivers, part as usize)
-    } else {
-        push_two(text, b" glyph ", font.glyph_name(unit as usize - 1))
+    Kind {
+        rule: fault.rule,
+        unit,
     }
 }
 
-/// Appends the waiver of a place, from 1, as the unit of a kind.
-fn push_waiver(text: &mut Vec<u8>, waivers: &Waivers<'_>, place: usize) -> Result<(), AllocError>
-    ensures { (w : Waiver) → slice_get waivers.now (place - 1) ≡ Some w
-        → OnOk result (text.new.items ≡ text.old.items ++ concat (codes " waiver " ∷ w.0 ∷ codes " " ∷ code_of w.1 ∷ [])) }
+/// Appends the text of a kind: `H02 glyph A`, `Z04 font BlueValues`, `U01 waiver A P01`.
+pub(crate) fn push_kind(text: &mut Vec<u8>, kind: &Kind<'_>) -> Result<(), AllocError>
+    ensures { OnOk result (text.new.items ≡ text.old.items ++ kind_text (kind_value kind.now)) }
 {
-    let Some((name, rule)) = waivers.pair(place.saturating_sub(1)) else {
-        return Ok(());
-    };
+    text.extend_from_slice(rule_code(kind.rule).as_bytes())?;
+    push_unit(text, &kind.unit)
+}
+
+/// Appends the unit of a kind.
+fn push_unit(text: &mut Vec<u8>, unit: &KindUnit<'_>) -> Result<(), AllocError>
+    ensures { OnOk result (text.new.items ≡ text.old.items ++ unit_text (unit_value unit.now)) }
+{
+    match *unit {
+        KindUnit::Key(key) => push_two(text, b" font ", key_text(key).as_bytes()),
+        KindUnit::Glyph(name) => push_two(text, b" glyph ", name),
+        KindUnit::Waiver { name, rule } => push_waiver(text, name, rule),
+    }
+}
+
+/// Appends a waiver, as the unit of a kind.
+fn push_waiver(text: &mut Vec<u8>, name: &[u8], rule: Rule) -> Result<(), AllocError>
+    ensures { OnOk result (text.new.items
+        ≡ text.old.items ++ concat (codes " waiver " ∷ name.now ∷ codes " " ∷ code_of rule ∷ [])) }
+{
     push_two(text, b" waiver ", name)?;
     push_two(text, b" ", rule_code(rule).as_bytes())
 }

@@ -8,7 +8,7 @@ ghost use Rattle.t1_report.specs.Waivers.{largest_waivers};
 ghost use Rattle.t1_run.specs.FontFiles.{largest_file};
 ghost use Rattle.t1_run.specs.Input.{ReadsAtMost};
 
-use crate::recipient::{Recipient, Taken};
+use crate::policy::{Policy, Taken};
 use std::alloc::Global;
 use t1_char::Edition;
 use t1_font::{Font, OpenFont};
@@ -19,7 +19,7 @@ use t1_run::{Failure, read_font_file, read_waivers};
 
 /// Reads a font to its end, and then its waivers where it has some, and hands its report on. Where there is no report,
 /// nothing is done.
-pub(crate) fn check_opened<R: Source, V: Source, T: Recipient>(
+pub(crate) fn check_opened<R: Source, V: Source, T: Policy>(
     alloc: Global,
     name: &str,
     source: &mut R,
@@ -40,7 +40,7 @@ pub(crate) fn check_opened<R: Source, V: Source, T: Recipient>(
 }
 
 /// Checks a font of these bytes, which are held no longer than until their segments are joined.
-fn check_bytes<V: Source, T: Recipient>(
+fn check_bytes<V: Source, T: Policy>(
     alloc: Global,
     name: &str,
     bytes: Vec<u8>,
@@ -62,7 +62,7 @@ fn check_bytes<V: Source, T: Recipient>(
 }
 
 /// Checks a font that was read.
-fn check_font<V: Source, T: Recipient>(
+fn check_font<V: Source, T: Policy>(
     alloc: Global,
     name: &str,
     font: &Font<'_>,
@@ -82,7 +82,7 @@ fn check_font<V: Source, T: Recipient>(
 }
 
 /// Checks it with the waivers of a text.
-fn check_waived<T: Recipient>(
+fn check_waived<T: Policy>(
     alloc: Global,
     name: &str,
     font: &Font<'_>,

@@ -11,9 +11,9 @@ ghost use Rattle.t1_run.specs.Failures.{refusal_line};
 ghost use Rattle.t1_many.specs.Handing.{lost_of};
 
 use crate::font_error::{FontError, Obstacle};
-use crate::form::Form;
+use crate::policy::Lost;
+use crate::printer::Printer;
 use crate::reasons::told_text;
-use crate::recipient::Lost;
 use crate::unchecked::tell_unchecked;
 use t1_font::Font;
 use t1_io::{Sink, put_parts};
@@ -21,7 +21,7 @@ use t1_reason_texts::ShortText;
 use t1_reasons::ReportReasons;
 use t1_refusals::{RefusalCode, refusal_text};
 use t1_report::{Fault, Waivers, write_fault};
-use t1_summary::Found;
+use t1_summary::FontClass;
 
 /// Lines and refusals on the output, all else on standard error, each after the font's name. Where reasons are reported, each
 /// stands behind its line. After each font the output is flushed.
@@ -35,7 +35,7 @@ pub struct Plain<W: Sink, E: Sink> {
     pub errors: E,
 }
 
-impl<W: Sink, E: Sink> Form for Plain<W, E> {
+impl<W: Sink, E: Sink> Printer for Plain<W, E> {
     ghost takes = { λ old new handed lost. (new.reasons ≡ old.reasons) × PlainTakes old.reasons
         (record { out = W.state old.out; errors = E.state old.errors })
         (record { out = W.state new.out; errors = E.state new.errors }) handed lost };
@@ -60,7 +60,7 @@ impl<W: Sink, E: Sink> Form for Plain<W, E> {
         }
     }
 
-    fn done(&mut self, _name: &str, _found: Found) -> Result<(), Lost> {
+    fn done(&mut self, _name: &str, _found: FontClass) -> Result<(), Lost> {
         self.out.flush()?;
         Ok(())
     }

@@ -1,24 +1,20 @@
 //! Fonts whose lines are reported by known faults, and what is found in them.
 
-ghost use Rattle.std.specs.Prelude.{◌≡◌, IfOk, List, false};
-ghost use Rattle.std.specs.List.{AllByRecursion};
+ghost use Rattle.std.specs.Prelude.{◌≡◌, ℕ, IfOk, List, false};
 ghost use Rattle.t1_many.specs.Beyond.{verdict_of};
-ghost use Rattle.t1_many.specs.Groups.{groups_of};
-ghost use Rattle.t1_many.specs.Outcomes.{IsRead};
-ghost use Rattle.t1_many.specs.Readings.{IsReading, Keeps, TakesKnown, as_known, by_known};
-ghost use Rattle.t1_report.specs.Faults.{FaultValue};
-ghost use Rattle.t1_report.specs.Lines.{IsInFont};
+ghost use Rattle.t1_many.specs.Counts.{kind_counts, text_counts};
+ghost use Rattle.t1_many.specs.KnownFaults.{counts_of};
+ghost use Rattle.t1_many.specs.Readings.{IsReadingOf, Keeps, TakesKnown, as_known, by_known};
 ghost use Rattle.t1_rules.specs.Book.{number_of};
 ghost use Rattle.t1_rules.specs.Mask.{has};
 
-use crate::beyond::hand_beyond;
+use crate::beyond::BeyondKnown;
+use crate::counts::{Counts, Kinds, count_kinds, count_texts};
 use crate::font_error::FontError;
-use crate::form::Form;
-use crate::groups::{Groups, count_groups};
 use crate::handing::{hand_failure, hand_report};
-use crate::kinds::{Counts, count_kinds};
 use crate::known::{Known, known_counts};
-use crate::recipient::{Lost, Recipient, Taken};
+use crate::policy::{Lost, Policy, Taken};
+use crate::printer::Printer;
 use crate::verdict::{Judge, Verdict};
 use std::alloc::{AllocError, Global};
 use t1_font::Font;
@@ -36,7 +32,7 @@ pub struct Reading {
 
 /// Reports the lines of fonts that go beyond known faults, in a form, and keeps what was found.
 #[derive(Drop)]
-pub struct Beyond<K: Known + Drop, F: Form + Drop> {
+pub struct ReportNew<K: Known + Drop, F: Printer + Drop> {
     /// Of which rules lines are reported.
     pub rules: Mask,
     /// What is known.
@@ -47,7 +43,7 @@ pub struct Beyond<K: Known + Drop, F: Form + Drop> {
     pub readings: Vec<Reading>,
 }
 
-impl<K: Known + Drop, F: Form + Drop> Recipient for Beyond<K, F> {
+impl<K: Known + Drop, F: Printer + Drop> Policy for ReportNew<K, F> {
     ghost takes = { λ old new entry taken. (new.rules ≡ old.rules) × (new.known ≡ old.known)
         × TakesKnown F.takes (by_known (K.counts old.known) old.rules entry.name) old.rules old.form new.form old.readings.items new.readings.items
         entry taken };
@@ -62,19 +58,15 @@ impl<K: Known + Drop, F: Form + Drop> Recipient for Beyond<K, F> {
     ) -> Result<Taken, AllocError> {
         // The call of a law does nothing: the proof cites what it ensures.
         a_font_has_one_report();
-        let found = count_groups(alloc, font, sidebearings, waivers, self.rules)?;
-        let known = known_counts(alloc, &self.known, name, font, waivers, &found)?;
-        let reading = read_groups(alloc, name, font, waivers, &found)?;
-        let taken = hand_beyond(
-            &mut self.form,
-            name,
-            font,
-            sidebearings,
-            waivers,
-            self.rules,
-            &known,
-            &found,
-        );
+        let found = count_kinds(alloc, font, sidebearings, waivers, self.rules)?;
+        let known = known_counts(alloc, &self.known, name, &found)?;
+        let reading = read_kinds(alloc, name, &found)?;
+        let judge = BeyondKnown {
+            rules: self.rules,
+            known: &known,
+            found: &found,
+        };
+        let taken = hand_report(&mut self.form, name, font, sidebearings, waivers, &judge);
         Ok(keep(&mut self.readings, reading, taken))
     }
 
@@ -85,7 +77,7 @@ impl<K: Known + Drop, F: Form + Drop> Recipient for Beyond<K, F> {
 
 /// Reports no line of a report, and keeps what was found: it is to be known.
 #[derive(Drop)]
-pub struct Anew<F: Form + Drop> {
+pub struct UpdateBaseline<F: Printer + Drop> {
     /// Of which rules faults become known.
     pub rules: Mask,
     /// The form that takes what is reported besides lines.
@@ -94,7 +86,7 @@ pub struct Anew<F: Form + Drop> {
     pub readings: Vec<Reading>,
 }
 
-impl<F: Form + Drop> Recipient for Anew<F> {
+impl<F: Printer + Drop> Policy for UpdateBaseline<F> {
     ghost takes = { λ old new entry taken. (new.rules ≡ old.rules)
         × TakesKnown F.takes (as_known old.rules) old.rules old.form new.form old.readings.items new.readings.items entry taken };
 
@@ -108,8 +100,8 @@ impl<F: Form + Drop> Recipient for Anew<F> {
     ) -> Result<Taken, AllocError> {
         // The call of a law does nothing: the proof cites what it ensures.
         a_font_has_one_report();
-        let found = count_groups(alloc, font, sidebearings, waivers, self.rules)?;
-        let reading = read_groups(alloc, name, font, waivers, &found)?;
+        let found = count_kinds(alloc, font, sidebearings, waivers, self.rules)?;
+        let reading = read_kinds(alloc, name, &found)?;
         let judge = AsKnown { rules: self.rules };
         let taken = hand_report(&mut self.form, name, font, sidebearings, waivers, &judge);
         Ok(keep(&mut self.readings, reading, taken))
@@ -127,30 +119,23 @@ struct AsKnown {
 }
 
 impl Judge for AsKnown {
-    ghost judges = { λ j _ fault. verdict_of (has j.rules (number_of fault.rule)) false };
+    ghost judges = { λ j _ _ fault. verdict_of (has j.rules (number_of fault.rule)) false };
 
-    fn judge(&self, _font: &Font<'_>, fault: &Fault) -> Verdict {
+    fn judge(&self, _font: &Font<'_>, _waivers: &Waivers<'_>, fault: &Fault) -> Verdict {
         if self.rules.has(fault.rule) {
             Verdict::Known
         } else {
-            Verdict::Left
+            Verdict::Skipped
         }
     }
 }
 
-/// What was found in a font, by its groups.
-fn read_groups(
-    alloc: Global,
-    name: &str,
-    font: &Font<'_>,
-    waivers: &Waivers<'_>,
-    found: &Groups,
-) -> Result<Reading, AllocError>
-    requires read { IsRead font.now waivers.now }
-    ensures { IfOk result (λ reading. (faults : List FaultValue) → AllByRecursion (IsInFont font.now waivers.now) faults
-        → found.now.entries ≡ groups_of font.now faults → IsReading name.now font.now waivers.now faults reading) }
+/// What was found in the font of a name, by its kinds.
+fn read_kinds(alloc: Global, name: &str, found: &Kinds<'_>) -> Result<Reading, AllocError>
+    ensures { IfOk result (λ reading. (kinds : List (List ℕ)) → text_counts (kind_counts found.now.entries) ≡ counts_of kinds
+        → IsReadingOf reading (record { font = name.now; kinds = kinds })) }
 {
-    let counts = count_kinds(alloc, font, waivers, found)?;
+    let counts = count_texts(alloc, found)?;
     let font = String::from_str(alloc, name)?;
     Ok(Reading { font, counts })
 }

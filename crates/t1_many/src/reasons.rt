@@ -2,11 +2,11 @@
 
 ghost use Rattle.std.specs.Prelude.{◌≡◌, IfErr, IfOk, option_map};
 ghost use Rattle.t1_many.specs.Reasons.{told_reason, told_text};
-ghost use Rattle.t1_many.specs.declared.recipient.Lost.TheVariants.{Memory};
+ghost use Rattle.t1_many.specs.declared.policy.Lost.TheVariants.{Memory};
 ghost use Rattle.t1_report.specs.Faults.{fault_value};
 ghost use Rattle.t1_report.specs.Lines.{IsInFont};
 
-use crate::recipient::Lost;
+use crate::policy::Lost;
 use t1_font::Font;
 use t1_reason_texts::{ShortText, shown_text};
 use t1_reasons::{Reason, ReportReasons};

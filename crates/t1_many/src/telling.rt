@@ -9,9 +9,9 @@ ghost use Rattle.t1_many.specs.Verdicts.{of_rules};
 use crate::checking::check_all;
 use crate::font_error::FontError;
 use crate::font_files::{FontFiles, WaiverFiles};
-use crate::form::Form;
 use crate::handing::{hand_failure, hand_report};
-use crate::recipient::{Lost, Recipient, Taken};
+use crate::policy::{Lost, Policy, Taken};
+use crate::printer::Printer;
 use std::alloc::{AllocError, Global};
 use t1_char::Edition;
 use t1_font::Font;
@@ -21,14 +21,14 @@ use t1_run::Status;
 
 /// Reports the lines of these rules, in a form.
 #[derive(Drop)]
-pub struct Telling<F: Form> {
+pub struct ReportAll<F: Printer> {
     /// Of which rules lines are reported.
     pub rules: Mask,
     /// The form that takes them.
     pub form: F,
 }
 
-impl<F: Form> Recipient for Telling<F> {
+impl<F: Printer> Policy for ReportAll<F> {
     ghost takes = { λ old new entry taken. (new.rules ≡ old.rules) × HandsFont F.takes (of_rules old.rules) old.form new.form entry taken };
 
     fn report<'a>(
@@ -56,13 +56,13 @@ impl<F: Form> Recipient for Telling<F> {
 
 /// Checks the fonts of these names in order, as [`check_all`] does. It reports the lines of some rules, why there is no
 /// report of a font, and how each font was found.
-pub fn tell_all<S: FontFiles, F: Form>(
+pub fn tell_all<S: FontFiles, F: Printer>(
     alloc: Global,
     names: &[String],
     beside: WaiverFiles,
     files: &mut S,
     edition: Edition,
-    telling: &mut Telling<F>,
+    telling: &mut ReportAll<F>,
 ) -> Result<Status, Lost>
     ensures { TellsAll F.takes (λ _. of_rules telling.old.rules) (files_by S.calls beside files.old files.new) edition (map string_bytes names.now)
         telling.old.form telling.new.form result }

@@ -6,7 +6,7 @@ use std::alloc::Global;
 use std::test::Fail;
 use t1_char::Edition;
 use t1_io::Out;
-use t1_many::{Lost, Plain, Telling, WaiverFiles, tell_all};
+use t1_many::{Lost, Plain, ReportAll, WaiverFiles, tell_all};
 use t1_rules::Rule;
 use t1_run::Status;
 use t1_samples::Sample;
@@ -30,7 +30,7 @@ fn check<'a>(
     let mut files = Files::new(alloc, fonts, waivers).with_locked("locked.pfb");
     let mut text = Vec::new(alloc);
     let mut told = Vec::new(alloc);
-    let mut telling = Telling {
+    let mut telling = ReportAll {
         rules: all_but(Rule::C07),
         form: Plain {
             reasons,

@@ -5,10 +5,10 @@ ghost use Rattle.std.specs.Prelude.{◌≡◌, false, IfOk};
 use std::alloc::{AllocError, Global};
 use std::io;
 use std::io::ErrorKind;
-use t1_answer_all::FileStore;
+use t1_answer_all::ShowsProgress;
 use t1_io::{In, Source};
 use t1_many::FontFiles;
-use t1_names::{Entry, FileSystem, Listing};
+use t1_names::{Entry, FileStore, FileSystem, Listing};
 
 /// A file, by its name. That of waivers is known by the name of their font.
 pub(crate) type File<'a> = (&'a str, &'a [u8]);
@@ -197,17 +197,9 @@ impl<'a> FileSystem for Files<'a> {
 }
 
 impl<'a> FileStore for Files<'a> {
-    ghost expects = { λ _ _ _. Unit {0} };
-
     ghost puts = { λ _ _ _ _ _. Unit {0} };
 
     ghost has = { λ _ _ _. Unit {0} };
-
-    fn expect(&mut self, fonts: usize) {
-        if let Ok(fonts) = fonts.to_string(self.alloc) {
-            self.note("expect", fonts.as_str());
-        }
-    }
 
     fn replace(&mut self, name: &str, text: &[u8]) -> io::Result<()> {
         if name == self.locked {
@@ -219,5 +211,15 @@ impl<'a> FileStore for Files<'a> {
 
     fn is_there(&self, name: &str) -> bool {
         name == self.there
+    }
+}
+
+impl<'a> ShowsProgress for Files<'a> {
+    ghost expects = { λ _ _ _. Unit {0} };
+
+    fn expect(&mut self, fonts: usize) {
+        if let Ok(fonts) = fonts.to_string(self.alloc) {
+            self.note("expect", fonts.as_str());
+        }
     }
 }

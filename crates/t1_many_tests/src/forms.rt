@@ -7,8 +7,8 @@ use std::test::Fail;
 use t1_char::Edition;
 use t1_forms::{Page, Pages, Sarif};
 use t1_io::{Fuse, Limit, Out, Sink};
-use t1_many::{Lost, Telling, WaiverFiles, tell_all};
-use t1_many_forms::{Formatted, Formatter, GitHubCommands, JsonLines};
+use t1_many::{Lost, ReportAll, WaiverFiles, tell_all};
+use t1_printers::{Formatted, Formatter, GitHubCommands, JsonLines};
 use t1_rules::Rule;
 use t1_run::Status;
 
@@ -33,7 +33,7 @@ fn tell_in<'a, F: Formatter + Drop, W: Sink + Drop, E: Sink + Drop>(
 ) -> Result<Result<Status, Lost>, AllocError> {
     let names = names_of(alloc, &["faulty.pfb", "cut.pfa", "absent.pfb"])?;
     let mut files = Files::new(alloc, fonts, &[]);
-    let mut telling = Telling {
+    let mut telling = ReportAll {
         rules: only(rules),
         form,
     };

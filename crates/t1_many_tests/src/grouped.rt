@@ -5,9 +5,9 @@ use crate::fonts::{CUT, names_of, only};
 use std::alloc::{AllocError, Global};
 use std::test::Fail;
 use t1_char::Edition;
-use t1_grouped::{GitHubGroups, GroupForm, Grouped, Terminal};
 use t1_io::{Fuse, Limit, Out, Sink};
-use t1_many::{Lost, Telling, WaiverFiles, tell_all};
+use t1_many::{Lost, ReportAll, WaiverFiles, tell_all};
+use t1_printers::{GitHubGroups, GroupForm, Grouped, Terminal};
 use t1_rules::Rule;
 use t1_run::Status;
 use t1_samples::Sample;
@@ -23,7 +23,7 @@ fn tell<'a, T: GroupForm + Drop, W: Sink + Drop, E: Sink + Drop>(
 ) -> Result<Result<Status, Lost>, AllocError> {
     let names = names_of(alloc, names)?;
     let mut files = Files::new(alloc, fonts, &[]);
-    let mut telling = Telling {
+    let mut telling = ReportAll {
         rules: only(&[Rule::P01, Rule::P02, Rule::P03, Rule::Z05, Rule::GE02]),
         form: Grouped::new(alloc, form, out, errors),
     };

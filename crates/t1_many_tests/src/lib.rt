@@ -1,4 +1,4 @@
-//! Tests of checks of many fonts, by public items of t1_many, t1_known, t1_waiving, t1_many_forms, t1_grouped and t1_answer_all alone.
+//! Tests of checks of many fonts, by public items of t1_many, t1_known, t1_waiving, t1_printers and t1_answer_all alone.
 //! Expected values are worked out by hand.
 //!
 //! [`files`] has the files that a test's fonts are in, and [`fonts`] the fonts.

@@ -6,7 +6,7 @@ use std::alloc::{AllocError, Global};
 use std::test::Fail;
 use t1_char::Edition;
 use t1_io::Out;
-use t1_many::{Plain, Telling, WaiverFiles, tell_all};
+use t1_many::{Plain, ReportAll, WaiverFiles, tell_all};
 use t1_rules::Rule;
 
 /// The names of fonts, and what comes of their check.
@@ -110,7 +110,7 @@ fn comes_of<'a>(
     let mut files = Files::new(alloc, fonts, waivers).with_locked("locked.pfb");
     let mut text = Vec::new(alloc);
     let mut told = Vec::new(alloc);
-    let mut telling = Telling {
+    let mut telling = ReportAll {
         rules: only(&[Rule::P03]),
         form: Plain {
             reasons: false,

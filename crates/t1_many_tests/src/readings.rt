@@ -8,10 +8,12 @@ use std::test::Fail;
 use t1_char::Edition;
 use t1_io::Out;
 use t1_known::KnownFaults;
-use t1_many::{Anew, Beyond, Counted, Known, Lost, Plain, Reading, WaiverFiles, check_all};
+use t1_many::{
+    Counted, Known, Lost, Plain, Reading, ReportNew, UpdateBaseline, WaiverFiles, check_all,
+};
 use t1_rules::Rule;
 use t1_run::Status;
-use t1_summary::{Found, Tally};
+use t1_summary::{FontClass, Tally};
 
 /// Each kind is known so often of each font.
 #[derive(Clone, Copy, Drop)]
@@ -97,7 +99,7 @@ fn beyond<'a, K: Known + Drop>(
     let mut files = Files::new(alloc, fonts, &[]);
     let mut text = Vec::new(alloc);
     let mut errors = Vec::new(alloc);
-    let mut beyond = Beyond {
+    let mut beyond = ReportNew {
         rules: all_but(Rule::C07),
         known,
         form: Counted {
@@ -118,7 +120,7 @@ fn beyond<'a, K: Known + Drop>(
         Edition::One,
         &mut beyond,
     );
-    let Beyond {
+    let ReportNew {
         rules: _rules,
         known,
         form,
@@ -141,7 +143,7 @@ fn anew<'a>(alloc: Global, names: &[String], fonts: &'a [File<'a>]) -> Answer {
     let mut files = Files::new(alloc, fonts, &[]);
     let mut text = Vec::new(alloc);
     let mut errors = Vec::new(alloc);
-    let mut anew = Anew {
+    let mut anew = UpdateBaseline {
         rules: all_but(Rule::C07),
         form: Counted {
             tally: Tally::new(),
@@ -161,7 +163,7 @@ fn anew<'a>(alloc: Global, names: &[String], fonts: &'a [File<'a>]) -> Answer {
         Edition::One,
         &mut anew,
     );
-    let Anew { form, readings, .. } = anew;
+    let UpdateBaseline { form, readings, .. } = anew;
     let tally = form.tally;
     drop(form);
     Answer {
@@ -175,9 +177,9 @@ fn anew<'a>(alloc: Global, names: &[String], fonts: &'a [File<'a>]) -> Answer {
 
 /// Whether fonts were found, and lines handed on, as they should be: P03 goes beyond what is known in the first font, all else is known.
 fn is_counted(tally: &Tally) -> bool {
-    tally.fonts_found(Found::Faulty) == 1
-        && tally.fonts_found(Found::Known) == 1
-        && tally.fonts_found(Found::Unchecked) == 1
+    tally.fonts_found(FontClass::Faulty) == 1
+        && tally.fonts_found(FontClass::Known) == 1
+        && tally.fonts_found(FontClass::Unchecked) == 1
         && tally.fonts() == 3
         && tally.lines_of(Rule::P03) == 2
         && tally.lines_of(Rule::C05) == 0

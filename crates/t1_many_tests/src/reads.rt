@@ -8,7 +8,7 @@ use std::io::{ErrorKind, Read};
 use std::test::Fail;
 use t1_char::Edition;
 use t1_io::{In, Out};
-use t1_many::{FontFiles, Plain, Telling, WaiverFiles, tell_all};
+use t1_many::{FontFiles, Plain, ReportAll, WaiverFiles, tell_all};
 use t1_rules::all_rules;
 
 /// A reader that returns up to so many bytes a read, and counts both. After its last byte is the end.
@@ -118,7 +118,7 @@ fn is_read_so(alloc: Global, case: &Case<'_>) -> Result<bool, AllocError> {
     };
     let names = names_of(alloc, &["a.pfb"])?;
     let (mut text, mut told) = (Vec::new(alloc), Vec::new(alloc));
-    let mut telling = Telling {
+    let mut telling = ReportAll {
         rules: only(all_rules()),
         form: Plain {
             reasons: false,

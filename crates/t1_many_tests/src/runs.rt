@@ -57,7 +57,7 @@ fn prints_lines_and_the_summary(rt: HostRuntime) -> Result<(), Fail> {
     let names = names_of(rt.alloc(), &["faulty.pfb", "cut.pfa", "absent.pfb"])?;
     let left = run_over(
         rt.alloc(),
-        plan_of(names.as_slice(), only(&[Rule::P03]), Mode::Told),
+        plan_of(names.as_slice(), only(&[Rule::P03]), Mode::ReportAll),
         &files,
         Out::new(&mut text),
         Out::new(&mut told),
@@ -85,7 +85,7 @@ fn status_failing(
     failing: &[Rule],
 ) -> Result<Status, AllocError> {
     let names = names_of(alloc, &["faulty.pfb"])?;
-    let mut plan = plan_of(names.as_slice(), all_but(Rule::C07), Mode::Told);
+    let mut plan = plan_of(names.as_slice(), all_but(Rule::C07), Mode::ReportAll);
     plan.failing = only(failing);
     plan.quiet = true;
     let mut text = Vec::new(alloc);
@@ -137,7 +137,7 @@ fn run_beyond<'a, W: Sink + Drop, E: Sink + Drop>(
     out: W,
     errors: E,
 ) -> Result<Left, AllocError> {
-    run_faulty(alloc, files, Mode::Beyond(known), out, errors)
+    run_faulty(alloc, files, Mode::ReportNew(known), out, errors)
 }
 
 /// No line goes beyond the known faults, and the row of H02 is no longer reached.
@@ -217,7 +217,7 @@ fn run_anew<'a, W: Sink + Drop, E: Sink + Drop>(
     out: W,
     errors: E,
 ) -> Result<Left, AllocError> {
-    run_faulty(alloc, files, Mode::Anew(known), out, errors)
+    run_faulty(alloc, files, Mode::UpdateBaseline(known), out, errors)
 }
 
 /// Rows are in the order of each kind's first fault. The row of H02 goes.
@@ -275,7 +275,7 @@ fn leaves_waivers(rt: HostRuntime) -> Result<(), Fail> {
     let left = run_faulty(
         rt.alloc(),
         &files,
-        Mode::Waived,
+        Mode::WriteWaivers,
         Out::new(&mut text),
         Out::new(&mut told),
     )?;
@@ -310,7 +310,7 @@ t1check-all: lines of a font itself can not be waived
 
 /// Objects are written of the P03 of these fonts, after a name that isn't UTF-8 and these folders. The summary is omitted.
 fn unlisted_plan<'a>(names: &'a [String], unsearched: &'a [String]) -> Plan<'a> {
-    let mut plan = plan_of(names, only(&[Rule::P03]), Mode::Told);
+    let mut plan = plan_of(names, only(&[Rule::P03]), Mode::ReportAll);
     plan.layout = Layout::JsonLines { reasons: false };
     plan.unlisted = Unlisted {
         undecoded: 1,
@@ -357,7 +357,7 @@ fn leaves_nothing_where_the_output_fails(rt: HostRuntime) -> Result<(), Fail> {
     let names = names_of(rt.alloc(), &["faulty.pfb"])?;
     let left = run_over(
         rt.alloc(),
-        plan_of(names.as_slice(), only(&[Rule::P03]), Mode::Told),
+        plan_of(names.as_slice(), only(&[Rule::P03]), Mode::ReportAll),
         &files,
         Fuse::sink(Out::new(&mut text), Limit::Bytes(10)),
         Out::new(&mut told),

@@ -10,7 +10,7 @@ use t1_many::{Plain, WaiverFiles};
 use t1_rules::Rule;
 use t1_run::Status;
 use t1_samples::Sample;
-use t1_waiving::{Kept, Waiving, tell_too_many, waive_all};
+use t1_waiving::{Kept, WriteWaivers, tell_too_many, waive_all};
 
 /// A font of so many glyphs that end without a width, each with a name of 4,000 bytes.
 fn of_long_names(alloc: Global, glyphs: u16) -> Result<Vec<u8>, AllocError> {
@@ -29,7 +29,7 @@ fn waive<'a>(alloc: Global, fonts: &'a [File<'a>]) -> Result<Kept, AllocError> {
     let mut told = Vec::new(alloc);
     let names = names_of(alloc, &["a.pfb"])?;
     let mut files = Files::new(alloc, fonts, &[]);
-    let mut waiving = Waiving {
+    let mut waiving = WriteWaivers {
         rules: only(&[Rule::W01]),
         form: Plain {
             reasons: false,
@@ -46,7 +46,7 @@ fn waive<'a>(alloc: Global, fonts: &'a [File<'a>]) -> Result<Kept, AllocError> {
         Edition::One,
         &mut waiving,
     );
-    let Waiving {
+    let WriteWaivers {
         rules: _,
         form,
         kept,

@@ -6,11 +6,11 @@ use std::alloc::Global;
 use std::test::Fail;
 use t1_char::Edition;
 use t1_io::Out;
-use t1_many::{Lost, Plain, Telling, WaiverFiles, tell_all};
+use t1_many::{Lost, Plain, ReportAll, WaiverFiles, tell_all};
 use t1_rules::Rule;
 use t1_run::Status;
 use t1_samples::Sample;
-use t1_waiving::{FontWaivers, Kept, Waiving, waive_all};
+use t1_waiving::{FontWaivers, Kept, WriteWaivers, waive_all};
 
 /// What is answered.
 #[derive(Drop)]
@@ -25,7 +25,7 @@ fn waive<'a>(alloc: Global, names: &[String], fonts: &'a [File<'a>]) -> (Answer,
     let mut files = Files::new(alloc, fonts, &[]);
     let mut text = Vec::new(alloc);
     let mut told = Vec::new(alloc);
-    let mut waiving = Waiving {
+    let mut waiving = WriteWaivers {
         rules: all_but(Rule::C07),
         form: Plain {
             reasons: false,
@@ -42,7 +42,7 @@ fn waive<'a>(alloc: Global, names: &[String], fonts: &'a [File<'a>]) -> (Answer,
         Edition::One,
         &mut waiving,
     );
-    let Waiving {
+    let WriteWaivers {
         rules: _,
         form,
         kept,
@@ -61,7 +61,7 @@ fn tell<'a>(
     let mut files = Files::new(alloc, fonts, waivers);
     let mut text = Vec::new(alloc);
     let mut told = Vec::new(alloc);
-    let mut telling = Telling {
+    let mut telling = ReportAll {
         rules: all_but(Rule::C07),
         form: Plain {
             reasons: false,

@@ -1,5 +1,7 @@
 -- Why a system can't read or write a file.
-use Rattle.std.specs.Prelude.{ℕ, List, [], codes}
+use Rattle.std.specs.Prelude.{ℕ, List, [], codes, Option, None, Some, Result, Ok, Err}
+use Rattle.std.specs.IoError.{error_kind}
+use Rattle.std.specs.declared.io.Error.{Error}
 use Rattle.std.specs.declared.io.ErrorKind.{ErrorKind}
 use Rattle.std.specs.declared.io.ErrorKind.TheVariants as kinds
 use Rattle.t1_names.specs.declared.causes.Cause.{Cause}
@@ -28,3 +30,8 @@ cause_text ReadOnly = codes ": the file system is read-only"
 cause_text NoSpace = codes ": the disk is full"
 cause_text NoMemory = codes ": out of memory"
 cause_text Unknown = []
+
+-- Why a text couldn't be put in the place of a file, if it couldn't.
+abbrev pub put_failure : Result (Unit {0}) Error → Option Cause
+put_failure (Ok done) = None
+put_failure (Err error) = Some (cause_of (error_kind error))

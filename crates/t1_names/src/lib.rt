@@ -2,10 +2,12 @@
 //!
 //! [`fonts_named`] makes the list: each font once, in the order of the words, without those that a [`Glob`] excludes.
 //! A [`FileSystem`] says which words lead to folders and what is in a folder. The word `-` is standard input; a file of
-//! that name is named `./-`. [`words_in`] reads words from the text of a list.
+//! that name is named `./-`. [`words_in`] reads words from the text of a list. A [`FileStore`] has files that can be replaced, and a
+//! [`Cause`] says why that, or a read, failed.
 #![tactic(auto)]
 
 mod causes;
+mod file_store;
 mod filesystem;
 mod folders;
 mod globs;
@@ -16,6 +18,7 @@ mod once;
 mod words;
 
 pub use causes::Cause;
+pub use file_store::FileStore;
 pub use filesystem::FileSystem;
 pub use folders::{Below, Entry, Listing, fonts_below, is_font_name};
 pub use globs::{CharSet, Glob, Piece, is_excluded};

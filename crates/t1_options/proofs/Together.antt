@@ -9,8 +9,8 @@ use Rattle.t1_options.specs.Given.{GivenValue}
 use Rattle.t1_options.specs.Laws.{MeantGoTogether, are_written}
 use Rattle.t1_options.specs.Options.{file_of, waivers_of}
 use Rattle.t1_options.specs.Values.{form_in, shard_in, url_in}
-use Rattle.t1_options.specs.declared.asked.KnownFaults.{KnownFaults}
-use Rattle.t1_options.specs.declared.asked.KnownFaults.TheVariants.{Anew, Beyond, Unnamed}
+use Rattle.t1_options.specs.declared.asked.Baseline.{Baseline}
+use Rattle.t1_options.specs.declared.asked.Baseline.TheVariants.{Compared, Unnamed, Updated}
 use Rattle.t1_options.specs.declared.complaint.Complaint.{Complaint}
 use Rattle.t1_options.specs.declared.complaint.Complaint.TheVariants.{Jobs}
 
@@ -55,10 +55,10 @@ has_value meaning None is = is
 has_value meaning (Some text) is = refl
 
 -- no file
-unnamed : (faults : KnownFaults) → file_of faults ≡ None → faults ≡ Unnamed
+unnamed : (faults : Baseline) → file_of faults ≡ None → faults ≡ Unnamed
 unnamed Unnamed none = refl
-unnamed (Beyond file) none = cc
-unnamed (Anew file) none = cc
+unnamed (Compared file) none = cc
+unnamed (Updated file) none = cc
 
 some_mapped : {X Y : Type 0} (f : X → Y) (o : Option X) → is_some (option_map f o) ≡ is_some o
 some_mapped f None = refl

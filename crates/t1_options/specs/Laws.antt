@@ -14,7 +14,7 @@ use Rattle.t1_options.specs.Merged.{merged_with}
 use Rattle.t1_options.specs.Options.{AreMeant, is_anew}
 use Rattle.t1_options.specs.Settings.Reading.{SettingsValue}
 use Rattle.t1_options.specs.Values.{shard_in}
-use Rattle.t1_options.specs.declared.asked.KnownFaults.TheVariants.{Unnamed}
+use Rattle.t1_options.specs.declared.asked.Baseline.TheVariants.{Unnamed}
 use Rattle.t1_options.specs.declared.asked.Options.{Options}
 use Rattle.t1_options.specs.declared.asked.Shard.{Shard}
 use Rattle.t1_options.specs.declared.asked.Waivers.{Waivers}

@@ -11,8 +11,8 @@ use Rattle.t1_options.specs.Choices.{choice_of, codes_of, excepted, is_of_levels
 use Rattle.t1_options.specs.Complaints.{complaint_of}
 use Rattle.t1_options.specs.Given.{GivenValue}
 use Rattle.t1_options.specs.Values.{edition_in, form_in, number_in, shard_in, url_in}
-use Rattle.t1_options.specs.declared.asked.KnownFaults.{KnownFaults}
-use Rattle.t1_options.specs.declared.asked.KnownFaults.TheVariants as faults
+use Rattle.t1_options.specs.declared.asked.Baseline.{Baseline}
+use Rattle.t1_options.specs.declared.asked.Baseline.TheVariants as faults
 use Rattle.t1_options.specs.declared.asked.Options.{Options}
 use Rattle.t1_options.specs.declared.asked.Reasons.{Reasons}
 use Rattle.t1_options.specs.declared.asked.Reasons.TheVariants as reasons
@@ -30,15 +30,15 @@ abbrev pub reasons_of : GivenValue → Reasons
 reasons_of given = if given.no_reasons then reasons.LeftOut else (if given.reasons then reasons.Each else reasons.First)
 
 -- The file of known faults.
-abbrev pub file_of : KnownFaults → Option Text
+abbrev pub file_of : Baseline → Option Text
 file_of faults.Unnamed = None
-file_of (faults.Beyond file) = Some (string_bytes file)
-file_of (faults.Anew file) = Some (string_bytes file)
+file_of (faults.Compared file) = Some (string_bytes file)
+file_of (faults.Updated file) = Some (string_bytes file)
 
-abbrev pub is_anew : KnownFaults → Bool
+abbrev pub is_anew : Baseline → Bool
 is_anew faults.Unnamed = false
-is_anew (faults.Beyond file) = false
-is_anew (faults.Anew file) = true
+is_anew (faults.Compared file) = false
+is_anew (faults.Updated file) = true
 
 -- The values of single options.
 pub record HasValues (given : GivenValue) (options : Options) : Type 0 where

@@ -8,8 +8,8 @@ use Rattle.clap.specs.Words.{Text}
 use Rattle.t1_char.specs.declared.edition.Edition.{Edition}
 use Rattle.t1_char.specs.declared.edition.Edition.TheVariants.{One, Two}
 use Rattle.t1_scan.specs.Bytes.{is_decimal_digit}
-use Rattle.t1_options.specs.declared.asked.Form.{Form}
-use Rattle.t1_options.specs.declared.asked.Form.TheVariants.{GitHub, JsonLines, Sarif}
+use Rattle.t1_options.specs.declared.asked.Format.{Format}
+use Rattle.t1_options.specs.declared.asked.Format.TheVariants.{GitHub, JsonLines, Sarif}
 use Rattle.t1_options.specs.declared.asked.Shard.{Shard}
 
 -- The first byte is this one.
@@ -43,7 +43,7 @@ file_in text = if is_empty text then None else Some text
 abbrev pub url_in : Text → Option Text
 url_in text = if is_empty text || begins 45 text then None else Some text
 
-abbrev pub form_in : Text → Option Form
+abbrev pub form_in : Text → Option Format
 form_in text =
     if bytes_eq text (codes "jsonl") then Some JsonLines
     else (if bytes_eq text (codes "sarif") then Some Sarif

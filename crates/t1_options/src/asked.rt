@@ -30,7 +30,7 @@ pub struct Options {
     /// What happens to files of waivers.
     pub waivers: Waivers,
     /// The file of known faults.
-    pub known_faults: KnownFaults,
+    pub known_faults: Baseline,
     /// Files that list fonts and folders, one a line. `-` is standard input.
     pub files_from: Vec<String>,
     /// Patterns of the names of fonts to omit.
@@ -38,7 +38,7 @@ pub struct Options {
     /// The part of the list of fonts to check. Without it: the whole list.
     pub shard: Option<Shard>,
     /// The form of the output, if it is for another program.
-    pub form: Option<Form>,
+    pub form: Option<Format>,
     /// The URL of the page of all rules.
     pub docs: Option<String>,
     /// The columns to which a line for each font and rule is cut. Without it: a line for each fault.
@@ -79,13 +79,13 @@ pub enum Reasons {
 
 /// The file of known faults, by its name.
 #[derive(Debug, Drop)]
-pub enum KnownFaults {
+pub enum Baseline {
     /// No file is named.
     Unnamed,
     /// Only lines beyond the known faults in this file are printed.
-    Beyond(String),
+    Compared(String),
     /// What is found becomes the known faults in this file.
-    Anew(String),
+    Updated(String),
 }
 
 /// A part of the list of fonts.
@@ -99,7 +99,7 @@ pub struct Shard {
 
 /// A form of output for another program.
 #[derive(Clone, Copy, Debug, PartialEq, Eq)]
-pub enum Form {
+pub enum Format {
     /// One object of JSON a line.
     JsonLines,
     /// A document of SARIF 2.1.0.

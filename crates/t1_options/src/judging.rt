@@ -10,7 +10,7 @@ ghost use Rattle.t1_options.specs.Settings.Finding.{files_by};
 ghost use Rattle.t1_options.specs.Settings.Reading.{settings_value};
 ghost use Rattle.t1_options.specs.Words.{AreAsked, AreFound, AreUnfound, AreWrong, IsUsageOr, usage_of_both, usage_with};
 
-use crate::asked::{KnownFaults, Options, Reasons, Waivers};
+use crate::asked::{Baseline, Options, Reasons, Waivers};
 use crate::checks::{choice_complaint, complaint_of, complaint_of_words, named_in};
 use crate::choices::{excepted, failing_of};
 use crate::complaint::{settings_text, text_of, usage_text};
@@ -243,17 +243,17 @@ fn reasons_of(given: &Given<'_>) -> Reasons
 }
 
 /// The file of known faults.
-fn known_faults(alloc: Global, given: &Given<'_>) -> Result<KnownFaults, AllocError>
+fn known_faults(alloc: Global, given: &Given<'_>) -> Result<Baseline, AllocError>
     ensures file { IfOk result (λ faults. file_of faults ≡ option_map (λ s. s.now) given.now.baseline) }
     ensures anew { IfOk result (λ faults. is_anew faults ≡ (given.now.update_baseline && is_some given.now.baseline)) }
 {
     let Some(file) = given.baseline else {
-        return Ok(KnownFaults::Unnamed);
+        return Ok(Baseline::Unnamed);
     };
     let file = String::from_str(alloc, file)?;
     if given.update_baseline {
-        Ok(KnownFaults::Anew(file))
+        Ok(Baseline::Updated(file))
     } else {
-        Ok(KnownFaults::Beyond(file))
+        Ok(Baseline::Compared(file))
     }
 }

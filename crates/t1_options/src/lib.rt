@@ -39,11 +39,11 @@ mod settings;
 mod texts;
 mod values;
 
-pub use asked::{Form, KnownFaults, Options, Reasons, Request, Shard, Waivers};
+pub use asked::{Baseline, Format, Options, Reasons, Request, Shard, Waivers};
 pub use command_line::{HELP, options};
 pub use laws::{
     codes_choose_rules, given_options_win, levels_choose_rules, options_go_together,
     rules_are_known, shards_are_parts, uses_count,
 };
-pub use settings::{Settings, settings_for};
+pub use settings::{Settings, settings_for, unread_text};
 pub use values::is_marked;

@@ -10,17 +10,16 @@ use crate::given::Given;
 use crate::settings::Settings;
 use crate::texts::texts_of;
 use std::alloc::{AllocError, Global};
+use t1_run::borrowed;
 
 /// The file of known faults that settings name. Where waivers are written there is no use for it.
 pub(crate) fn file_in<'a>(given: &Given<'_>, settings: &'a Settings) -> Option<&'a str>
     ensures { option_map (λ s. s.now) result ≡ file_in (given_value given.now) (settings_value settings.now) }
 {
     if given.write_waivers {
-        return None;
-    }
-    match &settings.baseline {
-        Some(file) => Some(file.as_str()),
-        None => None,
+        None
+    } else {
+        borrowed(&settings.baseline)
     }
 }
 

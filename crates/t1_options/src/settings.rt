@@ -7,5 +7,5 @@ mod paths;
 mod reading;
 mod values;
 
-pub use finding::settings_for;
+pub use finding::{settings_for, unread_text};
 pub use reading::Settings;

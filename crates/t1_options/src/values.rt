@@ -6,7 +6,7 @@ ghost use Rattle.t1_many.specs.Unchecked.{has_line_end};
 ghost use Rattle.t1_options.specs.Values.{begins, edition_in, file_in, form_in, is_marked, is_number, number_in, part_of, shard_in, shard_of, url_in};
 ghost use Rattle.t1_scan.specs.Bytes.{is_decimal_digit};
 
-use crate::asked::{Form, Shard};
+use crate::asked::{Format, Shard};
 use t1_char::Edition;
 
 /// The number of an option, if it is one.
@@ -31,7 +31,7 @@ pub(crate) fn baseline(value: Option<&str>) -> Option<&str>
 }
 
 /// The form of `--format`, if it is one.
-pub(crate) fn form(value: Option<&str>) -> Option<Form>
+pub(crate) fn form(value: Option<&str>) -> Option<Format>
     ensures { result ≡ option_and_then form_in (option_map (λ s. s.now) value.entry) }
 {
     form_in(value?)
@@ -132,15 +132,15 @@ fn url_in(text: &str) -> Option<&str>
 }
 
 /// A form of output.
-fn form_in(text: &str) -> Option<Form>
+fn form_in(text: &str) -> Option<Format>
     ensures { result ≡ form_in text.now }
 {
     if text == "jsonl" {
-        Some(Form::JsonLines)
+        Some(Format::JsonLines)
     } else if text == "sarif" {
-        Some(Form::Sarif)
+        Some(Format::Sarif)
     } else if text == "github" {
-        Some(Form::GitHub)
+        Some(Format::GitHub)
     } else {
         None
     }

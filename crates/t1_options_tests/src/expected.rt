@@ -3,7 +3,7 @@
 use crate::files::{File, Files};
 use std::alloc::Global;
 use t1_char::Edition;
-use t1_options::{Form, KnownFaults, Options, Reasons, Request, Shard, Waivers, options};
+use t1_options::{Baseline, Format, Options, Reasons, Request, Shard, Waivers, options};
 
 /// What options are expected, but for their rules.
 #[derive(Clone, Copy)]
@@ -18,7 +18,7 @@ pub(crate) struct Expected<'a> {
     pub(crate) files_from: &'a [&'a str],
     pub(crate) exclude: &'a [&'a str],
     pub(crate) shard: Option<Shard>,
-    pub(crate) form: Option<Form>,
+    pub(crate) form: Option<Format>,
     pub(crate) docs: Option<&'a str>,
     pub(crate) columns: Option<u32>,
     pub(crate) colour: bool,
@@ -65,11 +65,11 @@ fn text(text: &Option<String>) -> Option<&str> {
 }
 
 /// The file of known faults, and whether it is made anew.
-fn known_faults(faults: &KnownFaults) -> Option<(&str, bool)> {
+fn known_faults(faults: &Baseline) -> Option<(&str, bool)> {
     match faults {
-        KnownFaults::Unnamed => None,
-        KnownFaults::Beyond(file) => Some((file.as_str(), false)),
-        KnownFaults::Anew(file) => Some((file.as_str(), true)),
+        Baseline::Unnamed => None,
+        Baseline::Compared(file) => Some((file.as_str(), false)),
+        Baseline::Updated(file) => Some((file.as_str(), true)),
     }
 }
 

@@ -4,10 +4,10 @@ use std::alloc::Global;
 use std::test::Fail;
 use t1_io::{Broken, Fuse, Limit, Out};
 use t1_rules::Rule;
-use t1_summary::{Found, Tally, summary};
+use t1_summary::{FontClass, Tally, summary};
 
 /// The tally of fonts and lines.
-fn tally_of(founds: &[Found], lines: &[Rule]) -> Tally {
+fn tally_of(founds: &[FontClass], lines: &[Rule]) -> Tally {
     let mut tally = Tally::new();
     for found in founds {
         tally.add(*found);
@@ -32,7 +32,7 @@ fn printed(
 
 #[test]
 fn prints_one_font(rt: HostRuntime) -> Result<(), Fail> {
-    let tally = tally_of(&[Found::Clean], &[]);
+    let tally = tally_of(&[FontClass::Clean], &[]);
     let text = printed(rt.alloc(), &tally, None, false)?;
     assert!(rt;
         text.as_slice() == b"1 font: 1 clean, 0 with faults, 0 refused, 0 not checked\n".as_slice()
@@ -54,11 +54,11 @@ fn prints_no_font(rt: HostRuntime) -> Result<(), Fail> {
 fn prints_rules_by_lines_and_code(rt: HostRuntime) -> Result<(), Fail> {
     let tally = tally_of(
         &[
-            Found::Faulty,
-            Found::Clean,
-            Found::Unchecked,
-            Found::Refused,
-            Found::Faulty,
+            FontClass::Faulty,
+            FontClass::Clean,
+            FontClass::Unchecked,
+            FontClass::Refused,
+            FontClass::Faulty,
         ],
         &[
             Rule::H02,
@@ -88,7 +88,10 @@ fn prints_rules_by_lines_and_code(rt: HostRuntime) -> Result<(), Fail> {
 
 #[test]
 fn prints_known_faults(rt: HostRuntime) -> Result<(), Fail> {
-    let tally = tally_of(&[Found::Known, Found::Known, Found::Faulty], &[Rule::Z04]);
+    let tally = tally_of(
+        &[FontClass::Known, FontClass::Known, FontClass::Faulty],
+        &[Rule::Z04],
+    );
     let text = printed(rt.alloc(), &tally, None, true)?;
     let lines = b"\
 3 fonts: 0 clean, 2 with known faults alone, 1 with faults, 0 refused, 0 not checked
@@ -100,7 +103,7 @@ fn prints_known_faults(rt: HostRuntime) -> Result<(), Fail> {
 
 #[test]
 fn prints_rows_of_known_faults(rt: HostRuntime) -> Result<(), Fail> {
-    let tally = tally_of(&[Found::Clean, Found::Clean], &[]);
+    let tally = tally_of(&[FontClass::Clean, FontClass::Clean], &[]);
     for (rows, line) in [
         (0, b"known faults: 0 rows\n".as_slice()),
         (1, b"known faults: 1 row\n"),
@@ -120,7 +123,7 @@ fn prints_rows_of_known_faults(rt: HostRuntime) -> Result<(), Fail> {
 /// A number of seven digits fills its columns, and one of eight is wider.
 #[test]
 fn prints_large_numbers(rt: HostRuntime) -> Result<(), Fail> {
-    let mut tally = tally_of(&[Found::Faulty], &[]);
+    let mut tally = tally_of(&[FontClass::Faulty], &[]);
     for (rule, count) in [
         (Rule::F01, 1_234_567),
         (Rule::F02, 12_345_678),
@@ -144,7 +147,7 @@ fn prints_large_numbers(rt: HostRuntime) -> Result<(), Fail> {
 /// Where a write fails, a prefix went out.
 #[test]
 fn stops_where_a_write_fails(rt: HostRuntime) {
-    let tally = tally_of(&[Found::Clean], &[Rule::F01]);
+    let tally = tally_of(&[FontClass::Clean], &[Rule::F01]);
     let mut text = Vec::new(rt.alloc());
     let mut sink = Fuse::sink(Out::new(&mut text), Limit::Bytes(64));
     let failed = summary(&tally, None, false, &mut sink).is_err();

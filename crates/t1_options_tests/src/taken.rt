@@ -4,7 +4,7 @@ use crate::expected::{Expected, PLAIN, gives};
 use crate::files::{File, Files};
 use std::process::Abort;
 use t1_char::Edition;
-use t1_options::{Form, Reasons, Request, Shard, Waivers, options};
+use t1_options::{Format, Reasons, Request, Shard, Waivers, options};
 
 /// Words, and the options that they give.
 type Case = (&'static [&'static str], Expected<'static>);
@@ -199,14 +199,14 @@ const FORMS: &[Case] = &[
     (
         &["t1check-all", "--format", "jsonl", "a.pfb"],
         Expected {
-            form: Some(Form::JsonLines),
+            form: Some(Format::JsonLines),
             ..PLAIN
         },
     ),
     (
         &["t1check-all", "--format=github", "a.pfb"],
         Expected {
-            form: Some(Form::GitHub),
+            form: Some(Format::GitHub),
             ..PLAIN
         },
     ),
@@ -220,7 +220,7 @@ const FORMS: &[Case] = &[
             "sarif",
         ],
         Expected {
-            form: Some(Form::Sarif),
+            form: Some(Format::Sarif),
             docs: Some("https://example.org/RULES.md"),
             ..PLAIN
         },

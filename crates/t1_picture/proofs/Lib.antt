@@ -5,6 +5,5 @@ pub mod OutlineLayers
 pub mod PartSteps
 pub mod Runs
 pub mod Shown
-pub mod Written
 pub mod XmlCharacters
 pub mod XmlTexts

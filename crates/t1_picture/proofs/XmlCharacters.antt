@@ -6,7 +6,8 @@ use Rattle.std.proofs.lemmas.Str.{IsUtf8-from_is_utf8, NoCharPasses-append, NoCh
 use Rattle.std.specs.List.{AllByRecursion, flat_map, list_all}
 use Rattle.std.specs.Str.{NoCharPasses, NonePass, chars, is_utf8}
 use lib.Utf8.{encode, low_scalar, scalar, scalars}
-use Rattle.t1_forms.specs.Shown.{escaped, hexadecimal_digit, shown, shown_byte, shown_char}
+use Rattle.t1_forms.specs.Shown.{escaped, shown, shown_byte, shown_char}
+use Rattle.t1_reason_texts.specs.Names.{hexadecimal_digit}
 use Rattle.t1_picture.specs.Laws.{LegibleTextsAreFit, is_unfit}
 use Rattle.t1_picture.specs.Texts.{legible_char}
 

@@ -12,10 +12,10 @@ use Rattle.t1_picture.specs.declared.bands.Band.{Band}
 use Rattle.t1_picture.specs.declared.bands.Direction.{Direction}
 use Rattle.t1_picture.specs.declared.bands.Direction.TheVariants.{Across, Upright}
 use Rattle.t1_picture.specs.declared.bounds.Bounds.{Bounds}
-use Rattle.t1_decimals.specs.declared.decimals.Exact.{Exact}
+use Rattle.t1_reason_texts.specs.declared.decimals.Exact.{Exact}
 use Rattle.t1_picture.specs.declared.frame.Frame.{Frame}
 use Rattle.t1_picture.specs.Bounds.{kept, with_x, with_y}
-use Rattle.t1_decimals.specs.Decimals.{coordinate_of, exact_text, value_of}
+use Rattle.t1_reason_texts.specs.Decimals.{coordinate_of, exact_text, value_of}
 use Rattle.t1_picture.specs.Frames.{length_of}
 use Rattle.t1_rules.specs.declared.step_rules.stems.Stem.{Stem}
 use Rattle.t1_rules.specs.StepRules.Stems.{has_one_edge, lower, upper}

@@ -2,10 +2,10 @@
 use Rattle.std.specs.Prelude.{ℕ, zero, suc, ◌+◌, ◌-◌, ◌%◌, ◌^◌, min, ℤ, pos, ◌+ℤ◌, ◌-ℤ◌, ◌*ℤ◌, int_le, Bool, if◌then◌else◌}
 use Rattle.std.specs.Int.{int_max, int_shl, int_shr, int_wrapping_neg, w64}
 use Rattle.t1_picture.specs.declared.bounds.Bounds.{Bounds}
-use Rattle.t1_decimals.specs.declared.decimals.Exact.{Exact}
+use Rattle.t1_reason_texts.specs.declared.decimals.Exact.{Exact}
 use Rattle.t1_picture.specs.declared.frame.Frame.{Frame}
 use Rattle.t1_picture.specs.Bounds.{extent_of, kept}
-use Rattle.t1_decimals.specs.Decimals.{coordinate_of}
+use Rattle.t1_reason_texts.specs.Decimals.{coordinate_of}
 
 -- The most units that aren't above a number, and the fewest that aren't below it.
 abbrev pub count_below : ℤ → ℕ → ℤ

@@ -4,11 +4,11 @@ use Rattle.t1_outline.specs.declared.segment.Segment.{Segment}
 use Rattle.t1_outline.specs.declared.segment.Segment.TheVariants.{Move, Line, Curve, Close}
 use Rattle.t1_picture.specs.declared.bands.Band.{Band}
 use Rattle.t1_picture.specs.declared.bounds.Bounds.{Bounds}
-use Rattle.t1_decimals.specs.declared.decimals.Exact.{Exact}
+use Rattle.t1_reason_texts.specs.declared.decimals.Exact.{Exact}
 use Rattle.t1_picture.specs.declared.layers.Layers.{Layers}
 use Rattle.t1_picture.specs.declared.subpath.Subpath.{Subpath}
 use Rattle.t1_picture.specs.Bounds.{origin_alone, with_point}
-use Rattle.t1_decimals.specs.Decimals.{coordinate_of, exact_text, point_text}
+use Rattle.t1_reason_texts.specs.Decimals.{coordinate_of, exact_text, point_text}
 use Rattle.t1_picture.specs.Subpaths.{gone_on, no_subpath, placed}
 use Rattle.t1_rules.specs.declared.step_rules.flex.Point.{Point}
 

@@ -7,12 +7,12 @@ use Rattle.t1_font.specs.Fonts.{FontValue}
 use Rattle.t1_outline.specs.declared.composition.Metrics.{Metrics}
 use Rattle.t1_picture.specs.declared.bands.Band.{Band}
 use Rattle.t1_picture.specs.declared.bounds.Bounds.{Bounds}
-use Rattle.t1_decimals.specs.declared.decimals.Exact.{Exact}
+use Rattle.t1_reason_texts.specs.declared.decimals.Exact.{Exact}
 use Rattle.t1_picture.specs.declared.frame.Frame.{Frame}
 use Rattle.t1_picture.specs.declared.marks.FaultMark.{FaultMark}
 use Rattle.t1_picture.specs.Bands.{band_text, upright_line, with_band, zones_in}
 use Rattle.t1_picture.specs.Bounds.{kept, with_point, with_x}
-use Rattle.t1_decimals.specs.Decimals.{coordinate_of, exact_text}
+use Rattle.t1_reason_texts.specs.Decimals.{coordinate_of, exact_text}
 use Rattle.t1_picture.specs.Drawings.{DrawingView, drawing_of}
 use Rattle.t1_picture.specs.Frames.{frame_of, height_of, legend_left_of, legend_line_of, length_of, opposite, units_of, width_of}
 use Rattle.t1_picture.specs.Layers.{LayersView, mark_text}

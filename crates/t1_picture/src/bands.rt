@@ -9,8 +9,8 @@ use crate::bounds::Bounds;
 use crate::frame::Frame;
 use std::alloc::AllocError;
 use t1_char::{Edition, UNIT};
-use t1_decimals::{Exact, coordinate, value};
 use t1_font::{Entry, Font, Key};
+use t1_reason_texts::{Exact, coordinate, value};
 use t1_rules::Stem;
 
 /// The width that means one edge, the upper or the right one.

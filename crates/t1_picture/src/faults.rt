@@ -10,13 +10,13 @@ ghost use Rattle.t1_picture.specs.Views.{CanBeDrawn};
 ghost use Rattle.t1_report.specs.Faults.{FaultValue, fault_value};
 ghost use Rattle.t1_report.specs.Lines.{IsInFont, line_of};
 
-use crate::line::WrittenLine;
 use crate::marks::{FaultMark, Marks};
 use crate::run::Run;
 use crate::texts::{add_line, written_line};
 use crate::view::View;
 use std::alloc::{AllocError, Global};
 use t1_font::Font;
+use t1_forms::Text;
 use t1_reason_texts::{ReasonText, says_more};
 use t1_reasons::{GlyphReasons, Reason};
 use t1_report::{Fault, UnitFaults, Waivers, write_fault};
@@ -198,7 +198,7 @@ fn line_of(alloc: Global, view: &View<'_>, fault: &Fault) -> Result<String, Allo
     ensures { IfOk result (λ line. string_bytes line
         ≡ legible_line (line_of view.now.font.now view.now.waivers.now (fault_value fault.now))) }
 {
-    let mut line = WrittenLine::new(alloc);
+    let mut line = Text::new(alloc);
     if write_fault(&mut line, view.font, view.waivers, fault).is_err() {
         return Err(AllocError);
     }

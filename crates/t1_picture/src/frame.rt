@@ -5,7 +5,7 @@ ghost use Rattle.t1_picture.specs.Bounds.{kept};
 ghost use Rattle.t1_picture.specs.Frames.{count_above, count_below, count_of, edge_above, edge_below, fits, frame_by, frame_of, frame_with, height_of, legend_left_of, legend_line_of, length_of, opposite, power_for, units_of, width_of};
 
 use crate::bounds::Bounds;
-use t1_decimals::{Exact, coordinate};
+use t1_reason_texts::{Exact, coordinate};
 
 /// How many binary places a coordinate has.
 const PLACES: u32 = 16;

@@ -13,9 +13,9 @@ use crate::layers::{Layers, write_mark};
 use crate::marks::FaultMark;
 use crate::texts::{END, push};
 use std::alloc::AllocError;
-use t1_decimals::{Exact, coordinate};
 use t1_font::Font;
 use t1_outline::Metrics;
+use t1_reason_texts::{Exact, coordinate};
 
 /// The group of the zones, which the frame cuts.
 const ZONES: &str =

@@ -8,7 +8,7 @@ use crate::frame::Frame;
 use crate::marks::MARK;
 use crate::texts::{push, push_escaped};
 use std::alloc::AllocError;
-use t1_decimals::Exact;
+use t1_reason_texts::Exact;
 
 /// What is before the size.
 const HEAD: &str = r#"<?xml version="1.0" encoding="UTF-8"?>

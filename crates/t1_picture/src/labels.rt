@@ -10,7 +10,7 @@ use crate::legend::legend;
 use crate::marks::{FaultMark, MARK};
 use crate::texts::{END, push, push_escaped};
 use std::alloc::AllocError;
-use t1_decimals::{Exact, coordinate};
+use t1_reason_texts::{Exact, coordinate};
 
 /// The height of letters.
 const LETTERS: i64 = 16;

@@ -10,8 +10,8 @@ use crate::bounds::Bounds;
 use crate::subpath::{Subpath, placed};
 use std::alloc::{AllocError, Global};
 use t1_char::Edition;
-use t1_decimals::{Coordinates, Exact, coordinate};
 use t1_outline::Segment;
+use t1_reason_texts::{Coordinates, Exact, coordinate};
 use t1_rules::{Point, Stem};
 
 /// The layers of a drawing.

@@ -32,7 +32,6 @@ mod labels;
 mod laws;
 mod layers;
 mod legend;
-mod line;
 mod marks;
 mod parts;
 mod run;

@@ -18,13 +18,13 @@ ghost use Rattle.t1_rules.specs.StepRules.Stems.{hint_set, lies_across, stands_u
 
 use crate::bands::Direction;
 use crate::layers::Layers;
-use crate::line::WrittenLine;
 use crate::run::{Next, Run};
 use crate::subpath::behind;
 use crate::texts::{add_line, written_line};
 use std::alloc::{AllocError, Global};
 use t1_char::{Edition, Step};
 use t1_font::Font;
+use t1_forms::Text;
 use t1_outline::{Composition, DrawnStep, Part};
 use t1_report::write_step;
 
@@ -284,7 +284,7 @@ fn is_reached(stop: Stop) -> bool
 fn step_line(alloc: Global, step: &Step) -> Result<String, AllocError>
     ensures { IfOk result (λ line. string_bytes line ≡ legible_line (step_line (step_value step.now))) }
 {
-    let mut line = WrittenLine::new(alloc);
+    let mut line = Text::new(alloc);
     if write_step(&mut line, step).is_err() {
         return Err(AllocError);
     }

@@ -12,17 +12,17 @@ use Rattle.t1_pieces.specs.Drawings.{IsDrawing, IsReadText, IsRefusedBy, IsTextI
 use Rattle.t1_pieces.specs.Drawings.IsDrawn.{picture}
 use Rattle.t1_pieces.specs.Drawings.IsRefused.{refused}
 use Rattle.t1_pieces.specs.Reading.{IsFailureFor}
-use Rattle.t1_pieces.specs.declared.drawn.Drawn.{Drawn}
+use Rattle.t1_pieces.specs.declared.picture_result.PictureResult.{PictureResult}
 
 pub text_drawn : (edition : Edition) (name : List ℕ) (step : Option ℕ) (read : Result FontValue Reason) (waived : Result (List Waiver) Reason)
-    (text room : List ℕ) (drawn : Drawn) → IsReadText edition name step read waived (Some text) → IsTextIn text room drawn
+    (text room : List ℕ) (drawn : PictureResult) → IsReadText edition name step read waived (Some text) → IsTextIn text room drawn
     → IsDrawing edition name step read waived room drawn
 text_drawn edition name step read waived text room drawn (font, (is, (waivers, (are, has)))) fits =
     subst (λ (r : Result FontValue Reason). IsDrawing edition name step r waived room drawn) (sym is)
     (subst (λ (w : Result (List Waiver) Reason). IsDrawing edition name step (Ok font) w room drawn) (sym are) (picture text has fits))
 
 pub refused_drawn : (edition : Edition) (name : List ℕ) (step : Option ℕ) (read : Result FontValue Reason) (waived : Result (List Waiver) Reason)
-    (room : List ℕ) (drawn : Drawn) (failure : Failure) (code : RefusalCode) → IsFailureFor read waived failure → failure ≡ Refused code
+    (room : List ℕ) (drawn : PictureResult) (failure : Failure) (code : RefusalCode) → IsFailureFor read waived failure → failure ≡ Refused code
     → IsRefusedBy code room drawn → IsDrawing edition name step read waived room drawn
 refused_drawn edition name step (Err reason) waived room drawn failure code (inl so) is by = refused code (coded reason code (sym so ∙ is)) by
 refused_drawn edition name step (Err reason) waived room drawn failure code (inr memory) is by = absurd (never failure code is memory)

@@ -5,7 +5,7 @@ use Rattle.std.proofs.lemmas.List.{append-nil}
 use Rattle.std.specs.List.{concat}
 use Rattle.serde_json.specs.Written.{compact_text}
 use Rattle.t1_forms.specs.Objects.{object_of}
-use Rattle.t1_many_forms.specs.Formatting.{told_fault}
+use Rattle.t1_printers.specs.Formatting.{told_fault}
 use Rattle.t1_report.specs.Checked.{CheckedFont}
 use Rattle.t1_report.specs.Faults.{FaultValue}
 use Rattle.t1_report.specs.Laws.Walks.{LeadTo}

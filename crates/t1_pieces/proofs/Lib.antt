@@ -6,3 +6,4 @@ pub mod GivenLines
 pub mod Objects
 pub mod PieceLaws
 pub mod Readings
+pub mod T1checkLaws

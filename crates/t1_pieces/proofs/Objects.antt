@@ -3,9 +3,9 @@ use Rattle.std.proofs.Common.{◌≡◌, ℕ, List, [], Option, None, Some, subs
 use Rattle.std.specs.Io.KnownBytes.{Appends}
 use Rattle.t1_forms.specs.Objects.{object_line}
 use Rattle.t1_forms.specs.Tellings.{ToldValue}
-use Rattle.t1_many_forms.specs.Formatting.{Formatting, Gives}
-use Rattle.t1_many_forms.specs.Formatting.Gives.{given, no_memory}
-use Rattle.t1_many_forms.specs.JsonLines.{object_written}
+use Rattle.t1_printers.specs.Formatting.{Formatting, Gives}
+use Rattle.t1_printers.specs.Formatting.Gives.{given, no_memory}
+use Rattle.t1_printers.specs.JsonLines.{object_written}
 
 appended : (old new : Option (List ℕ)) (text n : List ℕ) → Appends old new text → old ≡ Some [] → new ≡ Some n → n ≡ text
 appended old new text n appends start end =

@@ -9,7 +9,7 @@ use Rattle.t1_forms.specs.SarifObjects.{unit_of}
 use Rattle.t1_forms.specs.Tellings.{ToldValue, what_spelled}
 use Rattle.t1_lines.specs.Lines.{line_in, of_fault}
 use Rattle.t1_refusals.specs.declared.refusal.Reason.{Reason}
-use Rattle.t1_many_forms.specs.Formatting.{told_fault}
+use Rattle.t1_printers.specs.Formatting.{told_fault}
 use Rattle.t1_report.specs.Checked.{CheckedFont, checked}
 use Rattle.t1_report.specs.Faults.{FaultValue}
 use Rattle.t1_report.specs.Laws.Walks.{LeadTo}

@@ -9,11 +9,11 @@ use Rattle.t1_refusals.specs.declared.refusal.RefusalCode.{RefusalCode}
 use Rattle.t1_picture.specs.Pictures.{IsPictureOf}
 use Rattle.t1_report.specs.Waivers.{Waiver}
 use Rattle.t1_rules.specs.Components.{glyph_named}
-use Rattle.t1_pieces.specs.declared.drawn.Drawn.{Drawn}
-use Rattle.t1_pieces.specs.declared.drawn.Drawn.TheVariants.{Memory, NoGlyph, NoRoom, Picture, Refused}
+use Rattle.t1_pieces.specs.declared.picture_result.PictureResult.{PictureResult}
+use Rattle.t1_pieces.specs.declared.picture_result.PictureResult.TheVariants.{Memory, NoGlyph, NoRoom, Picture, Refused}
 
 -- A text is the first bytes of a room; or the room doesn't hold it.
-abbrev pub IsTextIn : List ℕ → List ℕ → Drawn → Type 0
+abbrev pub IsTextIn : List ℕ → List ℕ → PictureResult → Type 0
 IsTextIn text room (Picture n) = (n ≤ length room) × (take n room ≡ text)
 IsTextIn text room (NoRoom n) = (n ≡ length text) × (length room < n)
 IsTextIn text room (Refused n) = ⊥
@@ -21,7 +21,7 @@ IsTextIn text room NoGlyph = ⊥
 IsTextIn text room Memory = ⊥
 
 -- The text of a refusal is, the code first; or the room doesn't hold it.
-abbrev pub IsRefusedBy : RefusalCode → List ℕ → Drawn → Type 0
+abbrev pub IsRefusedBy : RefusalCode → List ℕ → PictureResult → Type 0
 IsRefusedBy code room (Picture n) = ⊥
 IsRefusedBy code room (NoRoom n) = (n ≡ length (refusal_text_of code)) × (length room < n)
 IsRefusedBy code room (Refused n) = (n ≤ length room) × (take n room ≡ refusal_text_of code)
@@ -40,7 +40,7 @@ IsText edition name step font waivers text = IsTextAt edition step font waivers 
 
 -- What is handed over of a font and waivers that are read.
 pub data IsDrawn (edition : Edition) (name : List ℕ) (step : Option ℕ) (font : FontValue) (waivers : List Waiver) (room : List ℕ)
-    (drawn : Drawn) : Type 0 where
+    (drawn : PictureResult) : Type 0 where
   picture :
       (text : List ℕ) → IsText edition name step font waivers (Some text) → IsTextIn text room drawn
       → IsDrawn edition name step font waivers room drawn
@@ -48,12 +48,12 @@ pub data IsDrawn (edition : Edition) (name : List ℕ) (step : Option ℕ) (font
   no_memory : drawn ≡ Memory → IsDrawn edition name step font waivers room drawn
 
 -- They are refused for this reason, or memory ran out.
-pub data IsRefused (reason : Reason) (room : List ℕ) (drawn : Drawn) : Type 0 where
+pub data IsRefused (reason : Reason) (room : List ℕ) (drawn : PictureResult) : Type 0 where
   refused : (code : RefusalCode) → refusal_code_of reason ≡ Some code → IsRefusedBy code room drawn → IsRefused reason room drawn
   no_memory : drawn ≡ Memory → IsRefused reason room drawn
 
 -- By what the font and the waivers are read as: why the font isn't read comes first.
-abbrev pub IsDrawing : Edition → List ℕ → Option ℕ → Result FontValue Reason → Result (List Waiver) Reason → List ℕ → Drawn → Type 0
+abbrev pub IsDrawing : Edition → List ℕ → Option ℕ → Result FontValue Reason → Result (List Waiver) Reason → List ℕ → PictureResult → Type 0
 IsDrawing edition name step (Err reason) waivers room drawn = IsRefused reason room drawn
 IsDrawing edition name step (Ok font) (Err reason) room drawn = IsRefused reason room drawn
 IsDrawing edition name step (Ok font) (Ok waivers) room drawn = IsDrawn edition name step font waivers room drawn

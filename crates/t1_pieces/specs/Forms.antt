@@ -2,7 +2,7 @@
 use Rattle.std.specs.Prelude.{ℕ, true, List}
 use Rattle.std.specs.List.{flat_map}
 use Rattle.t1_forms.specs.Objects.{object_line}
-use Rattle.t1_many_forms.specs.Formatting.{told_fault}
+use Rattle.t1_printers.specs.Formatting.{told_fault}
 use Rattle.t1_report.specs.Checked.{CheckedFont}
 use Rattle.t1_report.specs.Faults.{FaultValue}
 use Rattle.t1_report.specs.Lines.{line_of}

@@ -6,3 +6,4 @@ pub mod Forms
 pub mod Laws
 pub mod Pieces
 pub mod Reading
+pub mod T1check

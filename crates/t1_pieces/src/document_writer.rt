@@ -13,13 +13,12 @@ ghost use Rattle.t1_pieces.specs.Documents.{result_of, subject_for, told_of};
 use crate::documents::DocumentRequest;
 use std::alloc::{AllocError, Global};
 use t1_font::Font;
-use t1_forms::{RESULT_COUNTS, Sarif};
-use t1_lines::Line;
-use t1_many::Form;
-use t1_many_forms::{Formatted, fault_line};
+use t1_forms::{RESULT_COUNTS, Sarif, Text};
+use t1_lines::{Line, fault_line};
+use t1_many::Printer;
+use t1_printers::Formatted;
 use t1_reasons::ReportReasons;
 use t1_report::{Fault, Waivers};
-use t1_text::Text;
 
 /// Writes one part of a document after another, each in the place of the one before.
 #[derive(Drop)]

@@ -6,10 +6,10 @@ ghost use Rattle.t1_run.specs.WaiverFiles.{waivers_in};
 ghost use Rattle.t1_pieces.specs.Drawings.{IsDrawing, IsReadText, IsRefusedBy, IsTextIn, IsWaivedText};
 ghost use Rattle.t1_pieces.specs.Reading.{IsFailureFor, IsFailureOf};
 
-use crate::drawn::Drawn;
+use crate::picture_request::PictureRequest;
+use crate::picture_result::PictureResult;
 use crate::reading::{open, read_waivers};
 use crate::room::put_after;
-use crate::wish::Wish;
 use std::alloc::Global;
 use t1_font::Font;
 use t1_picture::{View, picture as draw};
@@ -18,74 +18,78 @@ use t1_rules::{Sidebearings, glyph_named};
 use t1_run::Failure;
 
 /// Hands over the picture of a glyph, as t1draw makes it.
-pub fn picture(alloc: Global, wish: &Wish<'_>, room: &mut [u8]) -> Drawn
-    ensures drawing { IsDrawing wish.now.edition wish.now.glyph.now wish.now.step (font_of wish.now.font.now)
-        (waivers_in wish.now.waivers.now) room.new result }
+pub fn picture(alloc: Global, request: &PictureRequest<'_>, room: &mut [u8]) -> PictureResult
+    ensures drawing { IsDrawing request.now.edition request.now.glyph.now request.now.step (font_of request.now.font.now)
+        (waivers_in request.now.waivers.now) room.new result }
     ensures length { length room.new ≡ length room.old }
 {
-    match text_of_file(alloc, wish) {
+    match text_of_file(alloc, request) {
         Ok(Some(text)) => put_text(text.as_bytes(), room),
-        Ok(None) => Drawn::NoGlyph,
+        Ok(None) => PictureResult::NoGlyph,
         Err(Failure::Refused(code)) => put_refusal(code, room),
-        Err(_) => Drawn::Memory,
+        Err(_) => PictureResult::Memory,
     }
 }
 
 /// Puts the text of a picture into a room.
-fn put_text(text: &[u8], room: &mut [u8]) -> Drawn
+fn put_text(text: &[u8], room: &mut [u8]) -> PictureResult
     ensures text { IsTextIn text.now room.new result }
     ensures length { length room.new ≡ length room.old }
 {
     if text.len() > room.len() {
-        return Drawn::NoRoom(text.len());
+        return PictureResult::NoRoom(text.len());
     }
     put_after(room, 0, text);
-    Drawn::Picture(text.len())
+    PictureResult::Picture(text.len())
 }
 
 /// Puts the text of a refusal into a room.
-fn put_refusal(code: RefusalCode, room: &mut [u8]) -> Drawn
+fn put_refusal(code: RefusalCode, room: &mut [u8]) -> PictureResult
     ensures text { IsRefusedBy code room.new result }
     ensures length { length room.new ≡ length room.old }
 {
     let text = refusal_text(code).as_bytes();
     if text.len() > room.len() {
-        return Drawn::NoRoom(text.len());
+        return PictureResult::NoRoom(text.len());
     }
     put_after(room, 0, text);
-    Drawn::Refused(text.len())
+    PictureResult::Refused(text.len())
 }
 
 /// Reads the font, and draws the glyph: None where it has none of the name.
-fn text_of_file(alloc: Global, wish: &Wish<'_>) -> Result<Option<String>, Failure>
-    ensures text { IfOk result (λ text. IsReadText wish.now.edition wish.now.glyph.now wish.now.step (font_of wish.now.font.now)
-        (waivers_in wish.now.waivers.now) (option_map string_bytes text)) }
-    ensures failed { IfErr result (IsFailureFor (font_of wish.now.font.now) (waivers_in wish.now.waivers.now)) }
+fn text_of_file(alloc: Global, request: &PictureRequest<'_>) -> Result<Option<String>, Failure>
+    ensures text { IfOk result (λ text. IsReadText request.now.edition request.now.glyph.now request.now.step (font_of request.now.font.now)
+        (waivers_in request.now.waivers.now) (option_map string_bytes text)) }
+    ensures failed { IfErr result (IsFailureFor (font_of request.now.font.now) (waivers_in request.now.waivers.now)) }
 {
-    let mut file = open(alloc, wish.font)?;
+    let mut file = open(alloc, request.font)?;
     let font = file.font(alloc)?;
-    let text = text_of_font(alloc, &font, wish);
+    let text = text_of_font(alloc, &font, request);
     font.let_go();
     text
 }
 
 /// Reads the waivers, and draws the glyph.
-fn text_of_font(alloc: Global, font: &Font<'_>, wish: &Wish<'_>) -> Result<Option<String>, Failure>
-    ensures text { IfOk result (λ text. IsWaivedText wish.now.edition wish.now.glyph.now wish.now.step font.now
-        (waivers_in wish.now.waivers.now) (option_map string_bytes text)) }
-    ensures failed { IfErr result (IsFailureOf (waivers_in wish.now.waivers.now)) }
+fn text_of_font(
+    alloc: Global,
+    font: &Font<'_>,
+    request: &PictureRequest<'_>,
+) -> Result<Option<String>, Failure>
+    ensures text { IfOk result (λ text. IsWaivedText request.now.edition request.now.glyph.now request.now.step font.now
+        (waivers_in request.now.waivers.now) (option_map string_bytes text)) }
+    ensures failed { IfErr result (IsFailureOf (waivers_in request.now.waivers.now)) }
 {
-    let waivers = read_waivers(alloc, wish.waivers)?;
-    let Some(glyph) = glyph_named(font, wish.glyph) else {
+    let waivers = read_waivers(alloc, request.waivers)?;
+    let Some(glyph) = glyph_named(font, request.glyph) else {
         return Ok(None);
     };
-    let sidebearings = Sidebearings::prepare(alloc, font, wish.edition)?;
+    let sidebearings = Sidebearings::prepare(alloc, font, request.edition)?;
     let view = View {
         font: &*font,
         sidebearings: &sidebearings,
         waivers: &waivers,
         glyph,
-        step: wish.step,
+        step: request.step,
     };
     Ok(Some(draw(alloc, &view)?))
 }

@@ -115,32 +115,43 @@ fn fill_opened(
         used = text.len();
         at.stage = Stage::Beginning;
     }
-    fill_results(writer, font, waivers, walk, reached, at, used, room)
+    let filled = Filled { at, used };
+    fill_results(writer, font, waivers, walk, reached, filled, room)
 }
 
-/// Hands over results after so many bytes of a room, which lead to a place.
+/// How far a room is filled.
+#[derive(Clone, Copy)]
+struct Filled {
+    /// The place to which its bytes lead.
+    at: Reached,
+    /// How many bytes there are.
+    used: usize,
+}
+
+/// Hands over results after the bytes with which a room is filled.
 fn fill_results(
     mut writer: DocumentWriter<'_>,
     font: &Font<'_>,
     waivers: &Waivers<'_>,
     mut walk: Walk<'_>,
     reached: &mut Reached,
-    mut at: Reached,
-    mut used: usize,
+    filled: Filled,
     room: &mut [u8],
 ) -> Piece
     requires font { walk.font.value ≡ font.now }
     requires reasons { writer.reasons ≡ walk.font }
     requires waivers { walk.waivers ≡ waivers.now }
-    requires within { used ≤ length room.old }
-    requires start { used ≡ 0 → at ≡ reached.old }
-    requires begun { ¬ (at.stage ≡ Nothing) }
-    ensures rest { StandsFor (subject_for writer.entry.request.now walk.entry.font waivers.now) at
+    requires within { filled.used ≤ length room.old }
+    requires start { filled.used ≡ 0 → filled.at ≡ reached.old }
+    requires begun { ¬ (filled.at.stage ≡ Nothing) }
+    ensures rest { StandsFor (subject_for writer.entry.request.now walk.entry.font waivers.now) filled.at
         (sarif_state writer.entry.results.formatter) walk.entry.mark
-        → IsRestOf (subject_for writer.entry.request.now walk.entry.font waivers.now) (take used room.old)
-        (sarif_state writer.entry.results.formatter) walk.entry.mark at reached.old reached.new room.new result }
+        → IsRestOf (subject_for writer.entry.request.now walk.entry.font waivers.now) (take filled.used room.old)
+        (sarif_state writer.entry.results.formatter) walk.entry.mark filled.at reached.old reached.new room.new result }
     ensures length { length room.new ≡ length room.old }
 {
+    let mut at = filled.at;
+    let mut used = filled.used;
     loop {
         let before = walk.mark();
         let Some(fault) = walk.next() else {

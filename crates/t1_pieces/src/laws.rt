@@ -3,8 +3,9 @@
 
 ghost use Rattle.t1_pieces.specs.DocumentLaws.{DocumentCallsEnd, JoinedAreTheDocument, PartsFit};
 ghost use Rattle.t1_pieces.specs.Laws.{CallsEnd, JoinedAreTheReport, LinesFit};
+ghost use Rattle.t1_pieces.specs.T1check.{T1checkRefusesThem, T1checkWritesThem};
 
-use t1_report::marks_count_the_faults_given;
+use t1_report::{a_font_has_one_report, marks_count_the_faults_given};
 
 /// What is handed over from the mark of four zeros on, until no line is left, is the report. A room that holds each line
 /// of the report is never too small. There is at most one call more than the report has faults.
@@ -24,4 +25,12 @@ pub fn pieces_are_the_document()
     ensures end { DocumentCallsEnd }
 {
     marks_count_the_faults_given();
+}
+
+/// Of the same bytes t1check writes the lines that are handed over, or refuses them by the same code and text.
+pub fn t1check_writes_the_same()
+    ensures lines { T1checkWritesThem }
+    ensures refusals { T1checkRefusesThem }
+{
+    a_font_has_one_report();
 }

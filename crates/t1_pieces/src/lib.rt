@@ -10,7 +10,8 @@
 //! - For rooms that hold each line of the report, the pieces joined are the report ([`pieces_are_the_report`]). For those
 //!   that hold each part of a document, they are the document ([`pieces_are_the_document`]).
 //! - A room that doesn't hold the next line or part leaves the mark, or the place, as it was.
-//! - A font or waivers are refused exactly where t1check refuses them, by the same code and text.
+//! - Of the same bytes t1check, asked for a whole report with waivers, writes the same lines; and a font or waivers are refused exactly where
+//!   t1check refuses them, by the same code and text ([`t1check_writes_the_same`]).
 //! - A picture is the one that t1draw makes. For a room that doesn't hold it the size is returned.
 //! - Memory doesn't grow with the number of lines.
 #![tactic(auto)]
@@ -18,27 +19,27 @@
 mod document_writer;
 mod documents;
 mod drawing;
-mod drawn;
 mod filling;
 mod filling_documents;
 mod form;
 mod laws;
+mod picture_request;
+mod picture_result;
 mod piece;
 mod reading;
 mod refusal;
 mod request;
 mod room;
 mod stage;
-mod wish;
 mod writer;
 
 pub use documents::{DocumentRequest, document};
 pub use drawing::picture;
-pub use drawn::Drawn;
 pub use form::Form;
-pub use laws::{pieces_are_the_document, pieces_are_the_report};
+pub use laws::{pieces_are_the_document, pieces_are_the_report, t1check_writes_the_same};
+pub use picture_request::PictureRequest;
+pub use picture_result::PictureResult;
 pub use piece::Piece;
 pub use reading::lines;
 pub use request::Request;
 pub use stage::{Reached, Stage};
-pub use wish::Wish;

@@ -10,12 +10,12 @@ ghost use Rattle.t1_pieces.specs.Forms.{line_as};
 use crate::form::Form;
 use std::alloc::{AllocError, Global};
 use t1_font::Font;
-use t1_many::Form as LineForm;
-use t1_many_forms::{Formatted, JsonLines};
+use t1_forms::Text;
+use t1_many::Printer;
+use t1_printers::{Formatted, JsonLines};
 use t1_reasons::ReportReasons;
 use t1_report::{Fault, Waivers, write_fault};
 use t1_rules::Sidebearings;
-use t1_text::Text;
 
 /// Writes one line after another, each in the place of the one before.
 #[derive(Drop)]

@@ -8,8 +8,7 @@ use Rattle.std.proofs.Math.Nat.{mod-lt}
 use Rattle.t1_char.specs.declared.command.Command.{Command}
 use Rattle.t1_char.specs.declared.command.Command.TheVariants.{Hstem}
 use Rattle.t1_char.specs.Commands.{name_of}
-use Rattle.t1_decimals.specs.Decimals.{decimal_by, fraction, places}
-use Rattle.t1_reason_texts.specs.Decimals.{wide_by, wide_fraction}
+use Rattle.t1_reason_texts.specs.Decimals.{decimal_by, fraction, places}
 use Rattle.t1_reason_texts.specs.Laws.{is_plain}
 use Rattle.t1_reason_texts.specs.Names.{hexadecimal_digit, is_shown, shown_byte, shown_name, shown_within, width_of}
 
@@ -55,23 +54,12 @@ plain_fraction : (one rest : ℕ) → list_all is_plain (fraction one rest) ≡ 
 plain_fraction one rest =
     elim (cases_Bool (rest == 0)) [
       | inl e ↦ rw e refl
-      | inr e ↦ rw e (plain_places one 16 rest)
-    ]
-
-plain_wide_fraction : (one rest : ℕ) → list_all is_plain (wide_fraction one rest) ≡ true
-plain_wide_fraction one rest =
-    elim (cases_Bool (rest == 0)) [
-      | inl e ↦ rw e refl
       | inr e ↦ rw e (plain_places one 18 rest)
     ]
 
 pub plain_by : (one : ℕ) (z : ℤ) → list_all is_plain (decimal_by one z) ≡ true
 unfolding decimal_by
 plain_by one z = simp (list_all-append is_plain, plain_sign, plain_decimal, plain_fraction)
-
-pub plain_wide : (one : ℕ) (z : ℤ) → list_all is_plain (wide_by one z) ≡ true
-unfolding wide_by
-plain_wide one z = simp (list_all-append is_plain, plain_sign, plain_decimal, plain_wide_fraction)
 
 pub plain_command : (command : Command) → list_all is_plain (name_of command) ≡ true
 plain_command Hstem = refl

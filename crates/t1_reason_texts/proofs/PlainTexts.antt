@@ -24,7 +24,7 @@ use Rattle.t1_rules.specs.declared.rule.Rule.{Rule}
 use Rattle.t1_rules.specs.declared.step_rules.flex.Point.{Point}
 use Rattle.t1_rules.specs.declared.step_rules.stems.Stem.{Stem as OneStem}
 use Rattle.t1_rules.specs.declared.rule.Rule.TheVariants.{F03, K01, K03, O03, W02, X02}
-use Rattle.t1_decimals.specs.Decimals.{point_text}
+use Rattle.t1_reason_texts.specs.Decimals.{point_text}
 use Rattle.t1_reason_texts.specs.FontTexts.{code_names_text, counts_numbers, encoded_name, entry_name, entry_needed, entry_text, features_text, form_text, found_text, glyphs_text, ids_text, kind_text, past_words, several_text, subr_entry_text, twice_words, two_features_text, unused_text, value_text, wanted_words}
 use Rattle.t1_reason_texts.specs.Laws.{AreOneLine, is_plain}
 use Rattle.t1_reason_texts.specs.SeacTexts.{both_text, code_text, is_meant, meant_text, name_of_code, name_words, named_code_text, sidebearings_text}
@@ -32,7 +32,7 @@ use Rattle.t1_reason_texts.specs.StepTexts.{argument_text, arguments_there_text,
 use Rattle.t1_reason_texts.specs.Texts.{reason_text}
 use Rattle.t1_reason_texts.specs.Words.{are_text, arguments_text, bytes_text, moves_text, numbers_text, points_text}
 use Rattle.t1_reason_texts.specs.ZoneTexts.{above_text, apart_by, below_one, below_text, does_words, edges_text, entry_does, falling_text, gap_text, height_text, meets_text, needed_text, too_many_text, width_text, zone_text, zones_text}
-use Rattle.t1_reason_texts.proofs.PlainParts.{append, either_same, plain_by, plain_command, plain_decimal, plain_either, plain_name, plain_signed, plain_wide}
+use Rattle.t1_reason_texts.proofs.PlainParts.{append, either_same, plain_by, plain_command, plain_decimal, plain_either, plain_name, plain_signed}
 
 -- ---- words
 
@@ -149,11 +149,11 @@ plain_span stem = simp (list_all-append is_plain, plain_by)
 
 plain_stems : (own : OneStem) (other : SetStem) → list_all is_plain (stems_text own other) ≡ true
 unfolding stems_text
-plain_stems own other = simp (plain_either, list_all-append is_plain, plain_by, plain_decimal, plain_wide, either_same)
+plain_stems own other = simp (plain_either, list_all-append is_plain, plain_by, plain_decimal, either_same)
 
 plain_middles : (one two three : OneStem) → list_all is_plain (middles_text one two three) ≡ true
 unfolding middles_text
-plain_middles one two three = simp (list_all-append is_plain, plain_wide)
+plain_middles one two three = simp (list_all-append is_plain, plain_by)
 
 plain_widths : (one two three : OneStem) → list_all is_plain (widths_text one two three) ≡ true
 unfolding widths_text
@@ -168,7 +168,7 @@ plain_three one two three = simp (list_all-append is_plain, plain_widths, plain_
 
 plain_middle : (one three : OneStem) → list_all is_plain (middle_text one three) ≡ true
 unfolding middle_text
-plain_middle one three = simp (list_all-append is_plain, plain_wide)
+plain_middle one three = simp (list_all-append is_plain, plain_by)
 
 plain_triple : (one two three : OneStem) → list_all is_plain (triple_text one two three) ≡ true
 plain_triple one two three = simp (list_all-append is_plain, plain_three, plain_either, plain_middle, either_same)
@@ -309,21 +309,21 @@ plain_falling : (before number : ℤ) → list_all is_plain (falling_text before
 plain_falling before number = simp (list_all-append is_plain, plain_by)
 
 plain_distance : (distance : ℤ) → list_all is_plain (needed_text distance) ≡ true
-plain_distance distance = simp (list_all-append is_plain, plain_wide)
+plain_distance distance = simp (list_all-append is_plain, plain_by)
 
 plain_gap : (top bottom distance : ℤ) → list_all is_plain (gap_text top bottom distance) ≡ true
-plain_gap top bottom distance = simp (list_all-append is_plain, plain_by, plain_wide)
+plain_gap top bottom distance = simp (list_all-append is_plain, plain_by)
 
 plain_edges : (edges : Edges) → list_all is_plain (edges_text edges) ≡ true
 plain_edges edges = simp (list_all-append is_plain, plain_by)
 
 plain_below : (own : Edges) (gap : ℤ) (other : Edges) → list_all is_plain (below_text own gap other) ≡ true
 unfolding below_text
-plain_below own gap other = simp (list_all-append is_plain, plain_by, plain_wide)
+plain_below own gap other = simp (list_all-append is_plain, plain_by)
 
 plain_above : (own : Edges) (gap : ℤ) (other : Edges) → list_all is_plain (above_text own gap other) ≡ true
 unfolding above_text
-plain_above own gap other = simp (list_all-append is_plain, plain_by, plain_wide)
+plain_above own gap other = simp (list_all-append is_plain, plain_by)
 
 plain_meets : (own other : Edges) → list_all is_plain (meets_text own other) ≡ true
 unfolding meets_text
@@ -334,11 +334,11 @@ unfolding apart_by
 plain_apart own other below above = simp (plain_either, plain_below, plain_above, plain_meets, either_same)
 
 plain_zones : (own other : Edges) (distance : ℤ) → list_all is_plain (zones_text own other distance) ≡ true
-plain_zones own other distance = simp (list_all-append is_plain, plain_apart, plain_wide)
+plain_zones own other distance = simp (list_all-append is_plain, plain_apart, plain_by)
 
 plain_height : (bottom top scale : ℤ) → list_all is_plain (height_text bottom top scale) ≡ true
 unfolding height_text
-plain_height bottom top scale = simp (list_all-append is_plain, plain_by, plain_wide)
+plain_height bottom top scale = simp (list_all-append is_plain, plain_by)
 
 plain_below_one : list_all is_plain below_one ≡ true
 unfolding below_one

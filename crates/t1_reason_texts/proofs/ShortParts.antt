@@ -1,16 +1,16 @@
 -- The parts of texts are short.
-use Rattle.std.proofs.Common.{◌≡◌, ◌<◌, ◌≤◌, ◌+◌, ◌-◌, ◌*◌, ◌/◌, ◌%◌, ◌^◌, ◌==◌, ◌+ℤ◌, ◌-ℤ◌, if◌then◌else◌, ℕ, zero, suc, ℤ, pos, negsuc, Bool, true, false, List, [], ◌∷◌, length, length-append, nat_lt, refl, inl, inr, arith, unsigned_abs, decimal}
+use Rattle.std.proofs.Common.{◌≡◌, ◌<◌, ◌≤◌, ◌+◌, ◌-◌, ◌*◌, ◌/◌, ◌%◌, ◌^◌, ◌==◌, ◌+ℤ◌, ◌-ℤ◌, if◌then◌else◌, ℕ, zero, suc, ℤ, pos, negsuc, Bool, true, false, List, [], ◌∷◌, length, length-append, nat_lt, refl, inl, inr, sym, ap, ◌∙◌, arith, unsigned_abs, decimal}
 use Rattle.std.specs.Fmt.{digits, digits_onto, digit_glyph, sign_text, signed_decimal}
 use Rattle.std.proofs.lemmas.Bool.{cases_Bool, ltb-false}
 use Rattle.std.specs.Int.{is_negative}
 use Rattle.std.proofs.lemmas.Int.{ints}
 use Rattle.std.proofs.lemmas.Fmt.{decimal_digit, length-decimal-le_wide}
-use Rattle.std.proofs.Math.Nat.{div-lt_iff_lt-mul, mod-lt}
+use Rattle.std.proofs.lemmas.Nat.{mul-mod_first}
+use Rattle.std.proofs.Math.Nat.{div-lt_iff_lt-mul, mod-eq_of_lt, mod-lt, mul_assoc, pow-succ'}
 use Rattle.t1_char.specs.declared.command.Command.{Command}
 use Rattle.t1_char.specs.declared.command.Command.TheVariants.{Hstem}
 use Rattle.t1_char.specs.Commands.{name_of}
-use Rattle.t1_decimals.specs.Decimals.{decimal_by, fraction, places}
-use Rattle.t1_reason_texts.specs.Decimals.{wide_by, wide_fraction}
+use Rattle.t1_reason_texts.specs.Decimals.{decimal_by, fraction, places}
 use Rattle.t1_reason_texts.specs.Names.{is_shown, shown_byte, shown_name, shown_within, width_of}
 
 pub length_either : (b : Bool) (xs ys : List ℕ) → length (if b then xs else ys) ≡ (if b then length xs else length ys)
@@ -45,66 +45,66 @@ short_sign : (b : Bool) → length (sign_text b) ≤ 1
 short_sign true = omega arith
 short_sign false = omega arith
 
-short_places : (one n rest : ℕ) → 0 < one → rest < one → length (places one n rest) ≤ n
+-- So many places are enough where with so many digits nothing is left.
+short_places : (one : ℕ) → 0 < one → (most n rest : ℕ) → rest < one → rest * 10 ^ most % one ≡ 0 → length (places one n rest) ≤ most
 unfolding places
-short_places one zero rest some less = omega arith
-short_places one (suc n) rest some less =
+short_places one some most zero rest less enough = omega arith
+short_places one some zero (suc n) rest less enough =
+    let alone : rest * 10 ^ 0 ≡ rest = omega arith in
+    let none : rest ≡ 0 = sym (mod-eq_of_lt less) ∙ ap (λ (k : ℕ). k % one) (sym alone) ∙ enough in
+    rw none (omega arith)
+short_places one some (suc most) (suc n) rest less enough =
     let small : rest * 10 / one < 10 = (div-lt_iff_lt-mul some).1 (omega (arith, less)) in
+    let still : rest * 10 % one * 10 ^ most % one ≡ 0 =
+    mul-mod_first (rest * 10) (10 ^ most) one
+    ∙ ap (λ (k : ℕ). k % one) (mul_assoc rest 10 (10 ^ most) ∙ ap (λ (k : ℕ). rest * k) (sym (pow-succ' 10 most))) ∙ enough in
     elim (cases_Bool (rest == 0)) [
       | inl e ↦ rw e (omega arith)
-      | inr e ↦ rw (e, decimal_digit (rest * 10 / one) small) (omega (arith, short_places one n (rest * 10 % one) some (mod-lt (rest * 10) some)))
+      | inr e ↦ rw (e, decimal_digit (rest * 10 / one) small)
+          (omega (arith, short_places one some most n (rest * 10 % one) (mod-lt (rest * 10) some) still))
     ]
 
-short_fraction : (one rest : ℕ) → 0 < one → rest < one → length (fraction one rest) ≤ 17
-short_fraction one rest some less =
+short_fraction : (one most rest : ℕ) → 0 < one → rest < one → rest * 10 ^ most % one ≡ 0 → length (fraction one rest) ≤ most + 1
+short_fraction one most rest some less enough =
     elim (cases_Bool (rest == 0)) [
       | inl e ↦ rw e (omega arith)
-      | inr e ↦ rw e (omega (arith, short_places one 16 rest some less))
+      | inr e ↦ rw e (omega (arith, short_places one some most 18 rest less enough))
     ]
 
-short_wide_fraction : (one rest : ℕ) → 0 < one → rest < one → length (wide_fraction one rest) ≤ 19
-short_wide_fraction one rest some less =
-    elim (cases_Bool (rest == 0)) [
-      | inl e ↦ rw e (omega arith)
-      | inr e ↦ rw e (omega (arith, short_places one 18 rest some less))
-    ]
+-- Each part of one has so many places at most.
+abbrev HasPlaces : ℕ → ℕ → Type 0
+HasPlaces one most = (rest : ℕ) → rest * 10 ^ most % one ≡ 0
 
-by_whole : (one most : ℕ) (z : ℤ) → 0 < one → length (decimal (unsigned_abs z / one)) ≤ most → length (decimal_by one z) ≤ most + 18
+by_whole : (one whole_most most : ℕ) (z : ℤ) → 0 < one → HasPlaces one most → length (decimal (unsigned_abs z / one)) ≤ whole_most
+    → length (decimal_by one z) ≤ whole_most + most + 2
 unfolding decimal_by
-by_whole one most z some whole =
+by_whole one whole_most most z some enough whole =
     let sign = short_sign in
-    let part = short_fraction one (unsigned_abs z % one) some (mod-lt (unsigned_abs z) some) in
+    let part = short_fraction one most (unsigned_abs z % one) some (mod-lt (unsigned_abs z) some) (enough (unsigned_abs z % one)) in
     simp length-append (omega (arith, sign (is_negative z), part, whole))
 
-pub short_by : (one : ℕ) (z : ℤ) → 0 < one → length (decimal_by one z) ≤ 82
-short_by one z some = by_whole one 64 z some (short_decimal (unsigned_abs z / one))
+-- No number of 16 places is longer than this, and none of 18.
+pub short_by : (one : ℕ) (z : ℤ) → 0 < one → HasPlaces one 16 → length (decimal_by one z) ≤ 82
+short_by one z some enough = omega (arith, by_whole one 64 16 z some enough (short_decimal (unsigned_abs z / one)))
+
+pub short_any : (one : ℕ) (z : ℤ) → 0 < one → HasPlaces one 18 → length (decimal_by one z) ≤ 84
+short_any one z some enough = omega (arith, by_whole one 64 18 z some enough (short_decimal (unsigned_abs z / one)))
 
 pub short_coordinate : (z : ℤ) → unsigned_abs z ≤ 2 ^ 64 → length (decimal_by 65536 z) ≤ 38
-short_coordinate z small = by_whole 65536 20 z (omega arith) (short_long (unsigned_abs z / 65536) (omega (arith, small)))
+short_coordinate z small = by_whole 65536 20 16 z (omega arith) (λ rest. omega arith) (short_long (unsigned_abs z / 65536) (omega (arith, small)))
 
-pub short_long_value : (z : ℤ) → unsigned_abs z ≤ 2 ^ 64 → length (decimal_by 1000000000 z) ≤ 38
-short_long_value z small = by_whole 1000000000 20 z (omega arith) (short_long (unsigned_abs z / 1000000000) (omega (arith, small)))
+pub short_long_value : (z : ℤ) → unsigned_abs z ≤ 2 ^ 65 → length (decimal_by 1000000000 z) ≤ 31
+short_long_value z small =
+    by_whole 1000000000 20 9 z (omega arith) (λ rest. omega arith) (short_long (unsigned_abs z / 1000000000) (omega (arith, small)))
 
 pub short_int_coordinate : (z : ℤ) → unsigned_abs z ≤ 2 ^ 31 → length (decimal_by 65536 z) ≤ 28
-short_int_coordinate z small = by_whole 65536 10 z (omega arith) (short_int (unsigned_abs z / 65536) (omega (arith, small)))
+short_int_coordinate z small = by_whole 65536 10 16 z (omega arith) (λ rest. omega arith) (short_int (unsigned_abs z / 65536) (omega (arith, small)))
 
-wide_whole : (one most : ℕ) (z : ℤ) → 0 < one → length (decimal (unsigned_abs z / one)) ≤ most → length (wide_by one z) ≤ most + 20
-unfolding wide_by
-wide_whole one most z some whole =
-    let part = short_wide_fraction one (unsigned_abs z % one) some (mod-lt (unsigned_abs z) some) in
-    simp length-append (omega (arith, short_sign (is_negative z), part, whole))
+pub short_middle : (z : ℤ) → unsigned_abs z ≤ 2 ^ 64 → length (decimal_by 131072 z) ≤ 39
+short_middle z small = by_whole 131072 20 17 z (omega arith) (λ rest. omega arith) (short_long (unsigned_abs z / 131072) (omega (arith, small)))
 
-pub short_wide : (one : ℕ) (z : ℤ) → 0 < one → length (wide_by one z) ≤ 84
-short_wide one z some = wide_whole one 64 z some (short_decimal (unsigned_abs z / one))
-
-pub short_long_wide : (z : ℤ) → unsigned_abs z ≤ 2 ^ 65 → length (wide_by 1000000000 z) ≤ 40
-short_long_wide z small = wide_whole 1000000000 20 z (omega arith) (short_long (unsigned_abs z / 1000000000) (omega (arith, small)))
-
-pub short_middle : (z : ℤ) → unsigned_abs z ≤ 2 ^ 64 → length (wide_by 131072 z) ≤ 40
-short_middle z small = wide_whole 131072 20 z (omega arith) (short_long (unsigned_abs z / 131072) (omega (arith, small)))
-
-pub short_mean : (z : ℤ) → unsigned_abs z ≤ 2 ^ 64 → length (wide_by 262144 z) ≤ 40
-short_mean z small = wide_whole 262144 20 z (omega arith) (short_long (unsigned_abs z / 262144) (omega (arith, small)))
+pub short_mean : (z : ℤ) → unsigned_abs z ≤ 2 ^ 64 → length (decimal_by 262144 z) ≤ 40
+short_mean z small = by_whole 262144 20 18 z (omega arith) (λ rest. omega arith) (short_long (unsigned_abs z / 262144) (omega (arith, small)))
 
 pub short_command : (command : Command) → length (name_of command) ≤ 15
 short_command Hstem = omega arith

@@ -24,10 +24,9 @@ use Rattle.t1_rules.specs.declared.rule.Rule.{Rule}
 use Rattle.t1_rules.specs.declared.step_rules.flex.Point.{Point}
 use Rattle.t1_rules.specs.declared.step_rules.stems.Stem.{Stem as OneStem}
 use Rattle.t1_rules.specs.declared.rule.Rule.TheVariants.{F03, K01, K03, O03, W02, X02}
-use Rattle.t1_decimals.specs.Decimals.{decimal_by, point_text}
 use Rattle.t1_reason_texts.specs.FontTexts.{code_names_text, counts_numbers, encoded_name, entry_name, entry_needed, entry_text, features_text, form_text, found_text, glyphs_text, ids_text, kind_text, past_words, subr_entry_text, twice_words, two_features_text, unused_text, value_text, wanted_words}
-use Rattle.t1_reason_texts.specs.declared.wide.Count.TheVariants.{Coordinate}
-use Rattle.t1_reason_texts.specs.Decimals.{wide_by, wide_text}
+use Rattle.t1_reason_texts.specs.declared.decimals.Unit.TheVariants.{Coordinate}
+use Rattle.t1_reason_texts.specs.Decimals.{decimal_by, point_text, text_in}
 use Rattle.t1_reason_texts.specs.Laws.{AreShort, IsOfTypesDoes, IsOfTypesEdges, IsOfTypesStem, IsOfTypesZone}
 use Rattle.t1_reason_texts.specs.Names.{shown_name}
 use Rattle.t1_rules.specs.StepRules.Stems.{lower, twice_middle, upper}
@@ -36,7 +35,7 @@ use Rattle.t1_reason_texts.specs.StepTexts.{are_same_points, are_same_stems, arg
 use Rattle.t1_reason_texts.specs.Texts.{reason_text}
 use Rattle.t1_reason_texts.specs.Words.{are_text, arguments_text, bytes_text, moves_text, numbers_text, points_text}
 use Rattle.t1_reason_texts.specs.ZoneTexts.{above_text, apart_by, apart_text, below_one, below_text, does_words, edges_text, entry_does, falling_text, gap_text, height_text, meets_text, needed_text, too_many_text, width_text, zone_text, zones_text}
-use Rattle.t1_reason_texts.proofs.ShortParts.{abs_difference, abs_sum, length_either, short_by, short_command, short_coordinate, short_decimal, short_int_coordinate, short_long_value, short_long_wide, short_mean, short_middle, short_name, short_signed, short_wide}
+use Rattle.t1_reason_texts.proofs.ShortParts.{abs_difference, abs_sum, length_either, short_any, short_by, short_command, short_coordinate, short_decimal, short_int_coordinate, short_long_value, short_mean, short_middle, short_name, short_signed}
 
 -- ---- words
 
@@ -56,7 +55,7 @@ short_are : (count : ℕ) → length (are_text count) ≤ 68
 short_are count = simp (length_either, length-append) (grind (arith, short_decimal count))
 
 short_arguments : (count : ℤ) → length (arguments_text count) ≤ 92
-short_arguments count = simp (length_either, length-append) (grind (arith, short_by 65536 count (omega arith)))
+short_arguments count = simp (length_either, length-append) (grind (arith, short_by 65536 count (omega arith) (λ rest. omega arith)))
 
 -- ---- steps
 
@@ -72,11 +71,11 @@ short_bound : (number : ℤ) → length (bound_words number) ≤ 15
 short_bound number = simp length_either (grind arith)
 
 short_argument : (place : ℕ) (number : ℤ) → length (argument_text place number) ≤ 400
-short_argument place number = simp length-append (omega (arith, short_decimal place, short_by 65536 number (omega arith), short_bound number))
+short_argument place number = simp length-append (omega (arith, short_decimal place, short_by 65536 number (omega arith) (λ rest. omega arith), short_bound number))
 
 short_quotient : (dividend divisor : ℤ) → length (quotient_text dividend divisor) ≤ 400
 short_quotient dividend divisor =
-    simp length-append (omega (arith, short_by 65536 dividend (omega arith), short_by 65536 divisor (omega arith)))
+    simp length-append (omega (arith, short_by 65536 dividend (omega arith) (λ rest. omega arith), short_by 65536 divisor (omega arith) (λ rest. omega arith)))
 
 short_ending : (subr : ℕ) → length (ending_text subr) ≤ 400
 short_ending subr = simp length-append (omega (arith, short_decimal subr))
@@ -85,8 +84,8 @@ short_length : (bytes : ℕ) (len_iv : ℤ) → length (length_text bytes len_iv
 short_length bytes len_iv = simp length-append (omega (arith, short_bytes bytes, short_signed len_iv))
 
 short_subr : (number : ℤ) (found : Bool) → length (subr_text number found) ≤ 400
-short_subr number true = omega (arith, short_by 65536 number (omega arith))
-short_subr number false = omega (arith, short_by 65536 number (omega arith))
+short_subr number true = omega (arith, short_by 65536 number (omega arith) (λ rest. omega arith))
+short_subr number false = omega (arith, short_by 65536 number (omega arith) (λ rest. omega arith))
 
 short_depth : (calls : ℕ) → length (depth_text calls) ≤ 400
 short_depth calls = simp (length_either, length-append) (grind (arith, short_decimal calls))
@@ -143,7 +142,7 @@ short_since rule None = omega (arith, short_none rule)
 short_since rule (Some step) = simp length-append (omega (arith, short_before rule, short_decimal step, short_after rule))
 
 short_point : (point : Point) → length (point_text point) ≤ 165
-short_point point = simp length-append (omega (arith, short_by 65536 point.x (omega arith), short_by 65536 point.y (omega arith)))
+short_point point = simp length-append (omega (arith, short_by 65536 point.x (omega arith) (λ rest. omega arith), short_by 65536 point.y (omega arith) (λ rest. omega arith)))
 
 short_way : (start pen : Point) → length (codes "from " ++ (point_text start ++ (codes " to " ++ point_text pen))) ≤ 400
 short_way start pen =
@@ -187,11 +186,11 @@ short_stems_by true own other is_own is_other =
     let first = length-append (span_text own) (codes ", the same stem is set at step " ++ decimal other.step) in
     omega (arith, first, short_span own is_own, short_decimal other.step)
 short_stems_by false own other is_own is_other =
-    let third = length-append (decimal other.step) (codes ", share " ++ wide_text Coordinate (share own other.stem)) in
-    let second = length-append (span_text other.stem) (codes ", set at step " ++ (decimal other.step ++ (codes ", share " ++ wide_text Coordinate (share own other.stem)))) in
+    let third = length-append (decimal other.step) (codes ", share " ++ text_in Coordinate (share own other.stem)) in
+    let second = length-append (span_text other.stem) (codes ", set at step " ++ (decimal other.step ++ (codes ", share " ++ text_in Coordinate (share own other.stem)))) in
     let first = length-append (span_text own)
-    (codes " and " ++ (span_text other.stem ++ (codes ", set at step " ++ (decimal other.step ++ (codes ", share " ++ wide_text Coordinate (share own other.stem)))))) in
-    omega (arith, first, second, third, short_span own is_own, short_span other.stem is_other, short_decimal other.step, short_wide 65536 (share own other.stem) (omega arith))
+    (codes " and " ++ (span_text other.stem ++ (codes ", set at step " ++ (decimal other.step ++ (codes ", share " ++ text_in Coordinate (share own other.stem)))))) in
+    omega (arith, first, second, third, short_span own is_own, short_span other.stem is_other, short_decimal other.step, short_any 65536 (share own other.stem) (omega arith) (λ rest. omega arith))
 
 short_stems : (own : OneStem) (other : SetStem) → IsOfTypesStem own → IsOfTypesStem other.stem → length (stems_text own other) ≤ 400
 unfolding stems_text
@@ -262,7 +261,7 @@ short_takes number = simp length_either (grind arith)
 short_othersubr : (number count : ℤ) → length (othersubr_text number count) ≤ 190
 short_othersubr number count =
     let first = length-append (decimal_by 65536 number) (codes " with " ++ arguments_text count) in
-    omega (arith, first, short_by 65536 number (omega arith), short_arguments count)
+    omega (arith, first, short_by 65536 number (omega arith) (λ rest. omega arith), short_arguments count)
 
 short_part : (number : ℤ) → length (part_words number) ≤ 19
 short_part number = simp length_either (grind arith)
@@ -280,7 +279,7 @@ short_arguments_there : (count : ℤ) (there : ℕ) → length (arguments_there_
 short_arguments_there count there =
     let second = length-append (are_text there) (codes " there") in
     let first = length-append (decimal_by 65536 count) (codes ", " ++ (are_text there ++ codes " there")) in
-    omega (arith, first, second, short_by 65536 count (omega arith), short_are there)
+    omega (arith, first, second, short_by 65536 count (omega arith) (λ rest. omega arith), short_are there)
 
 short_limit : (steps : ℕ) → length (limit_text steps) ≤ 400
 short_limit steps = simp length-append (omega (arith, short_decimal steps))
@@ -293,11 +292,11 @@ short_name_words (letter ∷ letters) = omega (arith, short_name (letter ∷ let
 
 short_named : (code : ℤ) (name : List ℕ) → length (named_code_text code name) ≤ 154
 short_named code name =
-    omega (arith, length-append (decimal_by 65536 code) (name_words name), short_by 65536 code (omega arith), short_name_words name)
+    omega (arith, length-append (decimal_by 65536 code) (name_words name), short_by 65536 code (omega arith) (λ rest. omega arith), short_name_words name)
 
 short_code : (rule : Rule) (code : ℤ) → length (code_text rule code) ≤ 173
 unfolding code_text
-short_code K01 code = omega (arith, short_by 65536 code (omega arith))
+short_code K01 code = omega (arith, short_by 65536 code (omega arith) (λ rest. omega arith))
 short_code K03 code =
     omega (arith, length-append (named_code_text code (name_of_code code)) (codes ", which is no glyph"), short_named code (name_of_code code))
 short_code _ code = omega (arith, short_named code (name_of_code code))
@@ -318,8 +317,8 @@ short_sidebearings told own =
     omega (
       arith,
       length-append (decimal_by 65536 told) (codes ", the accent's sidebearing is " ++ decimal_by 65536 own),
-      short_by 65536 told (omega arith),
-      short_by 65536 own (omega arith),
+      short_by 65536 told (omega arith) (λ rest. omega arith),
+      short_by 65536 own (omega arith) (λ rest. omega arith),
     )
 
 -- ---- entries
@@ -333,7 +332,7 @@ short_entry_needed F03 = omega arith
 short_entry_needed _ = omega arith
 
 short_value : (number : ℤ) → length (value_text number) ≤ 82
-short_value number = short_by 1000000000 number (omega arith)
+short_value number = short_by 1000000000 number (omega arith) (λ rest. omega arith)
 
 short_counted : (b : Bool) (rule : Rule) (count : ℕ)
     → length (if b then numbers_text count ++ entry_needed rule else entry_name rule ++ codes " is no number") ≤ 400
@@ -448,22 +447,22 @@ short_falling before number =
 
 short_long_distance : (distance : ℤ) → unsigned_abs distance ≤ 2 ^ 65 → length (needed_text distance) ≤ 52
 short_long_distance distance is =
-    omega (arith, length-append (wide_by 1000000000 distance) (codes " is needed"), short_long_wide distance is)
+    omega (arith, length-append (decimal_by 1000000000 distance) (codes " is needed"), short_long_value distance is)
 
 short_distance : (distance : ℤ) → length (needed_text distance) ≤ 96
 short_distance distance =
-    omega (arith, length-append (wide_by 1000000000 distance) (codes " is needed"), short_wide 1000000000 distance (omega arith))
+    omega (arith, length-append (decimal_by 1000000000 distance) (codes " is needed"), short_any 1000000000 distance (omega arith) (λ rest. omega arith))
 
 short_gap : (top bottom distance : ℤ) → unsigned_abs top ≤ 2 ^ 63 → unsigned_abs bottom ≤ 2 ^ 63 → length (gap_text top bottom distance) ≤ 269
 short_gap top bottom distance is_top is_bottom =
     omega (
       arith,
-      length-append (value_text top) (codes " to " ++ (value_text bottom ++ (codes " is " ++ (wide_by 1000000000 (bottom -ℤ top) ++ needed_text distance)))),
-      length-append (value_text bottom) (codes " is " ++ (wide_by 1000000000 (bottom -ℤ top) ++ needed_text distance)),
-      length-append (wide_by 1000000000 (bottom -ℤ top)) (needed_text distance),
+      length-append (value_text top) (codes " to " ++ (value_text bottom ++ (codes " is " ++ (decimal_by 1000000000 (bottom -ℤ top) ++ needed_text distance)))),
+      length-append (value_text bottom) (codes " is " ++ (decimal_by 1000000000 (bottom -ℤ top) ++ needed_text distance)),
+      length-append (decimal_by 1000000000 (bottom -ℤ top)) (needed_text distance),
       short_long_value top (omega (arith, is_top)),
       short_long_value bottom (omega (arith, is_bottom)),
-      short_wide 1000000000 (bottom -ℤ top) (omega arith),
+      short_any 1000000000 (bottom -ℤ top) (omega arith) (λ rest. omega arith),
       short_distance distance,
     )
 
@@ -501,16 +500,16 @@ short_edges edges is =
     )
 
 short_lies : (own : Edges) (gap : ℤ) (words : List ℕ) (other : Edges) → IsOfTypesEdges own → IsOfTypesEdges other → length words ≤ 12
-    → length (codes "zone " ++ (edges_text own ++ (codes " lies " ++ (wide_by 1000000000 gap ++ (words ++ edges_text other))))) ≤ 270
+    → length (codes "zone " ++ (edges_text own ++ (codes " lies " ++ (decimal_by 1000000000 gap ++ (words ++ edges_text other))))) ≤ 270
 short_lies own gap words other is_own is_other few =
     omega (
       arith,
-      length-append (edges_text own) (codes " lies " ++ (wide_by 1000000000 gap ++ (words ++ edges_text other))),
-      length-append (wide_by 1000000000 gap) (words ++ edges_text other),
+      length-append (edges_text own) (codes " lies " ++ (decimal_by 1000000000 gap ++ (words ++ edges_text other))),
+      length-append (decimal_by 1000000000 gap) (words ++ edges_text other),
       length-append words (edges_text other),
       short_edges own is_own,
       short_edges other is_other,
-      short_wide 1000000000 gap (omega arith),
+      short_any 1000000000 gap (omega arith) (λ rest. omega arith),
       few,
     )
 
@@ -553,11 +552,11 @@ short_height bottom top scale is =
     let height : unsigned_abs (top -ℤ bottom) ≤ 2 ^ 65 = omega (arith, abs_difference top bottom, is.lower, is.upper) in
     omega (
       arith,
-      length-append (wide_by 1000000000 (top -ℤ bottom)) (codes " times BlueScale " ++ (value_text scale ++ (codes " is " ++ wide_by 1000000000000000000 ((top -ℤ bottom) *ℤ scale)))),
-      length-append (value_text scale) (codes " is " ++ wide_by 1000000000000000000 ((top -ℤ bottom) *ℤ scale)),
-      short_long_wide (top -ℤ bottom) height,
+      length-append (decimal_by 1000000000 (top -ℤ bottom)) (codes " times BlueScale " ++ (value_text scale ++ (codes " is " ++ decimal_by 1000000000000000000 ((top -ℤ bottom) *ℤ scale)))),
+      length-append (value_text scale) (codes " is " ++ decimal_by 1000000000000000000 ((top -ℤ bottom) *ℤ scale)),
+      short_long_value (top -ℤ bottom) height,
       short_long_value scale (omega (arith, is.scale)),
-      short_wide 1000000000000000000 ((top -ℤ bottom) *ℤ scale) (omega arith),
+      short_any 1000000000000000000 ((top -ℤ bottom) *ℤ scale) (omega arith) (λ rest. omega arith),
     )
 
 short_below_one : length below_one ≤ 23
@@ -612,7 +611,7 @@ are_short font rule (Token token) is = short_there rule token
 are_short font rule (Since step) is = short_since rule step
 are_short font rule (Open start pen) is = short_open start pen
 are_short font rule (Stems own other) is = short_stems own other is.0 is.1
-are_short font rule (Stem stem) is = omega (arith, short_by 65536 stem.position (omega arith))
+are_short font rule (Stem stem) is = omega (arith, short_by 65536 stem.position (omega arith) (λ rest. omega arith))
 are_short font rule (Triple one two three) is = short_triple one two three is.0 is.1 is.2
 are_short font rule (Miss named pen) is = short_miss named pen
 are_short font rule (Othersubr number count) is = short_call rule number count

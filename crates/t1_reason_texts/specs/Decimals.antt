@@ -1,36 +1,69 @@
--- Exact decimals of numbers that are computed for a text: differences, middles and products.
-use Rattle.std.specs.Prelude.{ℕ, ℤ, ◌-ℤ◌, ◌*ℤ◌, ◌/◌, ◌%◌, ◌==◌, List, [], ◌++◌, codes, if◌then◌else◌, unsigned_abs}
+-- Numbers as exact decimals.
+use Rattle.std.specs.Prelude.{◌≡◌, ◌<◌, ℕ, zero, suc, ℤ, ◌+◌, ◌-◌, ◌*◌, ◌^◌, ◌-ℤ◌, ◌*ℤ◌, ◌/◌, ◌%◌, ◌==◌, List, [], ◌∷◌, ◌++◌, codes, if◌then◌else◌, length, unsigned_abs}
 use Rattle.std.specs.Int.{is_negative}
 use Rattle.std.specs.Fmt.{decimal, sign_text}
-use Rattle.t1_decimals.specs.Decimals.{places}
-use Rattle.t1_reason_texts.specs.declared.wide.Count.{Count}
-use Rattle.t1_reason_texts.specs.declared.wide.Wide.{Wide}
-use Rattle.t1_reason_texts.specs.declared.wide.Count.TheVariants.{Coordinate, Mean, Middle, Product, Value}
+use Rattle.t1_char.specs.Numbers.{unit}
+use Rattle.t1_reason_texts.specs.declared.decimals.Exact.{Exact}
+use Rattle.t1_reason_texts.specs.declared.decimals.Unit.{Unit}
+use Rattle.t1_reason_texts.specs.declared.decimals.Unit.TheVariants.{Coordinate, Mean, Middle, Product, Value}
+use Rattle.t1_rules.specs.declared.step_rules.flex.Point.{Point}
 
--- How many make one: a coordinate counts 1/65536, twice the middle of a stem 1/131072, the sum of two of these, which is four times
--- their mean, 1/262144, a number of a dictionary 10^-9, and a product of two of these 10^-18.
-abbrev pub parts_of : Count → ℕ
-parts_of Coordinate = 65536
-parts_of Middle = 131072
-parts_of Mean = 262144
-parts_of Value = 1000000000
-parts_of Product = 1000000000000000000
+-- How many of a unit make one: a coordinate counts 1/65536, twice the middle of a stem 1/131072, the sum of two of these, which is four
+-- times their mean, 1/262144, a number of a dictionary 10^-9, and a product of two of these 10^-18.
+abbrev pub one_of : Unit → ℕ
+one_of Coordinate = unit
+one_of Middle = 131072
+one_of Mean = 262144
+one_of Value = 1000000000
+one_of Product = 1000000000000000000
 
--- After a point; nothing where there is no part. None of these has more than 18 places.
-abbrev pub wide_fraction : ℕ → ℕ → List ℕ
-wide_fraction one rest = if rest == 0 then [] else codes "." ++ places one 18 rest
+-- The decimal places of a part of one, as many as it has, so many at most.
+unfoldable pub places : ℕ → ℕ → ℕ → List ℕ
+places one zero rest = []
+places one (suc n) rest = if rest == 0 then [] else decimal (rest * 10 / one) ++ places one n (rest * 10 % one)
 
-unfoldable pub wide_by : ℕ → ℤ → List ℕ
-wide_by one number =
+-- After a point; nothing where there is no part. 10^-18 and 1/262144 have 18 places, the others have fewer.
+abbrev pub fraction : ℕ → ℕ → List ℕ
+fraction one rest = if rest == 0 then [] else codes "." ++ places one 18 rest
+
+unfoldable pub decimal_by : ℕ → ℤ → List ℕ
+decimal_by one number =
     sign_text (is_negative number)
-    ++ (decimal (unsigned_abs number / one) ++ wide_fraction one (unsigned_abs number % one))
+    ++ (decimal (unsigned_abs number / one) ++ fraction one (unsigned_abs number % one))
 
-abbrev pub wide_text : Count → ℤ → List ℕ
-wide_text count number = wide_by (parts_of count) number
+abbrev pub text_in : Unit → ℤ → List ℕ
+text_in counted number = decimal_by (one_of counted) number
 
--- How far a number is above another; the same times a third.
-abbrev pub difference_of : ℤ → ℤ → Count → Wide
-difference_of above below count = record { number = above -ℤ below; count = count }
+abbrev pub exact_text : Exact → List ℕ
+exact_text exact = text_in exact.unit exact.number
 
-abbrev pub product_of : ℤ → ℤ → ℤ → Wide
-product_of above below scale = record { number = (above -ℤ below) *ℤ scale; count = Product }
+-- A coordinate, a number of a dictionary, how far one of these is above another, and the same times a third.
+abbrev pub coordinate_of : ℤ → Exact
+coordinate_of number = record { number = number; unit = Coordinate }
+
+abbrev pub value_of : ℤ → Exact
+value_of number = record { number = number; unit = Value }
+
+abbrev pub difference_of : ℤ → ℤ → Exact
+difference_of above below = record { number = above -ℤ below; unit = Value }
+
+abbrev pub product_of : ℤ → ℤ → ℤ → Exact
+product_of above below scale = record { number = (above -ℤ below) *ℤ scale; unit = Product }
+
+abbrev pub coordinate_text : ℤ → List ℕ
+coordinate_text number = decimal_by unit number
+
+-- The coordinates of a point, with a blank between.
+abbrev pub point_text : Point → List ℕ
+point_text point = coordinate_text point.x ++ (codes " " ++ coordinate_text point.y)
+
+-- The number that digits are.
+abbrev pub digits_value : List ℕ → ℕ
+digits_value [] = 0
+digits_value (digit ∷ digits) = (digit - 48) * 10 ^ length digits + digits_value digits
+
+-- The decimal places that a part of one is written with are this part, exactly.
+abbrev pub PlacesAreExact : Type 0
+PlacesAreExact =
+    (counted : Unit) (rest : ℕ) → rest < one_of counted →
+    digits_value (places (one_of counted) 18 rest) * one_of counted ≡ rest * 10 ^ length (places (one_of counted) 18 rest)

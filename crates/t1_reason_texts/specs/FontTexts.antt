@@ -3,7 +3,7 @@ use Rattle.std.specs.Prelude.{ℕ, ℤ, ◌==◌, nat_eq, Bool, true, false, Lis
 use Rattle.std.specs.Map.{lookup}
 use Rattle.std.specs.Option.{unwrap_or}
 use Rattle.std.specs.Fmt.{decimal}
-use Rattle.t1_decimals.specs.Decimals.{decimal_by}
+use Rattle.t1_reason_texts.specs.Decimals.{decimal_by}
 use Rattle.t1_font.specs.declared.encoding.Encoding.{Encoding}
 use Rattle.t1_font.specs.declared.encoding.Encoding.TheVariants.{Absent as NoEncoding, Standard, Custom, Other as OtherEncoding}
 use Rattle.t1_font.specs.Fonts.{FontValue}

@@ -1,6 +1,6 @@
 -- The texts of reasons of seac: its codes, with the names that StandardEncoding has for them, and its sidebearing.
 use Rattle.std.specs.Prelude.{ℕ, ℤ, Bool, true, false, is_none, Option, Some, None, List, [], ◌∷◌, ◌++◌, codes}
-use Rattle.t1_decimals.specs.Decimals.{coordinate_text}
+use Rattle.t1_reason_texts.specs.Decimals.{coordinate_text}
 use Rattle.t1_font.specs.Fonts.{FontValue}
 use Rattle.t1_reason_texts.specs.Names.{shown_name}
 use Rattle.t1_rules.specs.declared.rule.Rule.{Rule}

@@ -8,10 +8,9 @@ use Rattle.t1_char.specs.declared.command.Command.TheVariants.{Callothersubr}
 use Rattle.t1_char.specs.declared.token.CharToken.{CharToken}
 use Rattle.t1_char.specs.declared.token.CharToken.TheVariants.{Number, Command, Unknown, Unknown12, Cut, Short, End}
 use Rattle.t1_char.specs.Commands.{name_of}
-use Rattle.t1_decimals.specs.Decimals.{coordinate_text, point_text}
 use Rattle.t1_reasons.specs.declared.reason.SetStem.{SetStem}
-use Rattle.t1_reason_texts.specs.declared.wide.Count.TheVariants.{Coordinate, Mean, Middle}
-use Rattle.t1_reason_texts.specs.Decimals.{wide_text}
+use Rattle.t1_reason_texts.specs.declared.decimals.Unit.TheVariants.{Coordinate, Mean, Middle}
+use Rattle.t1_reason_texts.specs.Decimals.{coordinate_text, point_text, text_in}
 use Rattle.t1_reason_texts.specs.Words.{are_text, arguments_text, bytes_text, moves_text, numbers_text, points_text}
 use Rattle.t1_rules.specs.declared.rule.Rule.{Rule}
 use Rattle.t1_rules.specs.declared.rule.Rule.TheVariants.{C03, W02, P01, P03, H01, X01, X02, X03, O03, K06}
@@ -161,7 +160,7 @@ twins_text stem step = span_text stem ++ (codes ", the same stem is set at step 
 abbrev pub pair_text : Stem → SetStem → List ℕ
 pair_text own other =
     span_text own
-    ++ (codes " and " ++ (span_text other.stem ++ (codes ", set at step " ++ (decimal other.step ++ (codes ", share " ++ wide_text Coordinate (share own other.stem))))))
+    ++ (codes " and " ++ (span_text other.stem ++ (codes ", set at step " ++ (decimal other.step ++ (codes ", share " ++ text_in Coordinate (share own other.stem))))))
 
 unfoldable pub stems_text : Stem → SetStem → List ℕ
 stems_text own other = if are_same_stems own other.stem then twins_text own other.step else pair_text own other
@@ -181,8 +180,8 @@ off_words one two three = if is_half_off (off_middle one two three) then codes "
 
 unfoldable pub middles_text : Stem → Stem → Stem → List ℕ
 middles_text one two three =
-    wide_text Middle (twice_middle one)
-    ++ (codes " " ++ (wide_text Middle (twice_middle two) ++ (codes " " ++ wide_text Middle (twice_middle three))))
+    text_in Middle (twice_middle one)
+    ++ (codes " " ++ (text_in Middle (twice_middle two) ++ (codes " " ++ text_in Middle (twice_middle three))))
 
 unfoldable pub widths_text : Stem → Stem → Stem → List ℕ
 widths_text one two three =
@@ -190,7 +189,7 @@ widths_text one two three =
 
 -- The middle that would do, where the outer widths are equal.
 unfoldable pub middle_text : Stem → Stem → List ℕ
-middle_text one three = codes "; middle " ++ (wide_text Mean (twice_middle one +ℤ twice_middle three) ++ codes " would do")
+middle_text one three = codes "; middle " ++ (text_in Mean (twice_middle one +ℤ twice_middle three) ++ codes " would do")
 
 abbrev pub middle_words : Stem → Stem → List ℕ
 middle_words one three = if int_eq one.width three.width then middle_text one three else []

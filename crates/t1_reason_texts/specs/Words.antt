@@ -3,7 +3,7 @@ use Rattle.std.specs.Prelude.{ℕ, ℤ, pos, ◌==◌, List, ◌++◌, codes, if
 use Rattle.std.specs.Ordering.{int_eq}
 use Rattle.std.specs.Fmt.{decimal}
 use Rattle.t1_char.specs.Numbers.{unit}
-use Rattle.t1_decimals.specs.Decimals.{coordinate_text}
+use Rattle.t1_reason_texts.specs.Decimals.{coordinate_text}
 
 -- `no numbers`, `1 number`, `3 numbers`.
 abbrev pub numbers_text : ℕ → List ℕ

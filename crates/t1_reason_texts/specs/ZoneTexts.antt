@@ -4,8 +4,8 @@ use Rattle.std.specs.Int.{is_negative}
 use Rattle.std.specs.Fmt.{decimal}
 use Rattle.t1_reasons.specs.declared.reason.Edges.{Edges}
 use Rattle.t1_reason_texts.specs.declared.zone_texts.ApartText.{ApartText}
-use Rattle.t1_reason_texts.specs.declared.wide.Count.TheVariants.{Product, Value}
-use Rattle.t1_reason_texts.specs.Decimals.{wide_text}
+use Rattle.t1_reason_texts.specs.declared.decimals.Unit.TheVariants.{Product, Value}
+use Rattle.t1_reason_texts.specs.Decimals.{text_in}
 use Rattle.t1_reason_texts.specs.FontTexts.{value_text}
 use Rattle.t1_reason_texts.specs.Words.{numbers_text}
 
@@ -17,11 +17,11 @@ falling_text before number = value_text number ++ (codes " comes after " ++ valu
 
 -- The distance that zones keep.
 abbrev pub needed_text : ℤ → List ℕ
-needed_text distance = codes "; " ++ (wide_text Value distance ++ codes " is needed")
+needed_text distance = codes "; " ++ (text_in Value distance ++ codes " is needed")
 
 abbrev pub gap_text : ℤ → ℤ → ℤ → List ℕ
 gap_text upper lower distance =
-    codes "from " ++ (value_text upper ++ (codes " to " ++ (value_text lower ++ (codes " is " ++ (wide_text Value (lower -ℤ upper) ++ needed_text distance)))))
+    codes "from " ++ (value_text upper ++ (codes " to " ++ (value_text lower ++ (codes " is " ++ (text_in Value (lower -ℤ upper) ++ needed_text distance)))))
 
 abbrev pub edges_text : Edges → List ℕ
 edges_text edges = value_text edges.lower ++ (codes " to " ++ value_text edges.upper)
@@ -29,11 +29,11 @@ edges_text edges = value_text edges.lower ++ (codes " to " ++ value_text edges.u
 -- A zone that is so far below another, above it, or shares a place with it.
 unfoldable pub below_text : Edges → ℤ → Edges → List ℕ
 below_text own gap other =
-    codes "zone " ++ (edges_text own ++ (codes " lies " ++ (wide_text Value gap ++ (codes " below zone " ++ edges_text other))))
+    codes "zone " ++ (edges_text own ++ (codes " lies " ++ (text_in Value gap ++ (codes " below zone " ++ edges_text other))))
 
 unfoldable pub above_text : Edges → ℤ → Edges → List ℕ
 above_text own gap other =
-    codes "zone " ++ (edges_text own ++ (codes " lies " ++ (wide_text Value gap ++ (codes " above zone " ++ edges_text other))))
+    codes "zone " ++ (edges_text own ++ (codes " lies " ++ (text_in Value gap ++ (codes " above zone " ++ edges_text other))))
 
 unfoldable pub meets_text : Edges → Edges → List ℕ
 meets_text own other = codes "zone " ++ (edges_text own ++ (codes " overlaps zone " ++ edges_text other))
@@ -56,8 +56,8 @@ zones_text own other distance = apart_text own other ++ needed_text distance
 -- A zone's height times BlueScale.
 unfoldable pub height_text : ℤ → ℤ → ℤ → List ℕ
 height_text lower upper scale =
-    codes "height " ++ (wide_text Value (upper -ℤ lower)
-    ++ (codes " times BlueScale " ++ (value_text scale ++ (codes " is " ++ wide_text Product ((upper -ℤ lower) *ℤ scale)))))
+    codes "height " ++ (text_in Value (upper -ℤ lower)
+    ++ (codes " times BlueScale " ++ (value_text scale ++ (codes " is " ++ text_in Product ((upper -ℤ lower) *ℤ scale)))))
 
 unfoldable pub below_one : List ℕ
 below_one = codes "; less than 1 is needed"

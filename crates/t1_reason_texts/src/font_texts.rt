@@ -1,15 +1,14 @@
 //! The texts of reasons that entries of a font have, beside its zones and stem widths.
 
-ghost use Rattle.std.specs.Prelude.{◌≡◌, Some};
+ghost use Rattle.std.specs.Prelude.{◌≡◌, Some, []};
 ghost use Rattle.t1_font.specs.Views.{bytes_of};
 ghost use Rattle.std.specs.Option.{unwrap_or};
-ghost use Rattle.std.specs.Prelude.{[]};
 ghost use Rattle.t1_reason_texts.specs.FontTexts.{code_names_text, counts_numbers, encoded_name, entry_name, entry_needed, entry_text, features_text, form_text, found_text, glyph_text, glyphs_text, ids_text, kind_text, past_words, several_text, subr_entry_text, twice_words, two_features_text, unused_text, value_text, wanted_words};
 
+use crate::decimals::value;
 use crate::names::ShownName;
 use crate::words::Numbers;
 use std::fmt;
-use t1_decimals::value;
 use t1_font::{Encoding, Font};
 use t1_reasons::{EntryKind, Found, Unused};
 use t1_rules::Rule;

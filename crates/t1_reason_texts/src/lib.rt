@@ -11,20 +11,28 @@
 //! };
 //! println!(rt; "   {text}")?; // at -15
 //! ```
+//!
+//! Numbers are exact decimals, nothing is rounded or cut ([`numbers_are_written_exactly`]): [`coordinate`] and [`value`] give a
+//! number its unit, and `Display` writes it with as many decimal places as it has.
+//!
+//! ```
+//! println!(rt; "{} {}", coordinate(-98304), value(39_625_000))?; // -1.5 0.039625
+//! ```
 #![tactic(auto)]
 
+mod decimals;
 mod font_texts;
 mod laws;
 mod names;
 mod seac_texts;
 mod step_texts;
 mod text;
-mod wide;
 mod words;
 mod zone_texts;
 
+pub use decimals::{Coordinates, Exact, Unit, coordinate, value};
 pub use font_texts::encoded_name;
-pub use laws::{reason_texts_are_one_line, reason_texts_are_short};
+pub use laws::{numbers_are_written_exactly, reason_texts_are_one_line, reason_texts_are_short};
+pub use names::hexadecimal_digit;
 pub use step_texts::TokenText;
 pub use text::{ReasonText, ShortText, says_more, short_text, shown_text};
-pub use wide::{Count, Wide};

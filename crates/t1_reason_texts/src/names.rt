@@ -25,7 +25,7 @@ struct ShownWithin<'a> {
 struct ShownByte(u8);
 
 /// A digit of a hexadecimal number, in upper case.
-fn hexadecimal_digit(digit: u8) -> char
+pub fn hexadecimal_digit(digit: u8) -> char
     requires { digit < 16 }
     ensures { result ≡ hexadecimal_digit digit }
 {

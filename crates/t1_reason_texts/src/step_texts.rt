@@ -4,14 +4,13 @@ ghost use Rattle.std.specs.Prelude.{◌≡◌, ◌+ℤ◌, ◌-ℤ◌, ◌*ℤ�
 ghost use Rattle.std.specs.Int.{int_max, int_min};
 ghost use Rattle.t1_rules.specs.Watches.{IsWithin, reach};
 ghost use Rattle.t1_reason_texts.specs.StepTexts.{are_same_points, are_same_stems, argument_text, arguments_there_text, behind_text, bound_words, call_text, call_words, comes_next, count_text, depth_text, ending_text, full_text, is_half_off, is_there, length_text, limit_text, middle_text, middles_text, needed_pairs, miss_text, off_middle, off_words, open_text, or_more, othersubr_text, pair_text, pairs_text, part_words, quotient_text, says_token, share, since_after, since_before, since_none, since_text, span_text, stem_text, stems_of_three, stems_text, subr_text, takes_words, there_text, token_text, triple_text, twins_text, widths_text};
-ghost use Rattle.t1_reason_texts.specs.declared.wide.Count.TheVariants.{Mean, Middle};
+ghost use Rattle.t1_reason_texts.specs.declared.decimals.Unit.TheVariants.{Mean, Middle};
 ghost use Rattle.t1_rules.specs.StepRules.Stems.{twice_middle};
 
-use crate::wide::{Count, Wide, difference};
+use crate::decimals::{Coordinates, Exact, Unit, coordinate, difference};
 use crate::words::{Are, Arguments, Bytes, Moves, Numbers, Points, small_coordinate};
 use std::fmt;
 use t1_char::{CharToken, Command, command_name};
-use t1_decimals::{Coordinates, coordinate};
 use t1_reasons::SetStem;
 use t1_rules::{Point, Rule, Stem};
 
@@ -468,9 +467,9 @@ impl fmt::Display for PairText {
         let own = SpanText(self.own);
         let other = SpanText(self.other.stem);
         let step = self.other.step;
-        let share = Wide {
+        let share = Exact {
             number: share(self.own, self.other.stem),
-            count: Count::Coordinate,
+            unit: Unit::Coordinate,
         };
         write!(f, "{own} and {other}, set at step {step}, share {share}")
     }
@@ -549,13 +548,13 @@ fn sum(one: i64, other: i64) -> i64
     one + other
 }
 
-fn middle(stem: Stem) -> Wide
+fn middle(stem: Stem) -> Exact
     ensures number { result.number ≡ twice_middle stem }
-    ensures count { result.count ≡ Middle }
+    ensures unit { result.unit ≡ Middle }
 {
-    Wide {
+    Exact {
         number: i128::from(twice_middle(stem)),
-        count: Count::Middle,
+        unit: Unit::Middle,
     }
 }
 
@@ -653,13 +652,13 @@ struct MiddleText {
 }
 
 /// Half-way between the middles of two stems.
-fn half_way(one: Stem, three: Stem) -> Wide
+fn half_way(one: Stem, three: Stem) -> Exact
     ensures number { result.number ≡ twice_middle one +ℤ twice_middle three }
-    ensures count { result.count ≡ Mean }
+    ensures unit { result.unit ≡ Mean }
 {
-    Wide {
+    Exact {
         number: i128::from(sum(twice_middle(one), twice_middle(three))),
-        count: Count::Mean,
+        unit: Unit::Mean,
     }
 }
 

@@ -1,12 +1,12 @@
 //! Words that texts share.
 
 ghost use Rattle.std.specs.Prelude.{◌≡◌, Some};
-ghost use Rattle.t1_decimals.specs.Decimals.{coordinate_of};
+ghost use Rattle.t1_reason_texts.specs.Decimals.{coordinate_of};
 ghost use Rattle.t1_reason_texts.specs.Words.{are_text, arguments_text, bytes_text, moves_text, numbers_text, points_text};
 
+use crate::decimals::{Exact, coordinate};
 use std::fmt;
 use t1_char::UNIT;
-use t1_decimals::{Exact, coordinate};
 
 /// `no numbers`, `1 number`, `3 numbers`.
 #[derive(Clone, Copy)]

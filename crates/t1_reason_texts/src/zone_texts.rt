@@ -3,10 +3,9 @@
 ghost use Rattle.std.specs.Prelude.{◌≡◌, Some};
 ghost use Rattle.t1_reason_texts.specs.ZoneTexts.{above_text, apart_by, apart_of, below_one, below_text, does_words, edges_text, entry_does, falling_text, gap_text, height_text, meets_text, needed_text, too_many_text, width_text, zone_text, zones_text};
 
-use crate::wide::{Count, Wide, difference, wide_difference, wide_product};
+use crate::decimals::{Exact, Unit, difference, exact_difference, exact_product, value};
 use crate::words::Numbers;
 use std::fmt;
-use t1_decimals::value;
 use t1_reasons::Edges;
 
 /// How many numbers a list has, and how many it may have.
@@ -51,9 +50,9 @@ impl fmt::Display for NeededText {
     ghost output = { λ t. Some (needed_text t.0) };
 
     fn fmt<W: fmt::Write>(&self, f: &mut fmt::Formatter<W>) -> fmt::Result {
-        let distance = Wide {
+        let distance = Exact {
             number: self.0,
-            count: Count::Value,
+            unit: Unit::Value,
         };
         write!(f, "; {distance} is needed")
     }
@@ -73,7 +72,7 @@ impl fmt::Display for GapText {
     fn fmt<W: fmt::Write>(&self, f: &mut fmt::Formatter<W>) -> fmt::Result {
         let upper = value(self.upper);
         let lower = value(self.lower);
-        let gap = wide_difference(self.lower, self.upper, Count::Value);
+        let gap = exact_difference(self.lower, self.upper);
         let needed = NeededText(self.distance);
         write!(f, "from {upper} to {lower} is {gap}{needed}")
     }
@@ -139,9 +138,9 @@ impl fmt::Display for BelowText {
     #[tactic(auto, unfolding(crate::specs::ZoneTexts::below_text))]
     fn fmt<W: fmt::Write>(&self, f: &mut fmt::Formatter<W>) -> fmt::Result {
         let own = EdgesText(self.own);
-        let gap = Wide {
+        let gap = Exact {
             number: self.gap,
-            count: Count::Value,
+            unit: Unit::Value,
         };
         let other = EdgesText(self.other);
         write!(f, "zone {own} lies {gap} below zone {other}")
@@ -154,9 +153,9 @@ impl fmt::Display for AboveText {
     #[tactic(auto, unfolding(crate::specs::ZoneTexts::above_text))]
     fn fmt<W: fmt::Write>(&self, f: &mut fmt::Formatter<W>) -> fmt::Result {
         let own = EdgesText(self.own);
-        let gap = Wide {
+        let gap = Exact {
             number: self.gap,
-            count: Count::Value,
+            unit: Unit::Value,
         };
         let other = EdgesText(self.other);
         write!(f, "zone {own} lies {gap} above zone {other}")
@@ -245,9 +244,9 @@ impl fmt::Display for HeightText {
 
     #[tactic(auto, unfolding(crate::specs::ZoneTexts::height_text))]
     fn fmt<W: fmt::Write>(&self, f: &mut fmt::Formatter<W>) -> fmt::Result {
-        let height = wide_difference(self.upper, self.lower, Count::Value);
+        let height = exact_difference(self.upper, self.lower);
         let scale = value(self.scale);
-        let product = wide_product(self.upper, self.lower, self.scale);
+        let product = exact_product(self.upper, self.lower, self.scale);
         write!(f, "height {height} times BlueScale {scale} is {product}")
     }
 }

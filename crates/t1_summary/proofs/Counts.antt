@@ -7,8 +7,8 @@ use Rattle.t1_rules.specs.declared.rule.Rule.{Rule}
 use Rattle.t1_rules.specs.declared.rule.Rule.TheVariants.{F01}
 use Rattle.t1_summary.specs.Classes.{capped, classes, place_of}
 use Rattle.t1_summary.specs.Laws.{ClassesAddUp, RulesAddUp}
-use Rattle.t1_summary.specs.declared.found.Found.{Found}
-use Rattle.t1_summary.specs.declared.found.Found.TheVariants.{Clean, Known, Faulty, Refused, Unchecked}
+use Rattle.t1_summary.specs.declared.found.FontClass.{FontClass}
+use Rattle.t1_summary.specs.declared.found.FontClass.TheVariants.{Clean, Known, Faulty, Refused, Unchecked}
 
 abbrev pub one : Bool → ℕ
 one b = cond b 1 0
@@ -39,13 +39,13 @@ add_up : {C X : Type 0} (p : C → X → Bool) (cs : List C) → ((x : X) → su
 add_up p cs once [] = nothing p cs
 add_up p cs once (x ∷ xs) = counted p x xs cs ∙ ap₂ (λ (m n : ℕ). m + n) (once x) (add_up p cs once xs) ∙ one_longer x xs
 
-abbrev pub is_class : Found → Found → Bool
+abbrev pub is_class : FontClass → FontClass → Bool
 is_class class found = nat_eq (place_of class) (place_of found)
 
 abbrev pub is_rule : Rule → Rule → Bool
 is_rule rule line = nat_eq (number_of rule) (number_of line)
 
-of_one_class : (found : Found) → sum_by (λ (class : Found). one (is_class class found)) classes ≡ 1
+of_one_class : (found : FontClass) → sum_by (λ (class : FontClass). one (is_class class found)) classes ≡ 1
 of_one_class Clean = refl
 of_one_class Known = refl
 of_one_class Faulty = refl

@@ -11,7 +11,7 @@ use Rattle.t1_rules.specs.Levels.{level_text}
 use Rattle.t1_summary.specs.Private.Lines.{told_line}
 use Rattle.t1_summary.specs.Summaries.{fonts_line, one_or_many, rule_line}
 use Rattle.t1_summary.specs.Tallies.{all_fonts, fonts_in, lines_in}
-use Rattle.t1_summary.specs.declared.found.Found.TheVariants.{Clean, Known, Faulty, Refused, Unchecked}
+use Rattle.t1_summary.specs.declared.found.FontClass.TheVariants.{Clean, Known, Faulty, Refused, Unchecked}
 use Rattle.t1_summary.specs.declared.tally.Tally.{Tally}
 
 -- rules without lines have none in the summary

@@ -3,15 +3,15 @@ use Rattle.std.specs.Prelude.{ℕ, ◌-◌, ◌^◌, min, nat_eq, List, [], ◌�
 use Rattle.std.specs.List.{count_by}
 use Rattle.t1_rules.specs.Book.{number_of}
 use Rattle.t1_rules.specs.declared.rule.Rule.{Rule}
-use Rattle.t1_summary.specs.declared.found.Found.{Found}
-use Rattle.t1_summary.specs.declared.found.Found.TheVariants.{Clean, Known, Faulty, Refused, Unchecked}
+use Rattle.t1_summary.specs.declared.found.FontClass.{FontClass}
+use Rattle.t1_summary.specs.declared.found.FontClass.TheVariants.{Clean, Known, Faulty, Refused, Unchecked}
 
 -- All classes, in the order of a summary.
-abbrev pub classes : List Found
+abbrev pub classes : List FontClass
 classes = Clean ∷ Known ∷ Faulty ∷ Refused ∷ Unchecked ∷ []
 
 -- The place of a class among them.
-abbrev pub place_of : Found → ℕ
+abbrev pub place_of : FontClass → ℕ
 place_of Clean = 0
 place_of Known = 1
 place_of Faulty = 2
@@ -19,7 +19,7 @@ place_of Refused = 3
 place_of Unchecked = 4
 
 -- How many of these fonts are of a class.
-abbrev pub fonts_of : List Found → Found → ℕ
+abbrev pub fonts_of : List FontClass → FontClass → ℕ
 fonts_of founds class = count_by (λ found. nat_eq (place_of class) (place_of found)) founds
 
 -- How many of these lines, each by its rule, are of a rule.

@@ -7,7 +7,7 @@ use Rattle.t1_rules.specs.Levels.{level_text}
 use Rattle.t1_rules.specs.declared.rule.Rule.{Rule}
 use Rattle.t1_summary.specs.Rankings.{ranking}
 use Rattle.t1_summary.specs.Tallies.{all_fonts, fonts_in, lines_in}
-use Rattle.t1_summary.specs.declared.found.Found.TheVariants.{Clean, Known, Faulty, Refused, Unchecked}
+use Rattle.t1_summary.specs.declared.found.FontClass.TheVariants.{Clean, Known, Faulty, Refused, Unchecked}
 use Rattle.t1_summary.specs.declared.tally.Tally.{Tally}
 
 -- The word for one thing, or for another number of them.

@@ -3,18 +3,18 @@ use Rattle.std.specs.Prelude.{◌≡◌, ℕ, ◌-◌, ◌<◌, ◌^◌, All, Li
 use Rattle.t1_rules.specs.Book.{last_number, number_of, rules}
 use Rattle.t1_rules.specs.declared.rule.Rule.{Rule}
 use Rattle.t1_summary.specs.Classes.{capped, classes, fonts_of, lines_of, place_of}
-use Rattle.t1_summary.specs.declared.found.Found.{Found}
+use Rattle.t1_summary.specs.declared.found.FontClass.{FontClass}
 use Rattle.t1_summary.specs.declared.tally.Tally.{Tally}
 
 -- The tally of fonts, each by how it was found, and of lines, each by its rule.
-unfoldable pub tally_of : List Found → List Rule → Tally
+unfoldable pub tally_of : List FontClass → List Rule → Tally
 tally_of founds lines = record {
   fonts = map (λ class. capped (fonts_of founds class)) classes;
   lines = map (λ rule. capped (lines_of lines rule)) rules;
 }
 
 -- How many fonts of a class a tally has.
-abbrev pub fonts_in : Tally → Found → ℕ
+abbrev pub fonts_in : Tally → FontClass → ℕ
 fonts_in tally class = slice_index tally.fonts (place_of class)
 
 -- How many fonts it has.

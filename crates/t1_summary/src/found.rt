@@ -5,7 +5,7 @@ ghost use Rattle.t1_summary.specs.Classes.{place_of};
 
 /// How a font was found.
 #[derive(Clone, Copy, Debug, PartialEq, Eq)]
-pub enum Found {
+pub enum FontClass {
     /// No line of it is reported.
     Clean,
     /// It has lines to report, and all of them are known faults.
@@ -18,7 +18,7 @@ pub enum Found {
     Unchecked,
 }
 
-impl Found {
+impl FontClass {
     /// Its place among the classes of fonts, from 0.
     pub(crate) fn place(self) -> usize
         ensures { result ≡ place_of self }

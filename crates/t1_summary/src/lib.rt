@@ -13,8 +13,8 @@
 //!
 //! ```
 //! let mut tally = Tally::new();
-//! tally.add(Found::Clean);
-//! tally.add(Found::Faulty);
+//! tally.add(FontClass::Clean);
+//! tally.add(FontClass::Faulty);
 //! tally.add_line(Rule::F01);
 //! // 2 fonts: 1 clean, 1 with faults, 0 refused, 0 not checked
 //! //       1 F01 no end segment (should)
@@ -28,7 +28,7 @@ mod lines;
 mod ranking;
 mod tally;
 
-pub use found::Found;
+pub use found::FontClass;
 pub use laws::{counts_add_up, rules_have_one_ranking, tallies_count};
 pub use lines::summary;
 pub use tally::Tally;

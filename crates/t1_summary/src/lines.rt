@@ -5,7 +5,7 @@ ghost use Rattle.t1_io.specs.Devices.{Writes};
 ghost use Rattle.t1_summary.specs.Private.Lines.{told_line};
 ghost use Rattle.t1_summary.specs.Summaries.{fonts_line, one_or_many, rows_line, rule_lines, summary_text};
 
-use crate::found::Found;
+use crate::found::FontClass;
 use crate::ranking::ranking;
 use crate::tally::Tally;
 use itoa::Buffer;
@@ -54,19 +54,23 @@ fn put_fonts<W: Sink>(tally: &Tally, has_known: bool, sink: &mut W) -> Result<()
         &[
             all.format(fonts).as_bytes(),
             one_or_many(fonts, b" font: ", b" fonts: "),
-            clean.format(tally.fonts_found(Found::Clean)).as_bytes(),
+            clean.format(tally.fonts_found(FontClass::Clean)).as_bytes(),
             b" clean, ",
             if_known(
                 has_known,
-                known.format(tally.fonts_found(Found::Known)).as_bytes(),
+                known.format(tally.fonts_found(FontClass::Known)).as_bytes(),
             ),
             if_known(has_known, b" with known faults alone, "),
-            faulty.format(tally.fonts_found(Found::Faulty)).as_bytes(),
+            faulty
+                .format(tally.fonts_found(FontClass::Faulty))
+                .as_bytes(),
             b" with faults, ",
-            refused.format(tally.fonts_found(Found::Refused)).as_bytes(),
+            refused
+                .format(tally.fonts_found(FontClass::Refused))
+                .as_bytes(),
             b" refused, ",
             unchecked
-                .format(tally.fonts_found(Found::Unchecked))
+                .format(tally.fonts_found(FontClass::Unchecked))
                 .as_bytes(),
             b" not checked\n",
         ],

@@ -3,9 +3,9 @@
 ghost use Rattle.std.specs.Prelude.{◌≡◌, [], ◌∷◌, ◌++◌, List};
 ghost use Rattle.t1_rules.specs.declared.rule.Rule.{Rule};
 ghost use Rattle.t1_summary.specs.Tallies.{all_fonts, fonts_in, lines_in, tally_of};
-ghost use Rattle.t1_summary.specs.declared.found.Found.{Found};
+ghost use Rattle.t1_summary.specs.declared.found.FontClass.{FontClass};
 
-use crate::found::Found;
+use crate::found::FontClass;
 use t1_rules::Rule;
 
 /// The number of classes of fonts.
@@ -17,7 +17,7 @@ pub(crate) const RULES: usize = 70;
 /// Numbers of fonts by how they were found, and of lines by their rules. A number stays at 2^64 - 1 once it is there.
 #[derive(Clone, Copy, Debug, PartialEq, Eq)]
 pub struct Tally {
-    /// By [`Found::place`].
+    /// By [`FontClass::place`].
     pub(crate) fonts: [u64; CLASSES],
     /// By the rule's number, less 1.
     pub(crate) lines: [u64; RULES],
@@ -35,8 +35,8 @@ impl Tally {
     }
 
     /// Counts one font more.
-    pub fn add(&mut self, found: Found)
-        ensures { (founds : List Found) (lines : List Rule)
+    pub fn add(&mut self, found: FontClass)
+        ensures { (founds : List FontClass) (lines : List Rule)
             → self.old ≡ tally_of founds lines → self.new ≡ tally_of (founds ++ found ∷ []) lines }
     {
         let place = found.place();
@@ -45,7 +45,7 @@ impl Tally {
 
     /// Counts one line of a rule more.
     pub fn add_line(&mut self, rule: Rule)
-        ensures { (founds : List Found) (lines : List Rule)
+        ensures { (founds : List FontClass) (lines : List Rule)
             → self.old ≡ tally_of founds lines → self.new ≡ tally_of founds (lines ++ rule ∷ []) }
     {
         let place = usize::from(rule.number()) - 1;
@@ -64,7 +64,7 @@ impl Tally {
     }
 
     /// The number of fonts that were found so.
-    pub fn fonts_found(&self, found: Found) -> u64
+    pub fn fonts_found(&self, found: FontClass) -> u64
         ensures { result ≡ fonts_in self.now found }
     {
         self.fonts[found.place()]

@@ -9,7 +9,7 @@ use Rattle.t1_font.proofs.Tables.{name_exact}
 use Rattle.t1_font.specs.Fonts.{FontValue, glyph_name, name_in}
 use Rattle.t1_font.specs.Keys.{same_name}
 use Rattle.t1_lines.specs.Lines.{FaultLineValue, PlaceValue, at_key, at_step, at_waiver, line_in, place_in}
-use Rattle.t1_many.specs.Groups.{told_faults}
+use Rattle.t1_many.specs.Verdicts.{told_faults}
 use Rattle.t1_many.specs.WrittenWaivers.{waivers_behind, with_place}
 use Rattle.t1_report.proofs.HasReport.{quiet_behind}
 use Rattle.t1_report.proofs.Told.{some_below, told_in_glyph, told_of_waiver, told_within}

@@ -10,8 +10,8 @@ use Rattle.t1_font.specs.Fonts.{FontValue, glyph_name, name_in}
 use Rattle.t1_lines.specs.Lines.{FaultLineValue, IsFaultLine, at_step, line_in}
 use Rattle.t1_lines.specs.Names.{HasNames}
 use Rattle.t1_many.proofs.WaiversRead.{written_are_read}
-use Rattle.t1_many.specs.Groups.{told_faults}
 use Rattle.t1_many.specs.Laws.{CanBeWaived}
+use Rattle.t1_many.specs.Verdicts.{told_faults}
 use Rattle.t1_many.specs.WrittenWaivers.{waivers_behind, waivers_text}
 use Rattle.t1_report.proofs.Told.{told_in_glyph, told_within}
 use Rattle.t1_report.specs.Checked.{CheckedFont, step_limit}

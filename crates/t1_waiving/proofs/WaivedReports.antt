@@ -3,17 +3,17 @@ use Rattle.std.proofs.Common.{◌≡◌, ◌++◌, ◌∙◌, Bool, true, false,
 use Rattle.t1_many.specs.Handing.{Handed, HandsFont}
 use Rattle.t1_many.specs.Outcomes.{Report, reported}
 use Rattle.t1_many.specs.Verdicts.{of_rules}
-use Rattle.t1_many.specs.declared.recipient.Lost.{Lost}
+use Rattle.t1_many.specs.declared.policy.Lost.{Lost}
 use Rattle.t1_names.specs.Words.{is_input}
 use Rattle.t1_rules.specs.declared.mask.Mask.{Mask}
-use Rattle.t1_summary.specs.declared.found.Found.{Found}
+use Rattle.t1_summary.specs.declared.found.FontClass.{FontClass}
 use Rattle.t1_waiving.specs.FontTexts.{FontText, texts_of}
 use Rattle.t1_waiving.specs.GlyphLines.{outside_glyphs}
 use Rattle.t1_waiving.specs.Reports.{report_text}
 use Rattle.t1_waiving.specs.Waived.{WaivesFont}
 
 module _ {F : Type 0} (takes : F → F → Handed → Option Lost → Type 0) (rules : Mask) (old new : F) (kept kept' : List FontText)
-    (name : List ℕ) (report : Report) (taken : Result Found Lost) where
+    (name : List ℕ) (report : Report) (taken : Result FontClass Lost) where
   abbrev kept_of : List FontText
   kept_of = texts_of name (report_text rules report.font report.waivers report.faults)
 

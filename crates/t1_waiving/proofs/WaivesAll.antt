@@ -9,12 +9,12 @@ use Rattle.t1_many.specs.Files.{Files}
 use Rattle.t1_many.specs.Handing.{Handed, HandsOn, handed_of}
 use Rattle.t1_many.specs.Outcomes.{Entry, Report}
 use Rattle.t1_many.specs.Told.{all_handed, founds_of}
-use Rattle.t1_many.specs.declared.recipient.Lost.{Lost}
+use Rattle.t1_many.specs.declared.policy.Lost.{Lost}
 use Rattle.t1_many.specs.declared.verdict.Verdict.{Verdict}
 use Rattle.t1_report.specs.Faults.{FaultValue}
 use Rattle.t1_rules.specs.declared.mask.Mask.{Mask}
 use Rattle.t1_run.specs.declared.status.Status.{Status}
-use Rattle.t1_summary.specs.declared.found.Found.{Found}
+use Rattle.t1_summary.specs.declared.found.FontClass.{FontClass}
 use Rattle.t1_waiving.specs.FontTexts.{FontText, all_texts, entry_texts}
 use Rattle.t1_waiving.specs.GlyphLines.{but_waived}
 use Rattle.t1_waiving.specs.Waived.{WaivesAll, WaivesFont}
@@ -22,17 +22,17 @@ use Rattle.t1_waiving.specs.Waived.WaivesAll.{cut_short, whole}
 
 module _ {T F : Type 0} (takes : F → F → Handed → Option Lost → Type 0) (rules : T → Mask) (form : T → F) (kept : T → List FontText) where
   -- A font is taken by rules that stay.
-  abbrev Takes : T → T → Entry → Result Found Lost → Type 0
+  abbrev Takes : T → T → Entry → Result FontClass Lost → Type 0
   Takes old new entry taken = (rules new ≡ rules old) × WaivesFont takes (rules old) (form old) (form new) (kept old) (kept new) entry taken
 
   -- Fonts that were taken.
-  record HaveWaived (old new : T) (entries : List Entry) (founds : List Found) : Type 0 where
+  record HaveWaived (old new : T) (entries : List Entry) (founds : List FontClass) : Type 0 where
     pub rules_are : rules new ≡ rules old
     pub handed : HandsOn takes (form old) (form new) (all_handed (but_waived (rules old)) entries) None
     pub kept_is : kept new ≡ kept old ++ all_texts (rules old) entries
     pub founds_are : founds ≡ founds_of (but_waived (rules old)) entries
 
-  waived : (old new : T) (entries : List Entry) (founds : List Found) → AreTaken Takes old new entries founds → HaveWaived old new entries founds
+  waived : (old new : T) (entries : List Entry) (founds : List FontClass) → AreTaken Takes old new entries founds → HaveWaived old new entries founds
   waived old new [] founds (same, none) = record {
     rules_are = ap rules same;
     handed = (ap form same, refl);
@@ -48,7 +48,7 @@ module _ {T F : Type 0} (takes : F → F → Handed → Option Lost → Type 0) 
             (subst (λ (r : Mask). HandsOn takes (form next) (form new) (all_handed (but_waived r) entries) None) stay more.handed);
         kept_is = more.kept_is ∙ ap₂ (λ (ts : List FontText) (r : Mask). ts ++ all_texts r entries) took.keeps stay
             ∙ append_assoc (kept old) (entry_texts (rules old) entry) (all_texts (rules old) entries);
-        founds_are = are ∙ ap₂ (λ f (fs : List Found). f ∷ fs) took.hands.1
+        founds_are = are ∙ ap₂ (λ f (fs : List FontClass). f ∷ fs) took.hands.1
             (more.founds_are ∙ ap (λ (r : Mask). founds_of (but_waived r) entries) stay);
       }
 

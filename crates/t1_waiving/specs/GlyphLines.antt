@@ -4,7 +4,7 @@ use Rattle.t1_font.specs.Fonts.{FontValue}
 use Rattle.t1_many.specs.Outcomes.{Report}
 use Rattle.t1_many.specs.Verdicts.{of_rules}
 use Rattle.t1_many.specs.declared.verdict.Verdict.{Verdict}
-use Rattle.t1_many.specs.declared.verdict.Verdict.TheVariants.{Left, Told}
+use Rattle.t1_many.specs.declared.verdict.Verdict.TheVariants.{Skipped, Reported}
 use Rattle.t1_names.specs.Words.{is_input}
 use Rattle.t1_report.specs.Faults.{FaultValue}
 use Rattle.t1_rules.specs.Book.{number_of}
@@ -17,7 +17,7 @@ is_in_glyph font fault = not (fault.unit == 0) && not (fault.unit == length font
 
 -- The faults of these rules are reported, but those in glyphs.
 abbrev pub judged_outside : Mask → FontValue → FaultValue → Verdict
-judged_outside rules font fault = if has rules (number_of fault.rule) && not (is_in_glyph font fault) then Told else Left
+judged_outside rules font fault = if has rules (number_of fault.rule) && not (is_in_glyph font fault) then Reported else Skipped
 
 abbrev pub outside_glyphs : Mask → Report → FaultValue → Verdict
 outside_glyphs rules report fault = judged_outside rules report.font fault

@@ -6,16 +6,16 @@ use Rattle.t1_many.specs.Files.{Files}
 use Rattle.t1_many.specs.Handing.{Handed, HandsFont, HandsOn}
 use Rattle.t1_many.specs.Outcomes.{Entry}
 use Rattle.t1_many.specs.Told.{all_handed, founds_of}
-use Rattle.t1_many.specs.declared.recipient.Lost.{Lost}
+use Rattle.t1_many.specs.declared.policy.Lost.{Lost}
 use Rattle.t1_rules.specs.declared.mask.Mask.{Mask}
 use Rattle.t1_run.specs.declared.status.Status.{Status}
-use Rattle.t1_summary.specs.declared.found.Found.{Found}
+use Rattle.t1_summary.specs.declared.found.FontClass.{FontClass}
 use Rattle.t1_waiving.specs.FontTexts.{FontText, all_texts, entry_texts}
 use Rattle.t1_waiving.specs.GlyphLines.{but_waived}
 
 -- All of a font was handed on, but the lines of its glyphs, and their waivers are kept; or it stopped there.
 pub record WaivesFont {F : Type 0} (takes : F → F → Handed → Option Lost → Type 0) (rules : Mask) (old new : F) (old_kept new_kept : List FontText)
-    (entry : Entry) (taken : Result Found Lost) : Type 0 where
+    (entry : Entry) (taken : Result FontClass Lost) : Type 0 where
   pub hands : HandsFont takes (but_waived rules entry.name) old new entry taken
   pub keeps : new_kept ≡ old_kept ++ entry_texts rules entry
 

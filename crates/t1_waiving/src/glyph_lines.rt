@@ -6,7 +6,7 @@ ghost use Rattle.t1_waiving.specs.GlyphLines.{is_in_glyph, judged_outside};
 
 use t1_font::Font;
 use t1_many::{Judge, Verdict};
-use t1_report::Fault;
+use t1_report::{Fault, Waivers};
 use t1_rules::Mask;
 
 /// Whether a fault is in a glyph, so that a waiver can leave it out.
@@ -26,13 +26,13 @@ pub struct OutsideGlyphs {
 impl Judge for OutsideGlyphs {
     ghost use Rattle.t1_many.specs.declared.verdict.Verdict.{Verdict};
 
-    ghost judges = { λ outside font fault. judged_outside outside.rules font fault };
+    ghost judges = { λ outside font _ fault. judged_outside outside.rules font fault };
 
-    fn judge(&self, font: &Font<'_>, fault: &Fault) -> Verdict {
+    fn judge(&self, font: &Font<'_>, _waivers: &Waivers<'_>, fault: &Fault) -> Verdict {
         if self.rules.has(fault.rule) && !is_in_glyph(font, fault) {
-            Verdict::Told
+            Verdict::Reported
         } else {
-            Verdict::Left
+            Verdict::Skipped
         }
     }
 }

@@ -2,7 +2,7 @@
 //! reported.
 //!
 //! [`waivers_text`] writes the waivers of one font's report. [`waive_all`] checks fonts one after another by a
-//! [`Waiving`], which reports the other lines in a form and keeps the waivers of each font; [`tell_too_many`] names the
+//! [`WriteWaivers`], which reports the other lines in a form and keeps the waivers of each font; [`tell_too_many`] names the
 //! fonts that have more than are read.
 //!
 //! What is promised:
@@ -31,5 +31,5 @@ pub use glyph_lines::OutsideGlyphs;
 pub use kept::{FontWaivers, Kept};
 pub use laws::{written_texts_are_read, written_waivers_leave_no_glyph_line};
 pub use too_many::tell_too_many;
-pub use waiving::{Waiving, waive_all};
+pub use waiving::{WriteWaivers, waive_all};
 pub use writing::waivers_text;

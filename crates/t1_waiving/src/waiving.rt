@@ -11,7 +11,7 @@ use std::alloc::{AllocError, Global};
 use t1_char::Edition;
 use t1_font::Font;
 use t1_many::{
-    FontError, FontFiles, Form, Lost, Recipient, Taken, WaiverFiles, check_all, hand_failure,
+    FontError, FontFiles, Lost, Policy, Printer, Taken, WaiverFiles, check_all, hand_failure,
     hand_report,
 };
 use t1_names::is_input;
@@ -22,7 +22,7 @@ use t1_run::Status;
 /// Reports the lines of these rules, in a form, but those of glyphs: of these it keeps the waivers. Of standard input, beside which none are
 /// written, it reports all.
 #[derive(Drop)]
-pub struct Waiving<F: Form> {
+pub struct WriteWaivers<F: Printer> {
     /// Of which rules lines are reported or waived.
     pub rules: Mask,
     /// The form that takes those that are reported.
@@ -31,7 +31,7 @@ pub struct Waiving<F: Form> {
     pub kept: Kept,
 }
 
-impl<F: Form> Recipient for Waiving<F> {
+impl<F: Printer> Policy for WriteWaivers<F> {
     ghost takes = { λ old new entry taken.
         (new.rules ≡ old.rules) × WaivesFont F.takes old.rules old.form new.form old.kept new.kept entry taken };
 
@@ -70,13 +70,13 @@ impl<F: Form> Recipient for Waiving<F> {
 /// Checks the fonts of these names in order, as [`check_all`] does. It reports the lines of some rules but those of
 /// glyphs, why there is no report of a font, and how each font was found. It keeps the waivers of the lines of glyphs. Of standard input it
 /// reports these too.
-pub fn waive_all<S: FontFiles, F: Form>(
+pub fn waive_all<S: FontFiles, F: Printer>(
     alloc: Global,
     names: &[String],
     beside: WaiverFiles,
     files: &mut S,
     edition: Edition,
-    waiving: &mut Waiving<F>,
+    waiving: &mut WriteWaivers<F>,
 ) -> Result<Status, Lost>
     ensures { WaivesAll F.takes waiving.old.rules (files_by S.calls beside files.old files.new) edition (map string_bytes names.now)
         waiving.old.form waiving.new.form waiving.old.kept waiving.new.kept result }

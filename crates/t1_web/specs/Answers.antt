@@ -9,7 +9,7 @@ use Rattle.std.specs.Str.{IsUtf8}
 use Rattle.t1_pieces.specs.Documents.{IsDocumentPiece}
 use Rattle.t1_pieces.specs.Drawings.{IsDrawing}
 use Rattle.t1_pieces.specs.Pieces.{IsPiece}
-use Rattle.t1_pieces.specs.declared.drawn.Drawn.{Drawn}
+use Rattle.t1_pieces.specs.declared.picture_result.PictureResult.{PictureResult}
 use Rattle.t1_pieces.specs.declared.form.Form.{Form}
 use Rattle.t1_pieces.specs.declared.piece.Piece.{Piece}
 use Rattle.t1_pieces.specs.declared.stage.Reached.{Reached}
@@ -41,7 +41,7 @@ pub data IsDocumentHandedOver (pages : PagesValue) (name : List ℕ) (edition : 
 
 -- A picture of a glyph, or why there is none.
 pub record IsPictureHandedOver (edition : Edition) (name : List ℕ) (step : Option ℕ) (font waivers room : List ℕ) (written status : ℕ) : Type 0 where
-  pub drawn : Drawn
+  pub drawn : PictureResult
   pub is_drawing : IsDrawing edition name step (font_of font) (waivers_in waivers) room drawn
   pub written_is : written ≡ drawn_bytes drawn
   pub status_is : status ≡ drawn_status drawn

@@ -3,8 +3,8 @@ use Rattle.std.specs.Prelude.{◌≡◌, ℕ, ◌==◌, if◌then◌else◌, Lis
 use Rattle.std.specs.Str.{IsUtf8}
 use Rattle.t1_char.specs.declared.edition.Edition.{Edition}
 use Rattle.t1_char.specs.declared.edition.Edition.TheVariants.{One, Two}
-use Rattle.t1_pieces.specs.declared.drawn.Drawn.{Drawn}
-use Rattle.t1_pieces.specs.declared.drawn.Drawn.TheVariants as drawn
+use Rattle.t1_pieces.specs.declared.picture_result.PictureResult.{PictureResult}
+use Rattle.t1_pieces.specs.declared.picture_result.PictureResult.TheVariants as drawn
 use Rattle.t1_pieces.specs.declared.form.Form.{Form}
 use Rattle.t1_pieces.specs.declared.form.Form.TheVariants.{Object, Text}
 use Rattle.t1_pieces.specs.declared.piece.Piece.{Piece}
@@ -64,7 +64,7 @@ bytes_of Memory = 0
 abbrev pub step_of : ℕ → Option ℕ
 step_of n = if n == 0 then None else Some n
 
-abbrev pub drawn_status : Drawn → ℕ
+abbrev pub drawn_status : PictureResult → ℕ
 drawn_status (drawn.Picture n) = 0
 drawn_status (drawn.NoRoom n) = 2
 drawn_status (drawn.Refused n) = 3
@@ -72,7 +72,7 @@ drawn_status drawn.Memory = 4
 drawn_status drawn.NoGlyph = 5
 
 -- How many bytes of the room were handed over; where it is too small, how many are to be.
-abbrev pub drawn_bytes : Drawn → ℕ
+abbrev pub drawn_bytes : PictureResult → ℕ
 drawn_bytes (drawn.Picture n) = n
 drawn_bytes (drawn.NoRoom n) = n
 drawn_bytes (drawn.Refused n) = n

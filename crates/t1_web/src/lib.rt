@@ -24,7 +24,9 @@ use crate::numbers::{
 use std::alloc::Global;
 use t1_forms::{Page, Pages, RESULT_COUNTS};
 use t1_pages::pages;
-use t1_pieces::{DocumentRequest, Piece, Reached, Request, Wish, document, lines, picture};
+use t1_pieces::{
+    DocumentRequest, PictureRequest, Piece, Reached, Request, document, lines, picture,
+};
 use t1_report::Mark;
 
 /// How far a report was handed over, as a host keeps it between calls: zeros first.
@@ -177,14 +179,14 @@ pub extern "C" fn t1_web_picture(
 ) -> u32
     ensures { IsPictureHandedOver (edition_of edition) glyph.now (step_of step) font.now waivers.now room.new written.new result }
 {
-    let wish = Wish {
+    let request = PictureRequest {
         font,
         waivers,
         edition: edition_of(edition),
         glyph,
         step: step_of(step),
     };
-    let drawn = picture(alloc, &wish, room);
+    let drawn = picture(alloc, &request, room);
     *written = drawn_bytes(drawn);
     drawn_status(drawn)
 }

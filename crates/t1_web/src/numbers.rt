@@ -4,7 +4,7 @@ ghost use Rattle.std.specs.Prelude.{◌≡◌};
 ghost use Rattle.t1_web.specs.Numbers.{IsFormOf, bytes_of, drawn_bytes, drawn_status, edition_of, stage_number, stage_of, status_of, step_of};
 
 use t1_char::Edition;
-use t1_pieces::{Drawn, Form, Piece, Stage};
+use t1_pieces::{Form, PictureResult, Piece, Stage};
 
 /// The edition that a host names.
 pub(crate) fn edition_of(number: u32) -> Edition
@@ -84,24 +84,26 @@ pub(crate) fn step_of(number: u64) -> Option<u64>
 }
 
 /// The status of what was handed over of a picture.
-pub(crate) fn drawn_status(drawn: Drawn) -> u32
+pub(crate) fn drawn_status(drawn: PictureResult) -> u32
     ensures { result ≡ drawn_status drawn }
 {
     match drawn {
-        Drawn::Picture(_) => 0,
-        Drawn::NoRoom(_) => 2,
-        Drawn::Refused(_) => 3,
-        Drawn::Memory => 4,
-        Drawn::NoGlyph => 5,
+        PictureResult::Picture(_) => 0,
+        PictureResult::NoRoom(_) => 2,
+        PictureResult::Refused(_) => 3,
+        PictureResult::Memory => 4,
+        PictureResult::NoGlyph => 5,
     }
 }
 
 /// How many bytes were handed over of a picture, or are to be.
-pub(crate) fn drawn_bytes(drawn: Drawn) -> usize
+pub(crate) fn drawn_bytes(drawn: PictureResult) -> usize
     ensures { result ≡ drawn_bytes drawn }
 {
     match drawn {
-        Drawn::Picture(count) | Drawn::NoRoom(count) | Drawn::Refused(count) => count,
-        Drawn::NoGlyph | Drawn::Memory => 0,
+        PictureResult::Picture(count)
+        | PictureResult::NoRoom(count)
+        | PictureResult::Refused(count) => count,
+        PictureResult::NoGlyph | PictureResult::Memory => 0,
     }
 }

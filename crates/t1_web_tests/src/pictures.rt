@@ -3,14 +3,14 @@
 use crate::lines::{front, with_glyph};
 use std::test::Fail;
 use t1_char::Edition;
-use t1_pieces::{Drawn, Wish, picture};
+use t1_pieces::{PictureRequest, PictureResult, picture};
 
 /// `0 500 hsbw`, `50 hmoveto`, `100 hlineto`, `closepath`, `endchar`.
 const LINE: &[u8] = b"\x8b\xf8\x88\x0d\xbd\x16\xef\x06\x09\x0e";
 
 /// A glyph of a font, as a whole, by the first edition.
-fn wish<'a>(font: &'a [u8], glyph: &'a [u8]) -> Wish<'a> {
-    Wish {
+fn request_for<'a>(font: &'a [u8], glyph: &'a [u8]) -> PictureRequest<'a> {
+    PictureRequest {
         font,
         waivers: b"",
         edition: Edition::One,
@@ -22,18 +22,18 @@ fn wish<'a>(font: &'a [u8], glyph: &'a [u8]) -> Wish<'a> {
 #[test]
 fn pictures_are_handed_over(rt: HostRuntime) -> Result<(), Fail> {
     let font = with_glyph(rt.alloc(), LINE)?;
-    let wish = wish(font.as_slice(), b"A");
+    let request = request_for(font.as_slice(), b"A");
     let mut room = Vec::from_elem(rt.alloc(), 0u8, 10_000)?;
-    let drawn = picture(rt.alloc(), &wish, room.as_mut_slice());
-    let Drawn::Picture(count) = drawn else {
+    let drawn = picture(rt.alloc(), &request, room.as_mut_slice());
+    let PictureResult::Picture(count) = drawn else {
         return Err(Fail::from("a picture"));
     };
     let text = front(room.as_slice(), count);
     assert!(rt; text.starts_with(b"<?xml version=\"1.0\" encoding=\"UTF-8\"?>\n<svg "));
     assert!(rt; text.ends_with(b"</svg>\n"));
     let mut short = Vec::from_elem(rt.alloc(), 0u8, 100)?;
-    let drawn = picture(rt.alloc(), &wish, short.as_mut_slice());
-    assert_eq!(rt; drawn, Drawn::NoRoom(count));
+    let drawn = picture(rt.alloc(), &request, short.as_mut_slice());
+    assert_eq!(rt; drawn, PictureResult::NoRoom(count));
     Ok(())
 }
 
@@ -43,13 +43,13 @@ fn no_picture_is_told_apart_from_a_refusal(rt: HostRuntime) -> Result<(), Fail> 
     let mut room = Vec::from_elem(rt.alloc(), 0u8, 64)?;
     let drawn = picture(
         rt.alloc(),
-        &wish(font.as_slice(), b"B"),
+        &request_for(font.as_slice(), b"B"),
         room.as_mut_slice(),
     );
-    assert_eq!(rt; drawn, Drawn::NoGlyph);
+    assert_eq!(rt; drawn, PictureResult::NoGlyph);
     let refusal = b"E01 not a PFA or PFB";
-    let drawn = picture(rt.alloc(), &wish(b"", b"A"), room.as_mut_slice());
-    assert_eq!(rt; drawn, Drawn::Refused(refusal.len()));
+    let drawn = picture(rt.alloc(), &request_for(b"", b"A"), room.as_mut_slice());
+    assert_eq!(rt; drawn, PictureResult::Refused(refusal.len()));
     assert!(rt; front(room.as_slice(), refusal.len()) == refusal.as_slice());
     Ok(())
 }

@@ -7,10 +7,10 @@ use std::alloc::AllocError;
 use std::fs::File;
 use std::io::{ErrorKind, Read};
 use std::{fs, io};
-use t1_answer_all::FileStore;
+use t1_answer_all::ShowsProgress;
 use t1_io::In;
 use t1_many::FontFiles;
-use t1_names::{Entry, FileSystem, Listing, is_font_name, is_input};
+use t1_names::{Entry, FileStore, FileSystem, Listing, is_font_name, is_input};
 
 /// The system's files.
 #[derive(Drop)]
@@ -88,15 +88,9 @@ impl<'a> FontFiles for System<'a> {
 }
 
 impl<'a> FileStore for System<'a> {
-    ghost expects = { λ _ _ _. Unit {0} };
-
     ghost puts = { λ _ _ _ _ _. Unit {0} };
 
     ghost has = { λ _ _ _. Unit {0} };
-
-    fn expect(&mut self, fonts: usize) {
-        self.progress.expect(fonts);
-    }
 
     fn replace(&mut self, name: &str, text: &[u8]) -> io::Result<()> {
         replace(self.rt, name, text)
@@ -104,6 +98,14 @@ impl<'a> FileStore for System<'a> {
 
     fn is_there(&self, name: &str) -> bool {
         fs::metadata(self.rt, name).is_ok()
+    }
+}
+
+impl<'a> ShowsProgress for System<'a> {
+    ghost expects = { λ _ _ _. Unit {0} };
+
+    fn expect(&mut self, fonts: usize) {
+        self.progress.expect(fonts);
     }
 }
 

@@ -6,8 +6,8 @@ use Rattle.t1_answer_all.specs.declared.ending.Remade.{Remade}
 use Rattle.t1_many.specs.Choice.{Choice}
 use Rattle.t1_many.specs.KnownFaults.{Reading}
 use Rattle.t1_many.specs.declared.readings.Reading.{Reading as Kept}
-use Rattle.t1_many.specs.declared.recipient.Lost.{Lost}
-use Rattle.t1_many.specs.declared.recipient.Lost.TheVariants.{Device, Memory}
+use Rattle.t1_many.specs.declared.policy.Lost.{Lost}
+use Rattle.t1_many.specs.declared.policy.Lost.TheVariants.{Device, Memory}
 
 -- The text of the file anew, and how many rows are read of it; or memory ran out.
 abbrev pub IsUpdated : ModeValue → Choice → List Kept → Result (Option Remade) Lost → Type 0

@@ -14,9 +14,9 @@ use Rattle.t1_names.specs.declared.causes.Cause.{Cause}
 use Rattle.t1_many.specs.Calls.{Calls}
 use Rattle.t1_many.specs.Files.{ChecksIn, Given, IsFound}
 use Rattle.t1_many.specs.Outcomes.{Entry, Outcome, Report, failed, reported}
-use Rattle.t1_summary.specs.declared.found.Found.{Found}
+use Rattle.t1_summary.specs.declared.found.FontClass.{FontClass}
 use Rattle.t1_many.specs.declared.font_files.WaiverFiles.{WaiverFiles}
-use Rattle.t1_many.specs.declared.recipient.Lost.{Lost}
+use Rattle.t1_many.specs.declared.policy.Lost.{Lost}
 
 -- A font that was read of a file's bytes.
 abbrev pub IsFont : FontValue → Type 0
@@ -49,16 +49,16 @@ of_bytes bytes asked old new = record {
 }
 
 -- The report of a font was taken; or there is none, and nothing was done.
-abbrev pub Checks : {R : Type 0} → (R → R → Entry → Result Found Lost → Type 0) → Edition → List ℕ → Given → R → R
-    → Result (Result Found Lost) Failure → Type 0
+abbrev pub Checks : {R : Type 0} → (R → R → Entry → Result FontClass Lost → Type 0) → Edition → List ℕ → Given → R → R
+    → Result (Result FontClass Lost) Failure → Type 0
 Checks takes edition name given old new (Ok taken) =
     (report : Report) × IsFound edition given (reported report)
     × takes old new (record { name = name; outcome = reported report }) taken
 Checks takes edition name given old new (Err failure) = IsFound edition given (failed (error_of failure)) × (new ≡ old)
 
 -- The same, with all that was done to the files.
-abbrev pub ChecksNamed : {R F : Type 0} → (R → R → Entry → Result Found Lost → Type 0) → Calls F → WaiverFiles → Edition → List ℕ → F → F → R → R
-    → Result (Result Found Lost) FontError → Type 0
+abbrev pub ChecksNamed : {R F : Type 0} → (R → R → Entry → Result FontClass Lost → Type 0) → Calls F → WaiverFiles → Edition → List ℕ → F → F → R → R
+    → Result (Result FontClass Lost) FontError → Type 0
 ChecksNamed takes calls beside edition name files files' old new (Ok taken) =
     (report : Report) × ChecksIn calls beside edition name files files' (reported report)
     × takes old new (record { name = name; outcome = reported report }) taken
@@ -71,8 +71,8 @@ or_error (Ok taken) = Ok taken
 or_error (Err failure) = Err (error_of failure)
 
 -- How the check of a font ended was taken.
-abbrev pub TakesOne : {R F : Type 0} → (R → R → Entry → Result Found Lost → Type 0) → Calls F → WaiverFiles → Edition → List ℕ → F → F → R → R
-    → Result Found Lost → Type 0
+abbrev pub TakesOne : {R F : Type 0} → (R → R → Entry → Result FontClass Lost → Type 0) → Calls F → WaiverFiles → Edition → List ℕ → F → F → R → R
+    → Result FontClass Lost → Type 0
 TakesOne takes calls beside edition name files files' old new taken =
     (outcome : Outcome) × ChecksIn calls beside edition name files files' outcome × takes old new (record { name = name; outcome = outcome }) taken
 

@@ -1,8 +1,8 @@
 -- How what is handed on of one font ends.
 use Rattle.std.specs.Prelude.{◌≡◌, ℕ, List, Option, Result, IfOk}
 use Rattle.t1_many.specs.Handing.{Handed, HandsOn, found_by, lines_by, lost_of}
-use Rattle.t1_summary.specs.declared.found.Found.{Found}
-use Rattle.t1_many.specs.declared.recipient.Lost.{Lost}
+use Rattle.t1_summary.specs.declared.found.FontClass.{FontClass}
+use Rattle.t1_many.specs.declared.policy.Lost.{Lost}
 use Rattle.t1_many.specs.declared.verdict.Verdict.{Verdict}
 use Rattle.t1_report.specs.Checked.{CheckedFont}
 use Rattle.t1_report.specs.Faults.{FaultValue}
@@ -11,7 +11,7 @@ use Rattle.t1_report.specs.Waivers.{Waiver}
 
 -- The lines of a report that aren't omitted.
 abbrev pub HandsLines : {F : Type 0} → (F → F → Handed → Option Lost → Type 0) → (FaultValue → Verdict) → List ℕ → CheckedFont → List Waiver
-    → F → F → Result Found Lost → Type 0
+    → F → F → Result FontClass Lost → Type 0
 HandsLines takes judges name font waivers old new taken =
     (faults : List FaultValue) × IsReport font waivers faults
     × HandsOn takes old new (lines_by judges name font waivers faults) (lost_of taken)

@@ -56,7 +56,7 @@ fn nearest<F: FileSystem>(
 }
 
 /// What is printed of a file that can't be read, for this cause.
-fn unread_text(alloc: Global, file: &str, cause: Cause) -> Result<String, AllocError>
+pub fn unread_text(alloc: Global, file: &str, cause: Cause) -> Result<String, AllocError>
     ensures { IfOk result (λ text. string_bytes text ≡ unread_text file.now cause) }
 {
     let mut text = String::from_str(alloc, "t1check-all: ")?;

@@ -5,9 +5,9 @@ use Rattle.t1_known.specs.Reads.{IsReadAs}
 
 pub returns : goal.returns
 returns c = λ all found.
-    let are : AreReadingsOf c.args.readings.now all = rw c.in-Anew.is at found in
+    let are : AreReadingsOf c.args.readings.now all = rw c.in-UpdateBaseline.is at found in
     let text = c.as_slice.ensures.value ∙ c.in-Some.ensures all are in
-    rw c.in-Anew.is (
+    rw c.in-UpdateBaseline.is (
       (
         c.in-Ok.known,
         subst (λ (t : List ℕ). IsReadAs t (Ok c.in-Ok.known)) text c.in-Ok.ensures,

@@ -6,4 +6,4 @@ use Rattle.t1_waiving.specs.FontTexts.{font_text}
 pub loop-font-preserved : goal.loop-font-preserved
 loop-font-preserved g c =
     rw (map-push font_text c.args.fonts.now c.loop-font.font-index c.font-item.result c.loop-font-test.true c.font-item.is)
-    (each-push g.F.FileStore.puts g.F.FileStore.has c.args.overwrites _ _ _ _ _ _ _ _ _ _ c.loop-font.invariant c.put_font-one.ensures)
+    (each-push (record { Puts = g.F.FileStore.puts; Has = g.F.FileStore.has }) c.args.overwrites _ _ _ _ _ _ _ _ _ _ c.loop-font.invariant c.put_font-one.ensures)

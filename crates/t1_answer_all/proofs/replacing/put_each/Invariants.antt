@@ -5,5 +5,5 @@ use Rattle.t1_answer_all.proofs.replacing.put_each.Given as goal
 
 abbrev pub invariant-loop-font : goal.invariant-loop-font
 invariant-loop-font g l =
-    PutsEach g.F.FileStore.puts g.F.FileStore.has l.overwrites (map font_text (take l.font-index l.fonts)) l.fn.files l.files
-    (g.E.Sink.state l.fn.errors) (g.E.Sink.state l.errors) l.done
+    PutsEach (record { Puts = g.F.FileStore.puts; Has = g.F.FileStore.has }) l.overwrites (map font_text (take l.font-index l.fonts))
+    (record { files = l.fn.files; files' = l.files; errors = g.E.Sink.state l.fn.errors; errors' = g.E.Sink.state l.errors }) l.done

@@ -4,7 +4,7 @@ use Rattle.t1_answer_all.proofs.unlisted.give_unsearched.Goals as goal
 use Rattle.t1_answer_all.specs.Unlisted.{GivesEach, unsearched}
 use Rattle.t1_forms.specs.Tellings.{ToldValue}
 use Rattle.t1_many.proofs.ReportLines.{lost_same}
-use Rattle.t1_many.specs.declared.recipient.Lost.{Lost}
+use Rattle.t1_many.specs.declared.policy.Lost.{Lost}
 
 pub returns-in_err-give : goal.returns-in_err-give
 returns-in_err-give g c =

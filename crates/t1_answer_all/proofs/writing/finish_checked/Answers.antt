@@ -2,7 +2,7 @@ use Rattle.std.proofs.Common.{Option, refl, subst, sym}
 use Rattle.t1_answer_all.proofs.writing.finish_checked.Goals as goal
 use Rattle.t1_answer_all.specs.Writing.{FinishesForm}
 use Rattle.t1_many.proofs.ReportLines.{lost_same, no_ok}
-use Rattle.t1_many.specs.declared.recipient.Lost.{Lost}
+use Rattle.t1_many.specs.declared.policy.Lost.{Lost}
 use Rattle.t1_run.specs.declared.status.Status.{Status}
 
 pub returns-in_err-finish_form : goal.returns-in_err-finish_form

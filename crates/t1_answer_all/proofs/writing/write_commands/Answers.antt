@@ -1,7 +1,7 @@
 use Rattle.std.proofs.Common.{ap, refl}
 use Rattle.t1_answer_all.proofs.writing.write_commands.Goals as goal
 use Rattle.t1_answer_all.specs.Writing.WritesCommands.{unflushed, unlistable, written}
-use Rattle.t1_many.specs.declared.recipient.Lost.TheVariants.{Device}
+use Rattle.t1_many.specs.declared.policy.Lost.TheVariants.{Device}
 
 pub returns-in-Err : goal.returns-in-Err
 returns-in-Err g c =

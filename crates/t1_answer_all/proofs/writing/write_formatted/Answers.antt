@@ -3,7 +3,7 @@ use Rattle.t1_answer_all.proofs.FormMaps.{fonts-kept}
 use Rattle.t1_answer_all.proofs.FormattedRuns.{formatted_ends}
 use Rattle.t1_answer_all.proofs.writing.write_formatted.Goals as goal
 use Rattle.t1_answer_all.specs.Writing.WritesFormatted.{unlistable}
-use Rattle.t1_many_forms.specs.Formatting.{FormattedTakes}
+use Rattle.t1_printers.specs.Formatting.{FormattedTakes}
 
 pub returns-in-Err : goal.returns-in-Err
 returns-in-Err g c =

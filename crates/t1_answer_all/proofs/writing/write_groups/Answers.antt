@@ -1,6 +1,6 @@
 use Rattle.t1_answer_all.proofs.GroupedRuns.{fonts-seen}
 use Rattle.t1_answer_all.proofs.writing.write_groups.Goals as goal
-use Rattle.t1_grouped.specs.RuleGroups.{values_of}
+use Rattle.t1_printers.specs.RuleGroups.{values_of}
 
 pub returns : goal.returns
 returns g c =

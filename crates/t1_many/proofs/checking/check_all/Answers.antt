@@ -7,11 +7,11 @@ use Rattle.t1_many.specs.Statuses.{worse}
 use Rattle.t1_run.specs.declared.status.Status.{Status}
 
 pub loop-name-init : goal.loop-name-init
-loop-name-init g c = none_gone g.T.Recipient.takes g.F.FontFiles.calls _ _ _ _
+loop-name-init g c = none_gone g.T.Policy.takes g.F.FontFiles.calls _ _ _ _
 
 pub returns-in_err-found : goal.returns-in_err-found
 returns-in_err-found g c =
-    one_lost g.T.Recipient.takes g.F.FontFiles.calls c.args.beside c.args.edition
+    one_lost g.T.Policy.takes g.F.FontFiles.calls c.args.beside c.args.edition
     (map string_bytes (take c.loop-name.name-index c.args.names.now)) (string_bytes c.name-item.result) _ _ _ _ _ _ c.loop-name.worst
     c.loop-name.invariant c.in_err-found.field-0.0 (map string_bytes c.args.names.now) (c.loop-name.name-index + 1)
     (take-map string_bytes _ c.args.names.now ∙ names_next string_bytes c.args.names.now c.loop-name.name-index c.name-item.result c.loop-name-test.true c.name-item.is)
@@ -20,19 +20,19 @@ returns-in_err-found g c =
 
 pub loop-name-preserved : goal.loop-name-preserved
 loop-name-preserved g c =
-    subst (λ (w : Status). HaveGone g.T.Recipient.takes g.F.FontFiles.calls c.args.beside c.args.edition
+    subst (λ (w : Status). HaveGone g.T.Policy.takes g.F.FontFiles.calls c.args.beside c.args.edition
     (map string_bytes (take (c.loop-name.name-index + 1) c.args.names.now)) c.args.files.now c.check_one.new.files
     c.args.recipient.now c.check_one.new.recipient w) (sym (c.worse-worst.ensures ∙ ap (worse c.loop-name.worst) c.status_of.ensures))
-    (subst (λ (ns : List (List ℕ)). HaveGone g.T.Recipient.takes g.F.FontFiles.calls c.args.beside c.args.edition ns c.args.files.now
+    (subst (λ (ns : List (List ℕ)). HaveGone g.T.Policy.takes g.F.FontFiles.calls c.args.beside c.args.edition ns c.args.files.now
     c.check_one.new.files c.args.recipient.now c.check_one.new.recipient (worse c.loop-name.worst (status_of_found c.in_ok-found.found)))
     (sym (names_next string_bytes c.args.names.now c.loop-name.name-index c.name-item.result c.loop-name-test.true c.name-item.is))
-    (one_gone g.T.Recipient.takes g.F.FontFiles.calls c.args.beside c.args.edition
+    (one_gone g.T.Policy.takes g.F.FontFiles.calls c.args.beside c.args.edition
     (map string_bytes (take c.loop-name.name-index c.args.names.now)) (string_bytes c.name-item.result) _ _ _ _ _ _ c.loop-name.worst
     c.loop-name.invariant c.in_ok-found.found (rw c.as_str.ensures.value at c.in_ok-found.ensures)))
 
 pub returns : goal.returns
 returns g c =
     let whole : take c.loop-name.name-index c.args.names.now ≡ c.args.names.now = take_all c.loop-name.name-index c.args.names.now c.loop-name-test.false in
-    all_gone g.T.Recipient.takes g.F.FontFiles.calls c.args.beside c.args.edition (map string_bytes c.args.names.now) _ _ _ _ c.loop-name.worst
-    (subst (λ (ns : List (String Global)). HaveGone g.T.Recipient.takes g.F.FontFiles.calls c.args.beside c.args.edition (map string_bytes ns)
+    all_gone g.T.Policy.takes g.F.FontFiles.calls c.args.beside c.args.edition (map string_bytes c.args.names.now) _ _ _ _ c.loop-name.worst
+    (subst (λ (ns : List (String Global)). HaveGone g.T.Policy.takes g.F.FontFiles.calls c.args.beside c.args.edition (map string_bytes ns)
     c.args.files.now c.loop-name.files c.args.recipient.now c.loop-name.recipient c.loop-name.worst) whole c.loop-name.invariant)

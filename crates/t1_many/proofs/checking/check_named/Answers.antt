@@ -14,7 +14,7 @@ returns-in-Err g c =
 pub returns-in-None : goal.returns-in-None
 returns-in-None g c =
     rw c.or_error.ensures
-    (named_by g.T.Recipient.takes g.F.FontFiles.calls c.args.beside c.args.edition c.args.name.now _ _ _ _ _ c.check_opened-taken.result
+    (named_by g.T.Policy.takes g.F.FontFiles.calls c.args.beside c.args.edition c.args.name.now _ _ _ _ _ c.check_opened-taken.result
     (λ outcome found. without_waivers (sym c.has_line_end.ensures ∙ c.if-has_line_end.false) _ _ _ _ _ _ c.in-Ok.ensures.opens
     (has_none g.F.FontFiles.calls _ c.args.name.now _ _ _ refl (rw c.asks.ensures at c.in-None.ensures))
     c.leave_font.ensures c.check_opened-taken.ensures.font found)
@@ -25,7 +25,7 @@ returns-in-Some-Ok g c =
     let asked = was_asked g.F.FontFiles.calls _ c.args.name.now _ _ _ _
     (ap (λ (opened : _). Some (opened_in g.F.Waivers.Source.state opened)) c.in-Some-Ok.field-0-is) (rw c.asks.ensures at c.in-Some-Ok.ensures) in
     rw c.or_error-in-Some-Ok.ensures
-    (named_by g.T.Recipient.takes g.F.FontFiles.calls c.args.beside c.args.edition c.args.name.now _ _ _ _ _ c.check_opened-taken-in-Some-Ok.result
+    (named_by g.T.Policy.takes g.F.FontFiles.calls c.args.beside c.args.edition c.args.name.now _ _ _ _ _ c.check_opened-taken-in-Some-Ok.result
     (λ outcome found. with_waivers (sym c.has_line_end.ensures ∙ c.if-has_line_end.false) _ _ _ _ _ _ _ c.in-Ok.ensures.opens asked.0 asked.1
     c.leave_font-in-Some-Ok.ensures c.leave_waivers.ensures
     c.check_opened-taken-in-Some-Ok.ensures.font c.check_opened-taken-in-Some-Ok.ensures.waivers found)

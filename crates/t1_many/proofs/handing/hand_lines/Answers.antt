@@ -4,8 +4,8 @@ use Rattle.t1_many.proofs.ReportLines.{HaveGone, lost_same, most_gone, no_ok, no
 use Rattle.t1_many.proofs.handing.hand_lines.Goals as goal
 use Rattle.t1_many.proofs.handing.hand_lines.Goals.{then-is_told+in_ok-line, else-is_told}
 use Rattle.t1_many.specs.Handing.{HandsOn, found_with, is_told, line, lines_by}
-use Rattle.t1_summary.specs.declared.found.Found.{Found}
-use Rattle.t1_many.specs.declared.recipient.Lost.{Lost}
+use Rattle.t1_summary.specs.declared.found.FontClass.{FontClass}
+use Rattle.t1_many.specs.declared.policy.Lost.{Lost}
 use Rattle.t1_many.specs.declared.verdict.Verdict.{Verdict}
 use Rattle.t1_report.specs.Checked.{CheckedFont, checked}
 use Rattle.t1_report.specs.Faults.{fault_value}
@@ -20,11 +20,17 @@ loop-fault-init g c = record {
   font = c.begin-walk.ensures.font;
   waivers = c.begin-walk.ensures.waivers;
   reasons = c.new-reasons.ensures;
-  gone = none_gone _ _ _ _ g.F.Form.takes _ _ c.begin-walk.ensures.mark;
+  gone = none_gone _ _ _ _ g.F.Printer.takes _ _ c.begin-walk.ensures.mark;
 }
 
 pub line-requires-clause-in_font : goal.line-requires-clause-in_font
 line-requires-clause-in_font g c =
+    subst (λ (waivers : List Waiver). IsInFont c.args.font.now waivers (fault_value c.in-Some.fault)) c.loop-fault.invariant.waivers
+    (subst (λ (font : CheckedFont). IsInFont font.value c.loop-fault.walk.waivers (fault_value c.in-Some.fault))
+    c.loop-fault.invariant.font c.in-Some.ensures.in_font)
+
+pub judge-verdict-requires : goal.judge-verdict-requires
+judge-verdict-requires g c =
     subst (λ (waivers : List Waiver). IsInFont c.args.font.now waivers (fault_value c.in-Some.fault)) c.loop-fault.invariant.waivers
     (subst (λ (font : CheckedFont). IsInFont font.value c.loop-fault.walk.waivers (fault_value c.in-Some.fault))
     c.loop-fault.invariant.font c.in-Some.ensures.in_font)
@@ -35,7 +41,7 @@ line-requires-clause-font g c = ap (λ (font : CheckedFont). font.value) c.loop-
 pub returns-in_err-line : goal.returns-in_err-line
 returns-in_err-line g c =
     let font = checked c.args.font.now c.args.sidebearings.now.edition in
-    let judges = g.J.Judge.judges c.args.judge.now c.args.font.now in
+    let judges = g.J.Judge.judges c.args.judge.now c.args.font.now c.args.waivers.now in
     let some = c.each_font_has_a_report.ensures font c.args.waivers.now in
     let next : IsNext font c.args.waivers.now c.loop-fault.walk.mark (fault_value c.in-Some.fault) =
     subst (λ (waivers : List Waiver). IsNext font waivers c.loop-fault.walk.mark (fault_value c.in-Some.fault)) c.loop-fault.invariant.waivers
@@ -43,24 +49,24 @@ returns-in_err-line g c =
     c.loop-fault.invariant.font c.in-Some.ensures.next) in (
       some.0,
       some.1,
-      subst (λ (lost : Option Lost). HandsOn g.F.Form.takes c.args.form.now c.line.new.self
+      subst (λ (lost : Option Lost). HandsOn g.F.Printer.takes c.args.form.now c.line.new.self
           (lines_by judges c.args.name.now font c.args.waivers.now some.0) lost)
-          (sym (lost_same {T = Found} c.from_residual.result c.in_err-line.field-0.0 c.from_residual.ensures.1))
-          (one_failed judges c.args.name.now font c.args.waivers.now g.F.Form.takes c.loop-fault._fault c.loop-fault.walk.mark c.args.form.now
+          (sym (lost_same {T = FontClass} c.from_residual.result c.in_err-line.field-0.0 c.from_residual.ensures.1))
+          (one_failed judges c.args.name.now font c.args.waivers.now g.F.Printer.takes c.loop-fault._fault c.loop-fault.walk.mark c.args.form.now
           c.loop-fault.form c.loop-fault.found c.loop-fault.invariant.gone c.marks_count_the_faults_given.ensures.start
           c.marks_count_the_faults_given.ensures.given c.requires.few c.requires.few_waivers some.0 some.1 (fault_value c.in-Some.fault)
           c.line.new.self c.in_err-line.field-0.0
           (ap is_told (sym c.judge-verdict.ensures) ∙ sym c.is_told.ensures ∙ c.if-is_told.true) next
-          (subst (λ (f : CheckedFont). g.F.Form.takes c.loop-fault.form c.line.new.self
+          (subst (λ (f : CheckedFont). g.F.Printer.takes c.loop-fault.form c.line.new.self
           (line c.args.name.now f c.args.waivers.now (fault_value c.in-Some.fault)) (Some c.in_err-line.field-0.0)) c.loop-fault.invariant.reasons
           c.in_err-line.ensures.took)),
-      no_ok {T = Found} {E = Lost} c.from_residual.result _ _ c.from_residual.ensures.1,
+      no_ok {T = FontClass} {E = Lost} c.from_residual.result _ _ c.from_residual.ensures.1,
     )
 
 pub loop-fault-preserved : goal.loop-fault-preserved
 loop-fault-preserved g c =
     let font = checked c.args.font.now c.args.sidebearings.now.edition in
-    let judges = g.J.Judge.judges c.args.judge.now c.args.font.now in
+    let judges = g.J.Judge.judges c.args.judge.now c.args.font.now c.args.waivers.now in
     let next : IsNext font c.args.waivers.now c.loop-fault.walk.mark (fault_value c.in-Some.fault) =
     subst (λ (waivers : List Waiver). IsNext font waivers c.loop-fault.walk.mark (fault_value c.in-Some.fault)) c.loop-fault.invariant.waivers
     (subst (λ (f : CheckedFont). IsNext f c.loop-fault.walk.waivers c.loop-fault.walk.mark (fault_value c.in-Some.fault))
@@ -72,28 +78,28 @@ loop-fault-preserved g c =
         | then-is_told+in_ok-line w ↦ w.reasons-is ∙ w.in_ok-line.ensures.same ∙ c.loop-fault.invariant.reasons
         | else-is_told w ↦ w.reasons-is ∙ c.loop-fault.invariant.reasons
       ];
-      gone = subst (λ (mark : Mark). HaveGone judges c.args.name.now font c.args.waivers.now g.F.Form.takes (c.loop-fault._fault + 1) mark
+      gone = subst (λ (mark : Mark). HaveGone judges c.args.name.now font c.args.waivers.now g.F.Printer.takes (c.loop-fault._fault + 1) mark
           c.args.form.now c.if-is_told.form c.found_with-found.result)
           (sym (ap (λ (w : WalkView). w.mark) c.in-Some.ensures.state))
-          (subst (λ (found : Found). HaveGone judges c.args.name.now font c.args.waivers.now g.F.Form.takes (c.loop-fault._fault + 1)
+          (subst (λ (found : FontClass). HaveGone judges c.args.name.now font c.args.waivers.now g.F.Printer.takes (c.loop-fault._fault + 1)
           (mark_of (fault_value c.in-Some.fault)) c.args.form.now c.if-is_told.form found)
           (sym (c.found_with-found.ensures ∙ ap (λ (v : Verdict). found_with v c.loop-fault.found) c.judge-verdict.ensures))
           (elim c.if-is_told.branch [
             | then-is_told+in_ok-line w ↦
-                subst (λ (form : g.row.F.Denot). HaveGone judges c.args.name.now font c.args.waivers.now g.F.Form.takes (c.loop-fault._fault + 1)
+                subst (λ (form : g.row.F.Denot). HaveGone judges c.args.name.now font c.args.waivers.now g.F.Printer.takes (c.loop-fault._fault + 1)
                 (mark_of (fault_value c.in-Some.fault)) c.args.form.now form (found_with (judges (fault_value c.in-Some.fault)) c.loop-fault.found))
                 (sym w.form-is)
-                (one_gone judges c.args.name.now font c.args.waivers.now g.F.Form.takes c.loop-fault._fault c.loop-fault.walk.mark c.args.form.now
+                (one_gone judges c.args.name.now font c.args.waivers.now g.F.Printer.takes c.loop-fault._fault c.loop-fault.walk.mark c.args.form.now
                 c.loop-fault.form c.loop-fault.found c.loop-fault.invariant.gone (fault_value c.in-Some.fault) next w.line.new.self
                 (ap is_told (sym c.judge-verdict.ensures) ∙ sym c.is_told.ensures ∙ w.if-is_told.true)
-                (subst (λ (f : CheckedFont). g.F.Form.takes c.loop-fault.form w.line.new.self
+                (subst (λ (f : CheckedFont). g.F.Printer.takes c.loop-fault.form w.line.new.self
                 (line c.args.name.now f c.args.waivers.now (fault_value c.in-Some.fault)) None) c.loop-fault.invariant.reasons
                 w.in_ok-line.ensures.took))
             | else-is_told w ↦
-                subst (λ (form : g.row.F.Denot). HaveGone judges c.args.name.now font c.args.waivers.now g.F.Form.takes (c.loop-fault._fault + 1)
+                subst (λ (form : g.row.F.Denot). HaveGone judges c.args.name.now font c.args.waivers.now g.F.Printer.takes (c.loop-fault._fault + 1)
                 (mark_of (fault_value c.in-Some.fault)) c.args.form.now form (found_with (judges (fault_value c.in-Some.fault)) c.loop-fault.found))
                 (sym w.form-is)
-                (one_passed judges c.args.name.now font c.args.waivers.now g.F.Form.takes c.loop-fault._fault c.loop-fault.walk.mark c.args.form.now
+                (one_passed judges c.args.name.now font c.args.waivers.now g.F.Printer.takes c.loop-fault._fault c.loop-fault.walk.mark c.args.form.now
                 c.loop-fault.form c.loop-fault.found c.loop-fault.invariant.gone (fault_value c.in-Some.fault) next
                 (ap is_told (sym c.judge-verdict.ensures) ∙ sym c.is_told.ensures ∙ w.if-is_told.false))
           ]));
@@ -103,7 +109,7 @@ pub returns-after-loop-fault : goal.returns-after-loop-fault
 returns-after-loop-fault g c =
     let font = checked c.args.font.now c.args.sidebearings.now.edition in
     let some = c.each_font_has_a_report.ensures font c.args.waivers.now in
-    let all = most_gone (g.J.Judge.judges c.args.judge.now c.args.font.now) c.args.name.now font c.args.waivers.now g.F.Form.takes
+    let all = most_gone (g.J.Judge.judges c.args.judge.now c.args.font.now c.args.waivers.now) c.args.name.now font c.args.waivers.now g.F.Printer.takes
     c.loop-fault._fault c.loop-fault.walk.mark c.args.form.now c.loop-fault.form c.loop-fault.found c.loop-fault.invariant.gone
     c.marks_count_the_faults_given.ensures.start c.marks_count_the_faults_given.ensures.given c.requires.few c.requires.few_waivers
     some.0 some.1 (omega (arith, c.loop-fault-test.false)) in

@@ -4,11 +4,11 @@ use Rattle.t1_many.proofs.one_font.check_font.Goals as goal
 
 pub returns-in_err-text-clause-checks : goal.returns-in_err-text-clause-checks
 returns-in_err-text-clause-checks g c =
-    not_found g.T.Recipient.takes _ _ _ _ _ c.from_residual.result _ c.from_residual.ensures.1 refl
+    not_found g.T.Policy.takes _ _ _ _ _ c.from_residual.result _ c.from_residual.ensures.1 refl
     (file_unread _ c.args.font.now c.args.has_waivers _ _ c.in_err-text.field-0.0 c.in_err-text.ensures.text)
 
 pub returns-clause-checks : goal.returns-clause-checks
 returns-clause-checks g c =
-    checks_by g.T.Recipient.takes _ _ _ _ _ _ c.check_waived.result
+    checks_by g.T.Policy.takes _ _ _ _ _ _ c.check_waived.result
     (text_of_file c.args.font.now c.args.has_waivers _ _ c.in_ok-text.text.items c.in_ok-text.ensures.text)
     (rw c.as_slice.ensures.value at c.check_waived.ensures)

@@ -1,6 +1,5 @@
-use Rattle.std.proofs.Common.{◌≡◌, ◌<◌, ◌+◌, ◌-◌, ℕ, ℤ, zero, suc, true, false, cond, ap, sym, ◌∙◌, refl, arith}
+use Rattle.std.proofs.Common.{◌≡◌, ◌<◌, ◌+◌, ◌-◌, ◌∙◌, Bool, SFits, ap, arith, cond, false, of_z, refl, subst, suc, sym, to_z, true, w64, zero, ℕ, ℤ}
 use Rattle.std.proofs.Math.Facts.{to_z-of_z}
-use Rattle.std.proofs.Common.{Bool, SFits, of_z, to_z, w64, subst}
 use Rattle.t1_picture.specs.Frames.{fits, power_for, power_from}
 use Rattle.t1_picture.proofs.frame.power_for.Goals as goal
 

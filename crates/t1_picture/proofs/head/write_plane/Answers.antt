@@ -1,7 +1,7 @@
 use Rattle.std.proofs.Common.{◌≡◌, ◌++◌, ℕ, ℤ, List, OnOk, Result, of_z, string_bytes, to_z, w64, ap, subst, ◌∙◌}
 use Rattle.std.proofs.lemmas.Int.{to_z-of_z}
 use Rattle.std.specs.declared.alloc.AllocError.{AllocError}
-use Rattle.t1_decimals.specs.declared.decimals.Exact.{Exact}
+use Rattle.t1_reason_texts.specs.declared.decimals.Exact.{Exact}
 use Rattle.t1_picture.specs.Frames.{length_of}
 use Rattle.t1_picture.specs.Pictures.{plane_text, size_text, svg_start, view_box_text}
 use Rattle.t1_picture.proofs.Joined.{then_last}

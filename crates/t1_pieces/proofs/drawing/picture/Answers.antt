@@ -4,10 +4,10 @@ use Rattle.t1_pieces.proofs.drawing.picture.Goals as goal
 
 pub returns-in-Ok-Some-clause-drawing : goal.returns-in-Ok-Some-clause-drawing
 returns-in-Ok-Some-clause-drawing c =
-    text_drawn c.args.wish.now.edition c.args.wish.now.glyph.now c.args.wish.now.step _ _ (string_bytes c.in-Ok-Some.text) c.put_text.new.room
+    text_drawn c.args.request.now.edition c.args.request.now.glyph.now c.args.request.now.step _ _ (string_bytes c.in-Ok-Some.text) c.put_text.new.room
     c.put_text.result (rw c.in-Ok-Some.field-0-is at c.in-Ok-Some.ensures.text) (rw c.as_bytes.ensures.value at c.put_text.ensures.text)
 
 pub returns-in-Err-Refused-clause-drawing : goal.returns-in-Err-Refused-clause-drawing
 returns-in-Err-Refused-clause-drawing c =
-    refused_drawn c.args.wish.now.edition c.args.wish.now.glyph.now c.args.wish.now.step _ _ c.put_refusal.new.room c.put_refusal.result
+    refused_drawn c.args.request.now.edition c.args.request.now.glyph.now c.args.request.now.step _ _ c.put_refusal.new.room c.put_refusal.result
     c.in-Err-Refused.field-0 c.in-Err-Refused.code c.in-Err-Refused.ensures.failed c.in-Err-Refused.field-0-is c.put_refusal.ensures.text

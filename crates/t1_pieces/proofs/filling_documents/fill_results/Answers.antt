@@ -26,14 +26,14 @@ loop-fault-init c = record {
   size = refl;
   first = λ none. none;
   so_far = none_so_far (subject_for c.args.writer.request.now c.args.walk.font c.args.waivers.now)
-      (sarif_state c.args.writer.results.formatter) c.args.walk.mark c.args.at c.args.room.now c.args.used c.requires.within c.requires.begun;
+      (sarif_state c.args.writer.results.formatter) c.args.walk.mark c.args.filled.at c.args.room.now c.args.filled.used c.requires.within c.requires.begun;
 }
 
 -- All results are handed over.
 pub returns-in_default-clause-rest : goal.returns-in_default-clause-rest
 returns-in_default-clause-rest c = λ stands.
     let subject : Subject = subject_for c.args.writer.request.now c.args.walk.font c.args.waivers.now in
-    end_rest subject (take c.args.used c.args.room.now) (sarif_state c.args.writer.results.formatter) c.args.walk.mark c.args.at
+    end_rest subject (take c.args.filled.used c.args.room.now) (sarif_state c.args.writer.results.formatter) c.args.walk.mark c.args.filled.at
     c.loop-fault.at c.args.reached.now c.fill_end.new.reached c.loop-fault.walk.mark (sarif_state c.loop-fault.writer.results.formatter)
     c.loop-fault.room c.fill_end.new.room c.loop-fault.used c.fill_end.result c.loop-fault.invariant.so_far
     (λ none. c.requires.start (c.loop-fault.invariant.first none))
@@ -51,7 +51,7 @@ returns-then-text-room-clause-rest c = λ stands.
     let fault = fault_value c.in-Some.fault in
     let same = same_subject c.loop-fault.writer.request.now c.args.writer.request.now c.loop-fault.writer.reasons c.args.walk.font c.args.waivers.now
     c.loop-fault.invariant.request c.loop-fault.invariant.reasons in
-    full_rest subject (take c.args.used c.args.room.now) (sarif_state c.args.writer.results.formatter) c.args.walk.mark c.args.at
+    full_rest subject (take c.args.filled.used c.args.room.now) (sarif_state c.args.writer.results.formatter) c.args.walk.mark c.args.filled.at
     c.loop-fault.at c.args.reached.now c.loop-fault.walk.mark state' c.loop-fault.room c.as_bytes-text.result.now c.loop-fault.used c.full.result
     c.loop-fault.invariant.so_far (λ none. c.requires.start (c.loop-fault.invariant.first none))
     (result fault
@@ -64,7 +64,7 @@ returns-then-text-room-clause-rest c = λ stands.
 pub loop-fault-preserved : goal.loop-fault-preserved
 loop-fault-preserved c =
     let subject : Subject = subject_for c.args.writer.request.now c.args.walk.font c.args.waivers.now in
-    let before = take c.args.used c.args.room.now in
+    let before = take c.args.filled.used c.args.room.now in
     let state = sarif_state c.args.writer.results.formatter in
     let state' = sarif_state c.loop-fault.writer.results.formatter in
     let next = sarif_state c.set_result.new.self.results.formatter in
@@ -81,7 +81,7 @@ loop-fault-preserved c =
     let within = c.loop-fault.invariant.so_far.within in
     let length_is = c.put_after.ensures.length in
     let used = c.loop-fault.used + length c.as_bytes-text.result.now in
-    let one = one_so_far subject before state c.args.walk.mark c.args.at c.loop-fault.at c.loop-fault.walk.mark state' next c.loop-fault.room
+    let one = one_so_far subject before state c.args.walk.mark c.args.filled.at c.loop-fault.at c.loop-fault.walk.mark state' next c.loop-fault.room
     c.put_after.new.room c.as_bytes-text.result.now c.loop-fault.used fault c.loop-fault.invariant.so_far
     (at_walk (λ (f : CheckedFont) (w : List Waiver) (m : Mark). IsNext f w m fault) _ _ _ _ _ _ c.loop-fault.invariant.font
     c.loop-fault.invariant.waivers refl c.in-Some.ensures.next)
@@ -94,13 +94,13 @@ loop-fault-preserved c =
       kept = c.loop-fault.invariant.kept;
       size = c.put_after.ensures.length ∙ c.loop-fault.invariant.size;
       first = λ none. absurd (omega (arith, none, count, some));
-      so_far = subst (λ (m : Mark). AreSoFar subject before state c.args.walk.mark c.args.at
+      so_far = subst (λ (m : Mark). AreSoFar subject before state c.args.walk.mark c.args.filled.at
           (record { stage = Results; mark = c.mark-before.result; counts = c.counts.result.now }) m next c.put_after.new.room used)
           (sym (ap (λ (w : WalkView). w.mark) c.in-Some.ensures.state))
-          (subst (λ (k : List ℕ). AreSoFar subject before state c.args.walk.mark c.args.at
+          (subst (λ (k : List ℕ). AreSoFar subject before state c.args.walk.mark c.args.filled.at
           (record { stage = Results; mark = c.mark-before.result; counts = k }) (mark_of fault) next c.put_after.new.room used)
           (sym c.counts.ensures)
-          (subst (λ (b : Mark). AreSoFar subject before state c.args.walk.mark c.args.at
+          (subst (λ (b : Mark). AreSoFar subject before state c.args.walk.mark c.args.filled.at
           (record { stage = Results; mark = b; counts = next.counts }) (mark_of fault) next c.put_after.new.room used)
           (sym c.mark-before.ensures) one));
     }

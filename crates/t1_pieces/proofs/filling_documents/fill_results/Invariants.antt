@@ -12,9 +12,9 @@ invariant-loop-fault l = record {
   reasons : l.writer.reasons ≡ l.fn.walk.font;
   kept : l.reached ≡ l.fn.reached;
   size : length l.room ≡ length l.fn.room;
-  first : l.used ≡ 0 → l.fn.used ≡ 0;
-  so_far : AreSoFar (subject_for l.fn.writer.request.now l.fn.walk.font l.waivers) (take l.fn.used l.fn.room)
-      (sarif_state l.fn.writer.results.formatter) l.fn.walk.mark l.fn.at l.at l.walk.mark (sarif_state l.writer.results.formatter) l.room l.used;
+  first : l.used ≡ 0 → l.fn.filled.used ≡ 0;
+  so_far : AreSoFar (subject_for l.fn.writer.request.now l.fn.walk.font l.waivers) (take l.fn.filled.used l.fn.room)
+      (sarif_state l.fn.writer.results.formatter) l.fn.walk.mark l.fn.filled.at l.at l.walk.mark (sarif_state l.writer.results.formatter) l.room l.used;
 }
 
 abbrev pub decreases-loop-fault : goal.decreases-loop-fault

@@ -1,5 +1,5 @@
 use Rattle.std.proofs.Common.{◌≡◌, rules}
-use Rattle.t1_decimals.specs.Decimals.{value_of}
+use Rattle.t1_reason_texts.specs.Decimals.{value_of}
 use Rattle.t1_reason_texts.proofs.zone_texts.WidthTextDisplay.fmt.Goals as goal
 
 pub returns-clause-writes : goal.returns-clause-writes

@@ -1,3 +1,0 @@
--- Definitions.
-pub mod Decimals
-pub mod Laws

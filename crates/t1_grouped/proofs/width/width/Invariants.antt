@@ -1,6 +1,0 @@
-use Rattle.std.proofs.Common.{◌≡◌, take}
-use Rattle.t1_grouped.proofs.width.width.Given as goal
-use Rattle.t1_grouped.specs.Widths.{width_of}
-
-abbrev pub invariant-loop-byte : goal.invariant-loop-byte
-invariant-loop-byte l = l.width ≡ width_of (take l.byte-index l.text)

@@ -1,0 +1,61 @@
+//! What is done with each font that was checked.
+
+ghost use Rattle.std.specs.Prelude.{◌≡◌, Result};
+ghost use Rattle.t1_many.specs.Outcomes.{Entry, IsRead, TakesReport, failed};
+ghost use Rattle.t1_many.specs.declared.policy.Lost.TheVariants.{Device};
+ghost use Rattle.t1_report.specs.Checked.{checked};
+ghost use Rattle.t1_rules.specs.Components.{AreOf};
+
+use crate::font_error::FontError;
+use std::alloc::{AllocError, Global};
+use t1_font::Font;
+use t1_io::Broken;
+use t1_report::Waivers;
+use t1_rules::Sidebearings;
+use t1_summary::FontClass;
+
+/// Why a run over many fonts stops.
+#[derive(Clone, Copy, Debug, PartialEq, Eq)]
+pub enum Lost {
+    /// A write or a flush failed.
+    Device,
+    /// Memory ran out while a line was written.
+    Memory,
+}
+
+impl From<Broken> for Lost {
+    ghost from_gives = { λ _ lost. lost ≡ Device };
+
+    fn from(_error: Broken) -> Lost {
+        Lost::Device
+    }
+}
+
+/// How a font was found, unless the run stops there.
+pub type Taken = Result<FontClass, Lost>;
+
+/// What takes how the checks of fonts ended, one after another.
+pub trait Policy {
+    ghost use Rattle.t1_summary.specs.declared.found.FontClass.{FontClass};
+    ghost use Rattle.t1_many.specs.declared.policy.Lost.{Lost};
+
+    // It took how the check of a font ended, and found the font so; or it stopped there.
+    ghost takes: { Self → Self → Entry → Result FontClass Lost → Type 0 };
+
+    /// Takes the report of a font. Where memory ran out before a line was written nothing was done.
+    fn report<'a>(
+        &mut self,
+        alloc: Global,
+        name: &str,
+        font: &'a Font<'a>,
+        sidebearings: &'a Sidebearings,
+        waivers: &'a Waivers<'a>,
+    ) -> Result<Taken, AllocError>
+        requires read { IsRead font.now waivers.now }
+        requires sidebearings { AreOf font.now sidebearings.now }
+        ensures { TakesReport takes name.now (checked font.now sidebearings.now.edition) waivers.now self.old self.new result };
+
+    /// Takes why there is none.
+    fn failure(&mut self, name: &str, error: FontError) -> Taken
+        ensures { takes self.old self.new (record { name = name.now; outcome = failed error }) result };
+}

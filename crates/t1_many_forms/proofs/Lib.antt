@@ -1,4 +1,0 @@
-pub mod DocumentTexts
-pub mod JsonTexts
-pub mod LineTexts
-pub mod Written

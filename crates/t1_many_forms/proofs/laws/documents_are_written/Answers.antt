@@ -1,5 +1,0 @@
-use Rattle.t1_many_forms.proofs.DocumentTexts.{seen-document}
-use Rattle.t1_many_forms.proofs.laws.documents_are_written.Goals as goal
-
-pub returns : goal.returns
-returns g c = seen-document (λ f. f.reasons) (λ f. record { formatter = f.formatter; out = g.W.Sink.state f.out; errors = g.E.Sink.state f.errors })

@@ -1,5 +1,0 @@
-use Rattle.t1_many_forms.proofs.LineTexts.{those_of_reports}
-use Rattle.t1_many_forms.proofs.laws.lines_are_those_of_reports.Goals as goal
-
-pub returns : goal.returns
-returns c = those_of_reports

@@ -1,1 +1,0 @@
-pub mod T1checkLaws

@@ -1,8 +1,0 @@
-use Rattle.t1_pieces_laws.proofs.T1checkLaws.{refuses, writes}
-use Rattle.t1_pieces_laws.proofs.t1check_writes_the_same.Goals as goal
-
-pub returns-clause-lines : goal.returns-clause-lines
-returns-clause-lines c = writes c.a_font_has_one_report.ensures
-
-pub returns-clause-refusals : goal.returns-clause-refusals
-returns-clause-refusals c = refuses

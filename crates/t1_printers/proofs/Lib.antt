@@ -1,0 +1,14 @@
+pub mod Counts
+pub mod DocumentTexts
+pub mod FirstReasons
+pub mod Fitting
+pub mod Greatest
+pub mod GroupTails
+pub mod HeldGroups
+pub mod JsonTexts
+pub mod Kept
+pub mod LineTexts
+pub mod NamesText
+pub mod Runs
+pub mod Steps
+pub mod Written

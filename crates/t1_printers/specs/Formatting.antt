@@ -1,0 +1,77 @@
+-- What is given to a formatter of things that are handed on, and what is printed on standard error.
+use Rattle.std.specs.Prelude.{◌≡◌, ℕ, Bool, true, List, codes, Option, None, Some}
+use Rattle.t1_forms.specs.Tellings.{ToldValue, of_line, of_unchecked, reason_told, what_spelled, what_value}
+use Rattle.t1_forms.specs.declared.told.Told.{Told}
+use Rattle.t1_io.specs.Devices.{PutFailed, SinkState, Wrote}
+use Rattle.t1_lines.specs.Lines.{line_in, of_fault, of_refusal}
+use Rattle.t1_refusals.specs.declared.refusal.RefusalCode.{RefusalCode}
+use Rattle.t1_many.specs.Handing.{Handed, done, failure, line}
+use Rattle.t1_many.specs.Plain.{IsFlushed}
+use Rattle.t1_many.specs.declared.policy.Lost.{Lost}
+use Rattle.t1_many.specs.declared.policy.Lost.TheVariants.{Device, Memory}
+use Rattle.t1_many.specs.Reasons.{told_reason}
+use Rattle.t1_report.specs.Checked.{CheckedFont}
+use Rattle.t1_report.specs.Faults.{FaultValue}
+use Rattle.t1_report.specs.Waivers.{Waiver}
+use Rattle.t1_many.specs.FontErrors.{reason_of}
+use Rattle.t1_many.specs.Unchecked.{unchecked_line}
+use Rattle.t1_many.specs.declared.font_error.FontError.{FontError}
+use Rattle.t1_many.specs.declared.font_error.FontError.TheVariants.{Refused, Unchecked}
+
+-- Beside what is reported is its line, as it is spelled, where lines are shown.
+abbrev pub HasItsLine : Bool → Told → Type 0
+HasItsLine has_lines told = has_lines ≡ true → told.line.now ≡ what_spelled (what_value told.what)
+
+-- What is reported of the font of a name: the line of a fault, with its reason where reasons are reported, a refusal, or why it wasn't checked.
+abbrev pub told_fault : Bool → List ℕ → CheckedFont → List Waiver → FaultValue → ToldValue
+told_fault reasons name font waivers fault = record {
+  font = Some name;
+  what = of_line (of_fault (line_in font.value waivers fault));
+  reason = reason_told font.value fault.rule (told_reason reasons font waivers fault);
+}
+
+abbrev pub told_refusal : List ℕ → RefusalCode → ToldValue
+told_refusal name code = record { font = Some name; what = of_line (of_refusal code); reason = None }
+
+abbrev pub told_unchecked : List ℕ → List ℕ → ToldValue
+told_unchecked name reason = record { font = Some name; what = of_unchecked reason; reason = None }
+
+-- ---- what is given
+
+-- A formatter, and the devices that it has.
+pub record Formatting (T : Type 0) : Type 0 where
+  pub formatter : T
+  pub out : SinkState
+  pub errors : SinkState
+
+-- This was given to the formatter, which took it or stopped; or memory ran out before.
+pub data Gives {T : Type 0} (writes : T → T → SinkState → SinkState → ToldValue → Option Lost → Type 0) (old new : Formatting T)
+    (told : ToldValue) (lost : Option Lost) : Type 0 where
+  given : writes old.formatter new.formatter old.out new.out told lost → Gives writes old new told lost
+  no_memory : lost ≡ Some Memory → new.formatter ≡ old.formatter → new.out ≡ old.out → Gives writes old new told lost
+
+-- That a font wasn't checked was printed on standard error, and then given; or standard error failed.
+pub data GivesUnchecked {T : Type 0} (writes : T → T → SinkState → SinkState → ToldValue → Option Lost → Type 0) (old new : Formatting T)
+    (name reason : List ℕ) (lost : Option Lost) : Type 0 where
+  told :
+      Wrote old.errors new.errors (unchecked_line name reason) → Gives writes old new (told_unchecked name reason) lost
+      → GivesUnchecked writes old new name reason lost
+  untold :
+      PutFailed old.errors new.errors (unchecked_line name reason) → new.formatter ≡ old.formatter → new.out ≡ old.out
+      → lost ≡ Some Device → GivesUnchecked writes old new name reason lost
+
+-- Why there is no report was given.
+abbrev pub GivesFailure : {T : Type 0} → (T → T → SinkState → SinkState → ToldValue → Option Lost → Type 0) → Formatting T → Formatting T
+    → List ℕ → FontError → Option Lost → Type 0
+GivesFailure writes old new name (Refused code) lost =
+    Gives writes old new (told_refusal name code) lost × (new.errors ≡ old.errors)
+GivesFailure writes old new name (Unchecked why) lost = GivesUnchecked writes old new name (reason_of why) lost
+
+-- One thing that is handed on. The output is flushed after each font.
+abbrev pub FormattedTakes : {T : Type 0} → Bool → (T → T → SinkState → SinkState → ToldValue → Option Lost → Type 0) → Formatting T
+    → Formatting T → Handed → Option Lost → Type 0
+FormattedTakes reasons writes old new (line name font waivers fault) lost =
+    Gives writes old new (told_fault reasons name font waivers fault) lost × (new.errors ≡ old.errors)
+FormattedTakes reasons writes old new (failure name reason) lost = GivesFailure writes old new name reason lost
+FormattedTakes reasons writes old new (done name found) lost =
+    (new.formatter ≡ old.formatter) × IsFlushed old.out new.out lost × (new.errors ≡ old.errors)

@@ -1,3 +1,0 @@
--- Definitions.
-pub mod Members
-pub mod Told
