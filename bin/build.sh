@@ -56,6 +56,10 @@ show_build() {
         printf '%s\n' "$line"
         case $moves$line in
             'yeschecked '*', '*' of '*) show_line "$1, function ${line##*, }" ;;
+            'yesso far: '*' functions checked'*)
+                far=${line#so far: }
+                show_line "$1, function ${far%% functions*}"
+                ;;
         esac
     done >"$log"
     [ -z "$moves" ] || show_line ''
@@ -79,7 +83,7 @@ build_anew() {
         place=$((place + 1))
         [ -z "$anew" ] && is_proved "$library" && continue
         anew=1
-        run_rt "$library" "$name: proving crate $place of $count, $library" check || return 1
+        run_rt "$library" "$name: proving crate $place of $count, $library" lib || return 1
     done
     run_rt "$name" "$name: proving and building crate $count of $count, $name" run -- --help
 }
