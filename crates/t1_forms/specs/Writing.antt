@@ -1,5 +1,5 @@
--- What a call that writes a line does.
-use Rattle.std.specs.Prelude.{◌≡◌, List, ℕ, Result, Ok, Err}
+-- What a call that writes does.
+use Rattle.std.specs.Prelude.{◌≡◌, List, ℕ, Option, Some, Result, Ok, Err}
 use Rattle.t1_io.specs.Devices.{SinkState, Wrote, PutFailed}
 use Rattle.t1_forms.specs.declared.error.FormatError.{FormatError}
 use Rattle.t1_forms.specs.declared.error.FormatError.TheVariants.{Memory, Broken}
@@ -9,3 +9,13 @@ abbrev pub WritesLine : {X : Type 0} → SinkState → SinkState → List ℕ �
 WritesLine old new line (Ok x) = Wrote old new line
 WritesLine old new line (Err Memory) = new ≡ old
 WritesLine old new line (Err Broken) = PutFailed old new line
+
+-- A device to which this was written, and which is else as it was.
+abbrev pub with_text : SinkState → List ℕ → SinkState
+with_text state text = record {
+  written = Some text;
+  flushed = state.flushed;
+  flushes = state.flushes;
+  failed_puts = state.failed_puts;
+  failed = state.failed;
+}

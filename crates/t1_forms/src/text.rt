@@ -1,6 +1,7 @@
 //! A text in memory, as a device: what is written is appended, and a put fails where memory runs out.
 
 ghost use Rattle.std.specs.Prelude.{◌≡◌, ◌∷◌, ◌++◌, ℕ, List, [], Some, false, true};
+ghost use Rattle.t1_forms.specs.Writing.{with_text};
 ghost use Rattle.t1_io.specs.Devices.{SinkState};
 
 use std::alloc::Global;
@@ -32,17 +33,17 @@ impl Text {
         }
     }
 
-    /// Nothing is written any more.
+    /// Nothing is written any more. All else is as it was.
     pub fn clear(&mut self)
-        ensures { (⟦<Text as Sink>⟧.state self.new).written ≡ Some [] }
+        ensures { ⟦<Text as Sink>⟧.state self.new ≡ with_text (⟦<Text as Sink>⟧.state self.old) [] }
     {
         self.bytes.clear();
     }
 
-    /// Takes the last byte away.
+    /// Takes the last byte away. All else is as it was.
     pub fn pop(&mut self)
         ensures { (text : List ℕ) (last : ℕ) → (⟦<Text as Sink>⟧.state self.old).written ≡ Some (text ++ last ∷ [])
-            → (⟦<Text as Sink>⟧.state self.new).written ≡ Some text }
+            → ⟦<Text as Sink>⟧.state self.new ≡ with_text (⟦<Text as Sink>⟧.state self.old) text }
     {
         self.bytes.pop();
     }
