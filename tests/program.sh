@@ -63,7 +63,8 @@ run_program() {
     lines word "$1" >"$scratch/words"
     shift
     [ $# -eq 0 ] || printf '%s\n' "$@" >>"$scratch/words"
-    [ "$memory" != least ] || memory=$(least_memory)
+    # The shell reports each try that can't be loaded, which is left out here.
+    [ "$memory" != least ] || memory=$(exec 2>/dev/null && least_memory)
     set --
     while IFS= read -r word; do
         set -- "$@" "$(printf '%b' "$word")"
