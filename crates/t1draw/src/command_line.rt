@@ -1,9 +1,10 @@
 //! The command line, by clap.
 
-ghost use Rattle.std.specs.Prelude.{◌≡◌, map, IfErr, IfOk};
-ghost use Rattle.clap.specs.Words.{app_of};
+ghost use Rattle.std.specs.Prelude.{◌≡◌, false, map, IfErr, IfOk};
+ghost use Rattle.clap.specs.Words.{app_of, rule_of};
+ghost use Rattle.t1_run.specs.Words.{edition_rule, waive_rule};
 ghost use Rattle.t1draw.specs.Answers.{drawing};
-ghost use Rattle.t1draw.specs.CommandLine.{AreTaken, AreUntaken, t1draw};
+ghost use Rattle.t1draw.specs.CommandLine.{AreTaken, AreUntaken, font_rule, glyph_rule, step_rule, t1draw};
 
 use crate::PROGRAM;
 use crate::glyph_word::name_in;
@@ -111,38 +112,73 @@ pub fn read_words<S: AsStr>(alloc: Global, words: &[S]) -> Result<Options, Usage
     })
 }
 
-/// The command, argument by argument.
+/// The command, argument by argument, each in a function of its own: one function of them all takes long to prove.
 fn command<'a>(alloc: Global) -> Result<Command<'a>, AllocError>
     ensures { IfOk result (λ c. app_of c ≡ t1draw) }
 {
-    let edition = Arg::new(alloc, "edition")
-        .long("edition")
-        .value_name("N")
-        .help("Finds faults by edition 1 or 2 of the rule book [default: 1]")
-        .value_parser(value_parser!(u64).range(1..3));
-    let waive = Arg::new(alloc, "waive")
-        .long("waive")
-        .value_name("FILE")
-        .help("Leaves the faults out that FILE waives by its lines, NAME RULE each");
-    let step = Arg::new(alloc, "step")
-        .long("step")
-        .value_name("N")
-        .help("Draws no further than step N, and the stretch of that step thick")
-        .value_parser(value_parser!(u64).range(1..));
-    let glyph = Arg::new(alloc, "glyph")
-        .value_name("GLYPH")
-        .action(ArgAction::Set)
-        .required(true)
-        .help("The name of the glyph");
-    let font = Arg::new(alloc, "font")
-        .value_name("FONT")
-        .help("The font's file; without it standard input is read");
     Command::new(alloc, "t1draw")
         .about(ABOUT)
         .after_help(AFTER_HELP)
-        .arg(edition)?
-        .arg(waive)?
-        .arg(step)?
-        .arg(glyph)?
-        .arg(font)
+        .arg(edition_arg(alloc))?
+        .arg(waive_arg(alloc))?
+        .arg(step_arg(alloc))?
+        .arg(glyph_arg(alloc))?
+        .arg(font_arg(alloc))
+}
+
+/// The option --edition.
+fn edition_arg<'a>(alloc: Global) -> Arg<'a>
+    ensures rule { rule_of result ≡ edition_rule }
+    ensures own { result.global ≡ false }
+{
+    Arg::new(alloc, "edition")
+        .long("edition")
+        .value_name("N")
+        .help("Finds faults by edition 1 or 2 of the rule book [default: 1]")
+        .value_parser(value_parser!(u64).range(1..3))
+}
+
+/// The option --waive.
+fn waive_arg<'a>(alloc: Global) -> Arg<'a>
+    ensures rule { rule_of result ≡ waive_rule }
+    ensures own { result.global ≡ false }
+{
+    Arg::new(alloc, "waive")
+        .long("waive")
+        .value_name("FILE")
+        .help("Leaves the faults out that FILE waives by its lines, NAME RULE each")
+}
+
+/// The option --step.
+fn step_arg<'a>(alloc: Global) -> Arg<'a>
+    ensures rule { rule_of result ≡ step_rule }
+    ensures own { result.global ≡ false }
+{
+    Arg::new(alloc, "step")
+        .long("step")
+        .value_name("N")
+        .help("Draws no further than step N, and the stretch of that step thick")
+        .value_parser(value_parser!(u64).range(1..))
+}
+
+/// The glyph's name.
+fn glyph_arg<'a>(alloc: Global) -> Arg<'a>
+    ensures rule { rule_of result ≡ glyph_rule }
+    ensures own { result.global ≡ false }
+{
+    Arg::new(alloc, "glyph")
+        .value_name("GLYPH")
+        .action(ArgAction::Set)
+        .required(true)
+        .help("The name of the glyph")
+}
+
+/// The font's file.
+fn font_arg<'a>(alloc: Global) -> Arg<'a>
+    ensures rule { rule_of result ≡ font_rule }
+    ensures own { result.global ≡ false }
+{
+    Arg::new(alloc, "font")
+        .value_name("FONT")
+        .help("The font's file; without it standard input is read")
 }
