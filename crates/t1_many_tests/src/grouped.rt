@@ -1,7 +1,7 @@
 //! Fonts with lines of each level, on terminals and as commands.
 
 use crate::files::{File, Files};
-use crate::fonts::{CUT, names_of, only};
+use crate::fonts::{CUT, font_with, names_of, only};
 use std::alloc::{AllocError, Global};
 use std::test::Fail;
 use t1_char::Edition;
@@ -249,16 +249,21 @@ two\\nlines.pfb: t1check: its name has a line end
     Ok(())
 }
 
-/// Below a line is the reason of its first fault, in no colour: that of the first glyph, and of the first of two places. It is in as many lines as
-/// it needs. Where there is no more to say of a rule, nothing is below its line.
-#[test]
-fn shows_reasons_below(rt: HostRuntime) -> Result<(), Fail> {
-    let faulty = Sample::new(rt.alloc())?
+/// A font that breaks a rule of fonts, and with three glyphs rules of theirs.
+fn font_with_reasons(alloc: Global) -> Result<Vec<u8>, AllocError> {
+    Sample::new(alloc)?
         .key(b"/BlueValues [-10 0 1 2 3 4] def")?
         .glyph(b"A", AFTER_THE_END)?
         .glyph(b"B", OPEN)?
         .glyph(b"C", FOUR_FAULTS)?
-        .pfb()?;
+        .pfb()
+}
+
+/// Below a line is the reason of its first fault, in no colour: that of the first glyph, and of the first of two places. It is in as many lines as
+/// it needs. Where there is no more to say of a rule, nothing is below its line.
+#[test]
+fn shows_reasons_below(rt: HostRuntime) -> Result<(), Fail> {
+    let faulty = font_with_reasons(rt.alloc())?;
     let terminal = Terminal {
         width: 60,
         has_colours: false,
@@ -278,7 +283,7 @@ f.pfb: P03 closepath without a path \xc3\x97 2: C
    nothing is drawn since step 6
 ";
     assert!(rt; text.as_slice() == lines.as_slice());
-    let open = Sample::new(rt.alloc())?.glyph(b"A", OPEN)?.pfb()?;
+    let open = font_with(rt.alloc(), OPEN)?;
     let tables: [(usize, &[u8]); 2] = [
         (
             20,

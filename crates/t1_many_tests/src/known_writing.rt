@@ -3,7 +3,6 @@
 use crate::fonts::names_of;
 use indexmap::IndexMap;
 use std::alloc::{AllocError, Global};
-use std::process::Abort;
 use std::test::Fail;
 use t1_io::{Broken, Fuse, Limit, Out, Sink};
 use t1_known::{KnownFaults, write_mismatches, write_updated};
@@ -89,6 +88,20 @@ fn write_anew<W: Sink>(
     write_updated(alloc, sink, known, readings, choice)
 }
 
+/// The file of these known faults anew.
+fn text_anew(
+    alloc: Global,
+    known: &KnownFaults<'_>,
+    readings: &[Reading],
+    choice: Choice<'_>,
+) -> Result<Vec<u8>, Fail> {
+    let mut text = Vec::new(alloc);
+    match write_anew(alloc, &mut Out::new(&mut text), known, readings, choice) {
+        Ok(()) => Ok(text),
+        Err(_) => Err(Fail::from(Broken)),
+    }
+}
+
 /// The file anew, where these words choose rules.
 fn anew(alloc: Global, only: &[&str], except: &[&str]) -> Result<Vec<u8>, Fail> {
     let Ok(known) = KnownFaults::read(alloc, FILE) else {
@@ -101,18 +114,7 @@ fn anew(alloc: Global, only: &[&str], except: &[&str]) -> Result<Vec<u8>, Fail> 
         only: only.as_slice(),
         except: except.as_slice(),
     };
-    let mut text = Vec::new(alloc);
-    let written = write_anew(
-        alloc,
-        &mut Out::new(&mut text),
-        &known,
-        readings.as_slice(),
-        choice,
-    );
-    match written {
-        Ok(()) => Ok(text),
-        Err(_) => Err(Fail::from(Broken)),
-    }
+    text_anew(alloc, &known, readings.as_slice(), choice)
 }
 
 #[test]
@@ -201,29 +203,31 @@ a.pfb: known faults: Z04 font BlueValues: 99999999999999999999999 known, 0 found
 ";
 
 /// Whether these lines are written of readings where no rule of these words is reported.
-fn are_written(rt: &HostRuntime, fonts: &[FoundIn], except: &[&str], lines: &[u8]) -> bool {
-    let Ok(known) = KnownFaults::read(rt.alloc(), FILE) else {
-        return false;
-    };
-    let Ok(readings) = readings_of(rt.alloc(), fonts) else {
-        return false;
-    };
-    let Ok(except) = names_of(rt.alloc(), except) else {
-        return false;
-    };
-    let choice = Choice {
-        only: &[],
-        except: except.as_slice(),
-    };
-    let mut text = Vec::new(rt.alloc());
-    let written = write_mismatches(
-        rt.alloc(),
-        &mut Out::new(&mut text),
-        &known,
-        readings.as_slice(),
-        choice,
-    );
+fn are_mismatches(
+    alloc: Global,
+    known: &KnownFaults<'_>,
+    readings: &[Reading],
+    except: &[String],
+    lines: &[u8],
+) -> bool {
+    let choice = Choice { only: &[], except };
+    let mut text = Vec::new(alloc);
+    let written = write_mismatches(alloc, &mut Out::new(&mut text), known, readings, choice);
     written.is_ok() && text.as_slice() == lines
+}
+
+/// The same, where the words are texts and known faults are read first.
+fn are_written(alloc: Global, fonts: &[FoundIn], except: &[&str], lines: &[u8]) -> bool {
+    let Ok(known) = KnownFaults::read(alloc, FILE) else {
+        return false;
+    };
+    let Ok(readings) = readings_of(alloc, fonts) else {
+        return false;
+    };
+    let Ok(except) = names_of(alloc, except) else {
+        return false;
+    };
+    are_mismatches(alloc, &known, readings.as_slice(), except.as_slice(), lines)
 }
 
 /// Each row of whose kind fewer or more were found is reported. A kind without a row isn't.
@@ -233,7 +237,7 @@ fn what_differs_from_rows_is_reported(rt: HostRuntime) {
         (FEW_READINGS, FEW, FEW_BUT_H),
         (MORE_READINGS, MORE, MORE_BUT_H),
     ] {
-        assert!(rt; are_written(&rt, fonts, &[], all));
-        assert!(rt; are_written(&rt, fonts, &["H"], but_h));
+        assert!(rt; are_written(rt.alloc(), fonts, &[], all));
+        assert!(rt; are_written(rt.alloc(), fonts, &["H"], but_h));
     }
 }

@@ -99,7 +99,27 @@ const NONE: Case<'static> = Case {
     told: b"",
 };
 
-/// Whether that comes of a check of these fonts, of which P03 is reported.
+/// Checks these fonts, of which P03 is reported.
+fn check(
+    alloc: Global,
+    names: &[String],
+    beside: WaiverFiles,
+    files: &mut Files<'_>,
+    text: &mut Vec<u8>,
+    told: &mut Vec<u8>,
+) {
+    let mut telling = ReportAll {
+        rules: only(&[Rule::P03]),
+        form: Plain {
+            reasons: false,
+            out: Out::new(text),
+            errors: Out::new(told),
+        },
+    };
+    let _ = tell_all(alloc, names, beside, files, Edition::One, &mut telling);
+}
+
+/// Whether that comes of the check of these fonts.
 fn comes_of<'a>(
     alloc: Global,
     fonts: &'a [File<'a>],
@@ -110,23 +130,14 @@ fn comes_of<'a>(
     let mut files = Files::new(alloc, fonts, waivers).with_locked("locked.pfb");
     let mut text = Vec::new(alloc);
     let mut told = Vec::new(alloc);
-    let mut telling = ReportAll {
-        rules: only(&[Rule::P03]),
-        form: Plain {
-            reasons: false,
-            out: Out::new(&mut text),
-            errors: Out::new(&mut told),
-        },
-    };
-    let _ = tell_all(
+    check(
         alloc,
         names.as_slice(),
         case.beside,
         &mut files,
-        Edition::One,
-        &mut telling,
+        &mut text,
+        &mut told,
     );
-    drop(telling);
     Ok(
         files.calls.as_slice() == case.calls
             && text.as_slice() == case.text

@@ -2,7 +2,7 @@
 
 use crate::files::{File, Files};
 use crate::fonts::{CUT, FIVE_FAULTS, FOUR_FAULTS, all_but, font_with, names_of};
-use std::alloc::Global;
+use std::alloc::{AllocError, Global};
 use std::test::Fail;
 use t1_char::Edition;
 use t1_io::Out;
@@ -98,16 +98,26 @@ fn are_kept(fonts: &[FontWaivers], files: &[File<'_>]) -> bool {
             .all(|(font, (name, text))| is_kept(font, name, text))
 }
 
+/// A font that breaks no rule.
+fn clean_font(alloc: Global) -> Result<Vec<u8>, AllocError> {
+    Sample::new(alloc)?.pfb()
+}
+
+/// A font that breaks a rule of fonts, and with two glyphs rules of theirs.
+fn font_with_two_glyphs(alloc: Global) -> Result<Vec<u8>, AllocError> {
+    Sample::new(alloc)?
+        .key(b"/MinFeature {16} def")?
+        .glyph(b"A", FIVE_FAULTS)?
+        .glyph(b"B", FOUR_FAULTS)?
+        .pfb()
+}
+
 /// Each pair of a glyph and a rule that is reported has one waiver, in the order of the first lines; the line of the font itself is reported, and so
 /// is why a font isn't read.
 #[test]
 fn waives_lines_of_glyphs(rt: HostRuntime) -> Result<(), Fail> {
-    let clean = Sample::new(rt.alloc())?.pfb()?;
-    let faulty = Sample::new(rt.alloc())?
-        .key(b"/MinFeature {16} def")?
-        .glyph(b"A", FIVE_FAULTS)?
-        .glyph(b"B", FOUR_FAULTS)?
-        .pfb()?;
+    let clean = clean_font(rt.alloc())?;
+    let faulty = font_with_two_glyphs(rt.alloc())?;
     let other = font_with(rt.alloc(), FOUR_FAULTS)?;
     let files = [
         ("clean.pfb", clean.as_slice()),
