@@ -55,7 +55,6 @@ show_build() {
     while IFS= read -r line; do
         printf '%s\n' "$line"
         case $moves$line in
-            'yeschecked '*', '*' of '*) show_line "$1, function ${line##*, }" ;;
             'yesso far: '*' functions checked'*)
                 far=${line#so far: }
                 show_line "$1, function ${far%% functions*}"

@@ -19,13 +19,9 @@ tool=${PWD##*/}
 echo "$tool: rt $*" >>../../runs
 [ ! -e ../../fails ] || { echo 'not proved' >&2; exit 1; }
 [ ! -e ../../edit ] || { sleep 1; mv ../../edit src/edit.rt; touch src/edit.rt; sleep 1; }
-if [ "$1" = lib ]; then
-    echo 'so far: 1 of 2 functions checked; the verdict comes last'
-    mkdir -p out/rlib && : >out/rlib/stamp
-    exit
-fi
-echo 'checked t1_x::first, 1 of 2'
-echo 'checked t1_x::second, 2 of 2'
+echo 'so far: 1 of 2 functions checked; the verdict comes last'
+[ "$1" = run ] || { mkdir -p out/rlib && : >out/rlib/stamp; exit; }
+echo 'so far: 2 of 2 functions checked'
 printf '#!/bin/sh\necho "${0##*/}: $*"\n' >"out/$tool" && chmod +x "out/$tool"
 END
 chmod +x "$scratch/kit/rt"
