@@ -70,6 +70,7 @@ Z05 warning
 missing.pfb: t1check: read failed: no such file or folder
 END
 try_document 'a folder as sarif' 3 "$all" -q --format sarif . missing.pfb
+limited "$all" -q --format sarif --docs https://example.org/RULES.md . >"$scratch/docs.sarif"
 wanted <<'END'
 7
 --
@@ -81,7 +82,6 @@ if [ -n "$reader" ]; then
 --
 END
     try 'no pages of rules' 1 grep helpUri "$scratch/values"
-    limited "$all" -q --format sarif --docs https://example.org/RULES.md . >"$scratch/docs.sarif"
     "$reader" "$scratch/read" "$scratch/docs.sarif" >"$scratch/values"
     sed -n 's/^\.runs\.0\.tool\.driver\.rules\.[0-9]*\.id "\([A-Z0-9]*\)"$/\1/p' "$scratch/values" >"$scratch/codes"
     while read -r code; do
@@ -98,9 +98,8 @@ END
     try 'pages of two of them' 0 grep -e '#e03-' -e '#k02-' "$scratch/pages"
 fi
 # Each rule's help is its page as t1_pages has it, whose texts are escaped as in JSON.
-limited "$all" -q --format sarif --docs https://example.org/RULES.md . |
-    sed 's/{"defaultConfiguration":{"level":"[a-z]*"},/\
-/g' | sed '1d; s/}}\],"version".*/}}/; s/,$//' >"$scratch/pages"
+sed 's/{"defaultConfiguration":{"level":"[a-z]*"},/\
+/g' "$scratch/docs.sarif" | sed '1d; s/}}\],"version".*/}}/; s/,$//' >"$scratch/pages"
 awk '
     match($0, /^    [a-z]*: "/) { page[substr($0, 5, RLENGTH - 7)] = substr($0, RLENGTH, length($0) - RLENGTH) }
     /^};/ {
