@@ -16,7 +16,7 @@ use Rattle.t1_char.specs.Turns.{TurnValue}
 use Rattle.t1_char.specs.Lines.{IsAskedFarBehind, PassesSteps, PassesStep, leads, no_way}
 use Rattle.t1_char.specs.Passing.{ArePassed, IsPassed}
 use Rattle.t1_char.specs.Steps.{StepView, step_at}
-use Rattle.t1_char.specs.Private.Advancing.{GoesFar, HasGoneFar}
+use Rattle.t1_char.specs.Private.Advancing.{GoesFar, HasGoneFar, passage}
 use Rattle.t1_char.specs.Private.Cursors.{tokens_left}
 use Rattle.t1_char.specs.Private.Frames.{state_in, steps_behind}
 use Rattle.t1_char.specs.Private.Machines.{IsBehind}
@@ -30,23 +30,23 @@ abbrev pub frames_at : Frames → Cursor → List ℤ → Frames
 frames_at f cursor stack = record f { current = cursor; step = record f.step { stack = stack } }
 
 step_more : (what : Passing) (limit : ℕ) (steps : List StepView) (font : FontValue) (n taken : ℕ) (before way : Way) (f new : Frames)
-    → HasGoneFar what limit steps font n taken before f → PassesStep what limit steps (n + taken) before way
-    → IsBehind limit steps font (n + taken + 1) new → HasGoneFar what limit steps font n (suc taken) way new
+    → HasGoneFar (passage what limit font) steps n taken before f → PassesStep what limit steps (n + taken) before way
+    → IsBehind limit steps font (n + taken + 1) new → HasGoneFar (passage what limit font) steps n (suc taken) way new
 step_more what limit steps font n taken before way f new so_far one behind =
     let same : n + taken + 1 ≡ n + suc taken = omega arith in
     record { passed = (before, (so_far.passed, one)); behind = subst (λ m. IsBehind limit steps font m new) same behind }
 
 number_more : (what : Passing) (limit : ℕ) (steps : List StepView) (font : FontValue) (n taken : ℕ) (before way : Way) (f : Frames) (cursor : Cursor) (stack : List ℤ)
-    → HasGoneFar what limit steps font n taken before f → PassesNumber f.current cursor f.step.stack stack → way ≡ before → n + taken < limit
-    → HasGoneFar what limit steps font n (suc taken) way (frames_at f cursor stack)
+    → HasGoneFar (passage what limit font) steps n taken before f → PassesNumber f.current cursor f.step.stack stack → way ≡ before → n + taken < limit
+    → HasGoneFar (passage what limit font) steps n (suc taken) way (frames_at f cursor stack)
 number_more what limit steps font n taken before way f cursor stack so_far number same near =
     let one = gone_over limit steps font (n + taken) f (frames_at f cursor stack) so_far.behind
     (goes_over_one font f (frames_at f cursor stack) number refl refl refl) near in
     step_more what limit steps font n taken before way f (frames_at f cursor stack) so_far (inl (one.passed, same)) one.behind
 
 command_more : (what : Passing) (limit : ℕ) (steps : List StepView) (font : FontValue) (n taken : ℕ) (before way : Way) (f : Frames) (cursor : Cursor) (stack : List ℤ)
-    → HasGoneFar what limit steps font n taken before f → leads what ≡ true → PassesCommand what f.current cursor f.step.stack stack before way → n + taken < limit
-    → HasGoneFar what limit steps font n (suc taken) way (frames_at f cursor stack)
+    → HasGoneFar (passage what limit font) steps n taken before f → leads what ≡ true → PassesCommand what f.current cursor f.step.stack stack before way → n + taken < limit
+    → HasGoneFar (passage what limit font) steps n (suc taken) way (frames_at f cursor stack)
 command_more what limit steps font n taken before way f cursor stack so_far on line near =
     let new : Frames = frames_at f cursor stack in
     let t : CharToken = Command line.command in
@@ -75,7 +75,7 @@ command_more what limit steps font n taken before way f cursor stack so_far on l
 
 row_over : (what : Passing) (limit : ℕ) (steps : List StepView) (font : FontValue) (n : ℕ) (f : Frames) (taken : ℕ) (ahead behind : Cursor) (stack : List ℤ) (way : Way)
     → ahead ≡ f.current → IsBehind limit steps font n f → PassesRow what taken ahead behind f.step.stack stack way → n + taken ≤ limit
-    → HasGoneFar what limit steps font n taken way (frames_at f behind stack)
+    → HasGoneFar (passage what limit font) steps n taken way (frames_at f behind stack)
 row_over what limit steps font n f zero ahead behind stack way is at row near =
     let same : n ≡ n + 0 = omega arith in
     record {
@@ -92,9 +92,9 @@ row_over what limit steps font n f (suc taken) ahead behind stack way is at row 
     by_one here before
     (row_over what limit steps font n f taken ahead between so_far before is at row.1.1.1.0 (omega (arith, near))) row.1.1.1.1
   where
-    by_one : (here : Frames) (before : Way) → HasGoneFar what limit steps font n taken before here
+    by_one : (here : Frames) (before : Way) → HasGoneFar (passage what limit font) steps n taken before here
         → PassesOne what here.current behind here.step.stack stack before way
-        → HasGoneFar what limit steps font n (suc taken) way (frames_at here behind stack)
+        → HasGoneFar (passage what limit font) steps n (suc taken) way (frames_at here behind stack)
     by_one here before gone (inl number) =
         number_more what limit steps font n taken before way here behind stack gone number.0 number.1 (omega (arith, near))
     by_one here before gone (inr line) =
@@ -102,12 +102,12 @@ row_over what limit steps font n f (suc taken) ahead behind stack way is at row 
 
 pub lines_over : (what : Passing) (limit : ℕ) (font : FontValue) (n : ℕ) (f : Frames) (taken : ℕ) (ahead behind : Cursor) (stack : List ℤ) (way : Way)
     → ahead ≡ f.current → PassesRow what taken ahead behind f.step.stack stack way → n + taken ≤ limit
-    → GoesFar what limit font n f taken way (frames_at f behind stack)
+    → GoesFar (passage what limit font) n f taken way (frames_at f behind stack)
 lines_over what limit font n f taken ahead behind stack way is row near = λ steps at.
     row_over what limit steps font n f taken ahead behind stack way is at row near
 
 -- None.
-pub none_over : (what : Passing) (limit : ℕ) (font : FontValue) (n : ℕ) (f : Frames) → GoesFar what limit font n f 0 no_way f
+pub none_over : (what : Passing) (limit : ℕ) (font : FontValue) (n : ℕ) (f : Frames) → GoesFar (passage what limit font) n f 0 no_way f
 none_over what limit font n f = λ steps at.
     let same : n ≡ n + 0 = omega arith in
     record { passed = refl; behind = subst (λ m. IsBehind limit steps font m f) same at }

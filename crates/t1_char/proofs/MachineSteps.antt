@@ -2,6 +2,7 @@
 use Rattle.std.proofs.Common.{◌≡◌, ℕ, zero, suc, ◌+◌, ◌-◌, ◌<◌, ◌≤◌, Bool, true, false, cond, nat_lt, None, Some, List, [], ◌∷◌, ◌++◌, length, take, drop, slice_get, length-take, refl, ap, sym, subst, ◌∙◌, lt-ltb, le-ltb, arith}
 use Rattle.t1_font.specs.Fonts.{FontValue}
 use Rattle.t1_char.specs.declared.frames.Frames.{Frames}
+use Rattle.t1_char.specs.declared.frames.Gone.{Gone}
 use Rattle.t1_char.specs.declared.machine.Answer.{Answer}
 use Rattle.t1_char.specs.declared.machine.Answer.TheVariants.{Step, Ended, Limit}
 use Rattle.t1_char.specs.declared.token.CharToken.{CharToken}
@@ -20,7 +21,7 @@ use Rattle.t1_char.specs.Private.Cursors.{tokens_left}
 use Rattle.t1_char.specs.Rests.{Frame, frame, rest_of}
 use Rattle.t1_char.specs.Private.Frames.{callers_of, state_in, left_behind, step_here, steps_behind, steps_from}
 use Rattle.t1_char.specs.Passing.{IsPassed}
-use Rattle.t1_char.specs.Private.Advancing.{Advances, HasGoneFar, IsNext}
+use Rattle.t1_char.specs.Private.Advancing.{Advances, HasGoneFar, IsNext, Passage, passage}
 use Rattle.t1_char.specs.Private.Machines.{GoesOnFrom, IsAt, IsBehind}
 use Rattle.t1_char.specs.Private.Plain.{GoesOverOne}
 use Rattle.t1_char.proofs.Additions.{and_then_front}
@@ -234,7 +235,7 @@ asked_far_none what limit steps font n answer f answers =
     }
 
 pub asked_far : (what : Passing) (limit : ℕ) (steps : List StepView) (font : FontValue) (n before taken : ℕ) (way : Way) (f : Frames) (answer : Answer) (new : Frames)
-    → before ≡ n + taken → HasGoneFar what limit steps font n taken way f → (what ≡ passing.Told → before ≡ n)
+    → before ≡ n + taken → HasGoneFar (passage what limit font) steps n taken way f → (what ≡ passing.Told → before ≡ n)
     → Answers limit steps font before answer new
     → IsAskedFarBehind what limit steps n (before + 1) (answer_view answer (step_value new.step)) way
 asked_far what limit steps font n before taken way f answer new is over told answers =
@@ -247,28 +248,28 @@ asked_far what limit steps font n before taken way f answer new is over told ans
     }
 
 -- The current step was executed, steps were passed, and the next was read.
-pub record HasRead (what : Passing) (limit : ℕ) (steps : List StepView) (font : FontValue) (n before : ℕ) (way : Way) (new : Frames) : Type 0 where
+pub record HasRead (p : Passage) (steps : List StepView) (n : ℕ) (gone : Gone) (new : Frames) : Type 0 where
   pub taken : ℕ
-  pub taken_is : before ≡ n + taken
+  pub taken_is : gone.before ≡ n + taken
   pub passed : Frames
-  pub gone : HasGoneFar what limit steps font n taken way passed
-  pub behind : IsBehind limit steps font before passed
-  pub next : IsNext font before passed new
+  pub gone_far : HasGoneFar p steps n taken gone.way passed
+  pub behind : IsBehind p.limit steps p.font gone.before passed
+  pub next : IsNext p.font gone.before passed new
 
-pub has_read : (what : Passing) (limit own : ℕ) (steps : List StepView) (font : FontValue) (n before : ℕ) (way : Way) (answer : Answer)
+pub has_read : (what : Passing) (limit own : ℕ) (steps : List StepView) (font : FontValue) (n : ℕ) (gone : Gone) (answer : Answer)
     (f executed new : Frames) → own ≡ limit → answer ≡ Step → IsAt limit steps font n answer f
     → steps_from font f ≡ step_here font f ∷ steps_behind font executed → length executed.step.path.items ≡ length executed.callers.items
-    → Advances what own font n executed before way new → HasRead what limit steps font n before way new
-has_read what limit own steps font n before way answer f executed new limit_is is at executed_is even advances =
-    let over : Advances what limit font n executed before way new =
-    subst (λ k. Advances what k font n executed before way new) limit_is advances in
-    let gone : HasGoneFar what limit steps font n over.taken way over.passed =
+    → Advances (passage what own font) n executed gone new → HasRead (passage what limit font) steps n gone new
+has_read what limit own steps font n gone answer f executed new limit_is is at executed_is even advances =
+    let over : Advances (passage what limit font) n executed gone new =
+    subst (λ k. Advances (passage what k font) n executed gone new) limit_is advances in
+    let far : HasGoneFar (passage what limit font) steps n over.taken gone.way over.passed =
     over.over steps (behind_executed limit steps font n f executed (still_goes_on limit steps font n answer f is at) executed_is even) in
     record {
       taken = over.taken;
       taken_is = over.taken_is;
       passed = over.passed;
-      gone = gone;
-      behind = subst (λ k. IsBehind limit steps font k over.passed) (sym over.taken_is) gone.behind;
+      gone_far = far;
+      behind = subst (λ k. IsBehind limit steps font k over.passed) (sym over.taken_is) far.behind;
       next = over.next;
     }

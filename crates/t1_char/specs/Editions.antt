@@ -1,5 +1,5 @@
 -- The editions of the rule book.
-use Rattle.std.specs.Prelude.{ℕ}
+use Rattle.std.specs.Prelude.{ℕ, ◌==◌, if◌then◌else◌, Bool, true, false, Option, Some, None}
 use Rattle.t1_char.specs.declared.edition.Edition.{Edition}
 use Rattle.t1_char.specs.declared.edition.Edition.TheVariants.{One, Two}
 
@@ -7,3 +7,16 @@ use Rattle.t1_char.specs.declared.edition.Edition.TheVariants.{One, Two}
 abbrev pub limit_of : Edition → ℕ
 limit_of One = 100000
 limit_of Two = 1000000
+
+-- Whether a stem of width -20 or -21 is the hint of one edge.
+abbrev pub knows_one_edge : Edition → Bool
+knows_one_edge One = false
+knows_one_edge Two = true
+
+-- The number of an edition, and the edition of a number.
+abbrev pub number_of_edition : Edition → ℕ
+number_of_edition One = 1
+number_of_edition Two = 2
+
+abbrev pub edition_numbered : ℕ → Option Edition
+edition_numbered n = if n == 1 then Some One else (if n == 2 then Some Two else None)

@@ -2,7 +2,7 @@
 
 ghost use Rattle.std.specs.Prelude.{◌≡◌, ◌≤◌};
 ghost use Rattle.t1_char.specs.declared.edition.Edition.TheVariants.{Two};
-ghost use Rattle.t1_char.specs.Editions.{limit_of};
+ghost use Rattle.t1_char.specs.Editions.{edition_numbered, knows_one_edge, limit_of};
 
 /// An edition of the rule book. The second looks at ten times as many steps of a glyph, and has a word of
 /// its own for stems of one edge.
@@ -13,6 +13,17 @@ pub enum Edition {
 }
 
 impl Edition {
+    /// The edition of a number, if there is one: the first has the number 1.
+    pub fn numbered(number: u64) -> Option<Edition>
+        ensures { result ≡ edition_numbered number }
+    {
+        match number {
+            1 => Some(Edition::One),
+            2 => Some(Edition::Two),
+            _ => None,
+        }
+    }
+
     /// How many steps of a glyph are looked at.
     pub fn step_limit(self) -> u32
         ensures limit { result ≡ limit_of self }
@@ -21,6 +32,16 @@ impl Edition {
         match self {
             Edition::One => 100_000,
             Edition::Two => 1_000_000,
+        }
+    }
+
+    /// Whether a stem of width -20 or -21 is the hint of one edge.
+    pub fn knows_one_edge(self) -> bool
+        ensures { result ≡ knows_one_edge self }
+    {
+        match self {
+            Edition::One => false,
+            Edition::Two => true,
         }
     }
 }

@@ -8,7 +8,7 @@ ghost use Rattle.t1_char.specs.Steps.{is_callsubr, named_at, steps_of};
 ghost use Rattle.t1_char.specs.Private.Actions.{named_of};
 ghost use Rattle.t1_char.specs.StepValues.{step_view};
 ghost use Rattle.t1_char.specs.Private.Cursors.{AtFirst, behind_token, cursor_of, tokens_left};
-ghost use Rattle.t1_char.specs.Private.Advancing.{Advances, ReadsToken};
+ghost use Rattle.t1_char.specs.Private.Advancing.{Advances, ReadsToken, passage};
 ghost use Rattle.t1_char.specs.Private.Taking.{IsTokenRead, PassesUpTo};
 ghost use Rattle.t1_char.specs.declared.cursor.Cursor.{Cursor};
 ghost use Rattle.t1_char.specs.Stacks.{most_numbers};
@@ -176,7 +176,7 @@ impl<'a> Frames<'a> {
         requires counted { counted ≤ limit }
         requires few { limit ≤ limit_of Two }
         requires even { length self.old.step.path.items ≡ length self.old.callers.items }
-        ensures over { Advances passing limit font.now counted self.old result.before result.way self.new }
+        ensures over { Advances (passage passing limit font.now) counted self.old result self.new }
         ensures told { passing ≡ Told → result.before ≡ counted }
         ensures near { result.before ≤ limit }
     {
@@ -190,7 +190,7 @@ impl<'a> Frames<'a> {
     fn go_over(&mut self, passing: Passing, font: &'a Font<'a>, counted: u32, limit: u32) -> Gone
         requires counted { counted ≤ limit }
         requires few { limit ≤ limit_of Two }
-        ensures over { ReadsToken passing limit font.now counted self.old result.before result.way self.new }
+        ensures over { ReadsToken (passage passing limit font.now) counted self.old result self.new }
         ensures path { self.new.step.path.items ≡ self.old.step.path.items }
         ensures callers { self.new.callers.items ≡ self.old.callers.items }
         ensures told { passing ≡ Told → result.before ≡ counted }
@@ -234,7 +234,8 @@ impl<'a> Frames<'a> {
     fn go_over_moves(&mut self, font: &'a Font<'a>, counted: u32, limit: u32) -> u32
         requires far { counted + most_numbers < limit }
         requires few { limit ≤ limit_of Two }
-        ensures over { ReadsToken Moves limit font.now counted self.old result self.new.way self.new }
+        ensures over { ReadsToken (passage Moves limit font.now) counted self.old
+            (record { before = result; way = self.new.way }) self.new }
         ensures path { self.new.step.path.items ≡ self.old.step.path.items }
         ensures callers { self.new.callers.items ≡ self.old.callers.items }
         ensures near { result ≤ limit }
@@ -266,7 +267,7 @@ impl<'a> Frames<'a> {
         requires ahead { cursor_of ahead ≡ self.old.current }
         requires far { counted + most_numbers < limit }
         requires few { limit ≤ limit_of Two }
-        ensures over { ReadsToken passing limit font.now counted self.old result.before result.way self.new }
+        ensures over { ReadsToken (passage passing limit font.now) counted self.old result self.new }
         ensures path { self.new.step.path.items ≡ self.old.step.path.items }
         ensures callers { self.new.callers.items ≡ self.old.callers.items }
         ensures near { result.before ≤ limit }

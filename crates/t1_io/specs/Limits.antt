@@ -32,14 +32,21 @@ abbrev pub count_of : {E : Type 0} → Result ℕ E → ℕ
 count_of (Ok n) = n
 count_of (Err e) = 0
 
--- What a call of a fuse that moves so many bytes does to its limit and its device. A blown fuse fails the call and
--- leaves the device alone. A call fails only where the fuse has blown or the device has failed, and wherever the device
--- fails for the first time. The fuse burns by what was moved. `failed` and `fails_now`: whether the device has failed
--- before and after.
-pub record Burns {D A E : Type 0} (old new : Limit) (device left : D) (failed fails_now : Bool) (count : ℕ) (result : Result A E)
-    : Type 0 where
-  pub blown : has_blown old ≡ true → IsErr result
-  pub still : has_blown old ≡ true → left ≡ device
-  pub fails : OnErr result ((has_blown old ≡ true) ⊎ (fails_now ≡ true))
-  pub passed_on : failed ≡ false → fails_now ≡ true → IsErr result
-  pub burnt : new ≡ burnt old count
+-- What a fuse holds: its limit, its device, and whether the device has failed.
+pub record Held (D : Type 0) : Type 0 where
+  pub limit : Limit
+  pub device : D
+  pub failed : Bool
+
+abbrev pub held : {D : Type 0} → Limit → D → Bool → Held D
+held limit device failed = record { limit = limit; device = device; failed = failed }
+
+-- What a call of a fuse that moves so many bytes does to what it holds. A blown fuse fails the call and leaves the
+-- device alone. A call fails only where the fuse has blown or the device has failed, and wherever the device fails for
+-- the first time. The fuse burns by what was moved.
+pub record Burns {D A E : Type 0} (old new : Held D) (count : ℕ) (result : Result A E) : Type 0 where
+  pub blown : has_blown old.limit ≡ true → IsErr result
+  pub still : has_blown old.limit ≡ true → new.device ≡ old.device
+  pub fails : OnErr result ((has_blown old.limit ≡ true) ⊎ (new.failed ≡ true))
+  pub passed_on : old.failed ≡ false → new.failed ≡ true → IsErr result
+  pub burnt : new.limit ≡ burnt old.limit count

@@ -2,7 +2,7 @@
 
 ghost use Rattle.std.specs.Prelude.{◌≡◌, ◌≤◌, true, length, IfOk};
 ghost use Rattle.t1_io.specs.Devices.{Flushes, Puts, Takes};
-ghost use Rattle.t1_io.specs.Limits.{Burns, count_of, let_through, lets_some_through};
+ghost use Rattle.t1_io.specs.Limits.{Burns, count_of, held, let_through, lets_some_through};
 
 use crate::counts::{PutCounts, TakeCounts};
 use crate::{Broken, Limit, Sink, Source};
@@ -86,8 +86,8 @@ impl<D: Source> Source for Fuse<D> {
         ensures takes { Takes (⟦<Fuse<D> as Source>⟧.state self.old)
             (⟦<Fuse<D> as Source>⟧.state self.new) buffer.new result }
 
-        ensures burns { Burns self.old.limit self.new.limit self.old.device self.new.device
-            (D.state self.old.device).failed (D.state self.new.device).failed (count_of result) result }
+        ensures burns { Burns (held self.old.limit self.old.device (D.state self.old.device).failed)
+            (held self.new.limit self.new.device (D.state self.new.device).failed) (count_of result) result }
         ensures moved { IfOk result (λ n. n ≤ let_through self.old.limit (length buffer.new)) }
     {
         self.taken.count();
@@ -125,8 +125,8 @@ impl<D: Sink> Sink for Fuse<D> {
         ensures puts { Puts (⟦<Fuse<D> as Sink>⟧.state self.old)
             (⟦<Fuse<D> as Sink>⟧.state self.new) bytes.now result }
 
-        ensures burns { Burns self.old.limit self.new.limit self.old.device self.new.device
-            (D.state self.old.device).failed (D.state self.new.device).failed (count_of result) result }
+        ensures burns { Burns (held self.old.limit self.old.device (D.state self.old.device).failed)
+            (held self.new.limit self.new.device (D.state self.new.device).failed) (count_of result) result }
         ensures moved { IfOk result (λ n. n ≤ let_through self.old.limit (length bytes.now)) }
     {
         if self.limit.has_blown() {
@@ -152,8 +152,8 @@ impl<D: Sink> Sink for Fuse<D> {
         ensures flushes { Flushes (⟦<Fuse<D> as Sink>⟧.state self.old)
             (⟦<Fuse<D> as Sink>⟧.state self.new) result }
 
-        ensures burns { Burns self.old.limit self.new.limit self.old.device self.new.device
-            (D.state self.old.device).failed (D.state self.new.device).failed 0 result }
+        ensures burns { Burns (held self.old.limit self.old.device (D.state self.old.device).failed)
+            (held self.new.limit self.new.device (D.state self.new.device).failed) 0 result }
     {
         let blown = self.limit.has_blown();
         self.limit = self.limit.burnt(0);

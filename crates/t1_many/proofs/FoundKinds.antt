@@ -7,7 +7,7 @@ use Rattle.std.specs.List.{AllByRecursion}
 use Rattle.std.specs.Str.{bytes_eq}
 use Rattle.indexmap.specs.IndexMap.{insert_entry}
 use Rattle.t1_many.proofs.FaultKinds.{unit_in}
-use Rattle.t1_many.proofs.GivenFaults.{IsGiven, none_given, one_given}
+use Rattle.t1_report.proofs.GivenFaults.{IsGiven, none_given, one_given}
 use Rattle.t1_many.proofs.KindCounts.{count_inserted, count_is_found, texts_inserted, units_inserted}
 use Rattle.t1_many.proofs.TextCounts.{counts-push}
 use Rattle.t1_many.specs.Counts.{count_in, counted_more}

@@ -5,7 +5,6 @@ pub mod Endings
 pub mod Entries
 pub mod FaultKinds
 pub mod FoundKinds
-pub mod GivenFaults
 pub mod Handed
 pub mod HandedReports
 pub mod JoinedParts

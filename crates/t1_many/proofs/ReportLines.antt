@@ -4,7 +4,7 @@ use Rattle.std.proofs.lemmas.List.{map-append}
 use Rattle.std.proofs.lemmas.List.Elements.{filter-append}
 use Rattle.std.specs.List.{filter}
 use Rattle.std.specs.Result.{IfOk, IsErrAnd}
-use Rattle.t1_many.proofs.GivenFaults.{IsGiven, begin_with, most_given, none_given, one_given}
+use Rattle.t1_report.proofs.GivenFaults.{IsGiven, begin_with, most_given, none_given, one_given}
 use Rattle.t1_many.proofs.Handed.{handed-append, handed-one, handed-stopped}
 use Rattle.t1_many.specs.Handing.{Handed, HandsOn, found_by, found_with, is_told, line, lines_by, lost_of}
 use Rattle.t1_summary.specs.declared.found.FontClass.{FontClass}

@@ -2,8 +2,7 @@
 use Rattle.std.proofs.Common.{◌≡◌, ℕ, ◌+◌, ◌<◌, ◌≤◌, if◌then◌else◌, Bool, true, false, get_or, slice_index_or, List, [], ◌∷◌, ◌++◌, length, length-take, map, take, drop, take_all, refl, sym, ap, ◌∙◌, arith}
 use Rattle.std.proofs.lemmas.List.{drop_all, drop_more, get_or-take}
 use Rattle.std.proofs.lemmas.Option.{get_or_from_slice_get}
-use Rattle.t1_char.specs.declared.edition.Edition.{Edition}
-use Rattle.t1_char.specs.declared.edition.Edition.TheVariants.{One, Two}
+use Rattle.t1_char.proofs.EditionLemmas.{limit_few}
 use Rattle.t1_char.specs.declared.machine.Answer.{Answer}
 use Rattle.t1_char.specs.declared.machine.Answer.TheVariants.{Step}
 use Rattle.t1_char.specs.declared.machine.Numbers.TheVariants.{Told}
@@ -21,11 +20,7 @@ use Rattle.t1_rules.specs.Watches.{most_steps}
 
 -- A pen sees fewer steps than it can.
 pub few_seen : (m : MachineView) → length (take m.counted (steps_in m)) < most_steps
-few_seen m = omega (arith, length-take m.counted (steps_in m), length-take (limit_of m.edition) (steps_of m.font m.glyph), limit_is_small m.edition)
-  where
-    limit_is_small : (edition : Edition) → limit_of edition < most_steps
-    limit_is_small One = omega arith
-    limit_is_small Two = omega arith
+few_seen m = omega (arith, length-take m.counted (steps_in m), length-take (limit_of m.edition) (steps_of m.font m.glyph), limit_few m.edition)
 
 -- The same machine, one call further on.
 pub record IsSame (old new : MachineView) : Type 0 where

@@ -4,8 +4,7 @@ use Rattle.std.proofs.lemmas.Grind.{flat_map-append}
 use Rattle.std.proofs.lemmas.List.{length-take, take_all}
 use Rattle.std.proofs.lemmas.List.Folds.{flat_map-map}
 use Rattle.std.specs.List.{flat_map}
-use Rattle.t1_char.specs.declared.edition.Edition.{Edition}
-use Rattle.t1_char.specs.declared.edition.Edition.TheVariants.{One, Two}
+use Rattle.t1_char.proofs.EditionLemmas.{limit_few}
 use Rattle.t1_char.specs.Editions.{limit_of}
 use Rattle.t1_char.specs.Steps.{StepView, steps_of}
 use Rattle.t1_outline.specs.declared.parts.Part.{Part}
@@ -98,14 +97,10 @@ outline_is_that_of_its_parts s =
 
 -- ---- all steps
 
-limit_is_small : (edition : Edition) → limit_of edition ≤ all_steps
-limit_is_small One = omega arith
-limit_is_small Two = omega arith
-
 pub whole_parts_are_outlines : WholePartsAreOutlines
 whole_parts_are_outlines part whole =
     let steps = take (limit_of part.edition) (steps_of part.font part.glyph) in
     ap drawn_of
     (ap (λ (n : ℕ). take n steps) whole
     ∙ take_all all_steps steps
-    (omega (arith, length-take (limit_of part.edition) (steps_of part.font part.glyph), limit_is_small part.edition)))
+    (omega (arith, length-take (limit_of part.edition) (steps_of part.font part.glyph), limit_few part.edition)))

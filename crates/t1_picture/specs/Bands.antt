@@ -1,8 +1,8 @@
 -- Bands across the drawing: stems and alignment zones. Type 1 Font Format 1.1, chapters 5 and 6.
-use Rattle.std.specs.Prelude.{ℕ, zero, suc, ◌+◌, ◌*◌, ℤ, pos, neg_ℤ, ◌+ℤ◌, Bool, Option, Some, List, [], ◌++◌, codes, if◌then◌else◌, slice_get, slice_index_or}
+use Rattle.std.specs.Prelude.{ℕ, zero, suc, ◌+◌, ◌*◌, ℤ, pos, neg_ℤ, ◌+ℤ◌, ◌&&◌, Bool, Option, Some, List, [], ◌++◌, codes, if◌then◌else◌, slice_get, slice_index_or}
 use Rattle.std.specs.Ordering.{int_eq}
 use Rattle.t1_char.specs.declared.edition.Edition.{Edition}
-use Rattle.t1_char.specs.declared.edition.Edition.TheVariants.{One, Two}
+use Rattle.t1_char.specs.Editions.{knows_one_edge}
 use Rattle.t1_char.specs.Numbers.{unit}
 use Rattle.t1_font.specs.declared.key.Key.TheVariants.{BlueValues, OtherBlues}
 use Rattle.t1_font.specs.Fonts.{FontValue}
@@ -24,14 +24,12 @@ use Rattle.t1_rules.specs.StepRules.Stems.{has_one_edge, lower, upper}
 abbrev pub one_edge : Stem → ℤ
 one_edge stem = if int_eq stem.width (neg_ℤ (pos (20 * unit))) then upper stem else lower stem
 
--- The edges of a stem as it is drawn; in the second edition one of width -20 or -21 is one edge.
+-- The edges of a stem as it is drawn: one of width -20 or -21 is one edge where the edition knows such stems.
 abbrev pub lower_edge : Edition → Stem → ℤ
-lower_edge One stem = lower stem
-lower_edge Two stem = if has_one_edge stem then one_edge stem else lower stem
+lower_edge edition stem = if knows_one_edge edition && has_one_edge stem then one_edge stem else lower stem
 
 abbrev pub upper_edge : Edition → Stem → ℤ
-upper_edge One stem = upper stem
-upper_edge Two stem = if has_one_edge stem then one_edge stem else upper stem
+upper_edge edition stem = if knows_one_edge edition && has_one_edge stem then one_edge stem else upper stem
 
 -- Its band, given what its position counts from.
 abbrev pub band_of : Direction → ℤ → Edition → Stem → Band

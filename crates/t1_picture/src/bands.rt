@@ -84,9 +84,10 @@ impl Band {
 fn lower_edge(stem: Stem, edition: Edition) -> i64
     ensures { result ≡ lower_edge edition stem }
 {
-    match edition {
-        Edition::Two if stem.has_one_edge() => one_edge(stem),
-        _ => stem.lower(),
+    if edition.knows_one_edge() && stem.has_one_edge() {
+        one_edge(stem)
+    } else {
+        stem.lower()
     }
 }
 
@@ -94,9 +95,10 @@ fn lower_edge(stem: Stem, edition: Edition) -> i64
 fn upper_edge(stem: Stem, edition: Edition) -> i64
     ensures { result ≡ upper_edge edition stem }
 {
-    match edition {
-        Edition::Two if stem.has_one_edge() => one_edge(stem),
-        _ => stem.upper(),
+    if edition.knows_one_edge() && stem.has_one_edge() {
+        one_edge(stem)
+    } else {
+        stem.upper()
     }
 }
 

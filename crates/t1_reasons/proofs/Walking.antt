@@ -5,7 +5,7 @@ use Rattle.std.proofs.lemmas.Bool.{eqb-true, ltb-false, ltb-true}
 use Rattle.std.proofs.lemmas.List.{get_or-take}
 use Rattle.std.proofs.lemmas.Option.{get_or_from_slice_get, slice_get_within}
 use Rattle.t1_char.specs.declared.edition.Edition.{Edition}
-use Rattle.t1_char.specs.declared.edition.Edition.TheVariants.{One, Two}
+use Rattle.t1_char.proofs.EditionLemmas.{limit_few}
 use Rattle.t1_char.specs.declared.machine.Answer.{Answer}
 use Rattle.t1_char.specs.declared.machine.Answer.TheVariants.{Step, Ended, Limit}
 use Rattle.t1_char.specs.declared.machine.Numbers.TheVariants.{Told}
@@ -31,11 +31,7 @@ use Rattle.t1_reasons.specs.GlyphReasons.{IsAnswer, IsBegun, IsInHand, IsOfSameG
 use Rattle.t1_reasons.specs.Standing.{AreBroken, StepsStandFor}
 
 pub few_steps : (m : MachineView) (n : ℕ) → length (take n (steps_in m)) < most_steps
-few_steps m n = omega (arith, length-take n (steps_in m), length-take (limit_of m.edition) (steps_of m.font m.glyph), limit_is_small m.edition)
-  where
-    limit_is_small : (edition : Edition) → limit_of edition < most_steps
-    limit_is_small One = omega arith
-    limit_is_small Two = omega arith
+few_steps m n = omega (arith, length-take n (steps_in m), length-take (limit_of m.edition) (steps_of m.font m.glyph), limit_few m.edition)
 
 pub same_steps : (old new : MachineView) → IsOfSameGlyph old new → steps_in new ≡ steps_in old
 same_steps old new same = rw (same.font, same.glyph, same.edition) refl

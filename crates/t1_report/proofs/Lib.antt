@@ -3,6 +3,7 @@ pub mod Broken
 pub mod Editions
 pub mod FewFaults
 pub mod Fronts
+pub mod GivenFaults
 pub mod GlyphSteps
 pub mod Hands
 pub mod HasReport

@@ -9,7 +9,8 @@ use Rattle.clap.specs.declared.builder.value_parser.ValueParser.TheVariants as p
 use Rattle.clap.specs.declared.error.kind.ErrorKind.TheVariants.{DisplayHelp}
 use Rattle.clap.specs.declared.parser.matches.ArgMatches.{ArgMatches}
 use Rattle.t1_char.specs.declared.edition.Edition.{Edition}
-use Rattle.t1_char.specs.declared.edition.Edition.TheVariants.{One, Two}
+use Rattle.t1_char.specs.declared.edition.Edition.TheVariants.{One}
+use Rattle.t1_char.specs.Editions.{number_of_edition}
 use Rattle.t1_run.specs.declared.usage.UsageError.{UsageError}
 use Rattle.t1_run.specs.declared.usage.UsageError.TheVariants.{Help, Usage, Memory}
 
@@ -83,10 +84,6 @@ AreNumber None number = number ≡ None
 AreNumber (Some text) number = IfSome number (IsNumber text) × IsSome number
 
 -- A missing edition is the first.
-abbrev pub number_of_edition : Edition → ℕ
-number_of_edition One = 1
-number_of_edition Two = 2
-
 abbrev pub IsEditionOrFirst : Option Text → Edition → Type 0
 IsEditionOrFirst None edition = edition ≡ One
 IsEditionOrFirst (Some text) edition = IsNumber text (number_of_edition edition)

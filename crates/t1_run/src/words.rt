@@ -91,10 +91,9 @@ pub fn edition(text: Option<&str>) -> Edition
     requires { IsTextOfNumber 1 2 (option_map (λ s. s.now) text) }
     ensures { IsEditionOrFirst (option_map (λ s. s.now) text.entry) result }
 {
-    match number(text) {
-        Some(2) => Edition::Two,
-        _ => Edition::One,
-    }
+    number(text)
+        .and_then(Edition::numbered)
+        .unwrap_or(Edition::One)
 }
 
 /// A copy of the text that an argument was given, if it was.

@@ -10,7 +10,7 @@ use Rattle.t1_font.proofs.Tables.{name_exact}
 use Rattle.t1_font.specs.Fonts.{FontValue, glyph_name}
 use Rattle.t1_font.specs.Keys.{same_name}
 use Rattle.t1_lines.specs.Lines.{FaultLineValue, line_in, place_in, waiver_in}
-use Rattle.t1_many.proofs.GivenFaults.{IsGiven, none_given, one_given}
+use Rattle.t1_report.proofs.GivenFaults.{IsGiven, none_given, one_given}
 use Rattle.t1_many.specs.Verdicts.{told_faults}
 use Rattle.t1_many.specs.WrittenWaivers.{waivers_behind, waivers_of_lines, waivers_text, with_place}
 use Rattle.t1_report.specs.Checked.{CheckedFont}

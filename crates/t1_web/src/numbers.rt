@@ -6,15 +6,11 @@ ghost use Rattle.t1_web.specs.Numbers.{IsFormOf, bytes_of, drawn_bytes, drawn_st
 use t1_char::Edition;
 use t1_pieces::{Form, PictureResult, Piece, Stage};
 
-/// The edition that a host names.
+/// The edition that a host names by its number: the first where there is none of that number.
 pub(crate) fn edition_of(number: u32) -> Edition
     ensures { result ≡ edition_of number }
 {
-    if number == 2 {
-        Edition::Two
-    } else {
-        Edition::One
-    }
+    Edition::numbered(u64::from(number)).unwrap_or(Edition::One)
 }
 
 /// The form that a host names: 0 is t1check's line, any other number an object of the font of a name. None where the name isn't

@@ -4,7 +4,7 @@ use Rattle.std.proofs.lemmas.Bool.{false≢true}
 use Rattle.std.specs.Option.{is_some}
 use Rattle.clap.specs.Words.{Text}
 use Rattle.t1_char.specs.declared.edition.Edition.{Edition}
-use Rattle.t1_char.specs.declared.edition.Edition.TheVariants.{One, Two}
+use Rattle.t1_char.proofs.EditionLemmas.{one_edition}
 use Rattle.t1_font.specs.Fonts.{FontValue}
 use Rattle.t1_refusals.specs.declared.refusal.Reason.{Reason}
 use Rattle.t1_picture.specs.Laws.{HasNoOtherPicture}
@@ -36,12 +36,9 @@ one_to no_other wish (Ok font) (Ok waivers) a b is is' = one_at no_other wish fo
 
 -- ---- options of the same words
 
-one_edition : (text : Option Text) (e e' : Edition) → IsEditionOrFirst text e → IsEditionOrFirst text e' → e ≡ e'
-one_edition None e e' is is' = is ∙ sym is'
-one_edition (Some text) One One is is' = refl
-one_edition (Some text) One Two is is' = absurd (omega (arith, is.1, is'.1))
-one_edition (Some text) Two One is is' = absurd (omega (arith, is.1, is'.1))
-one_edition (Some text) Two Two is is' = refl
+same_edition : (text : Option Text) (e e' : Edition) → IsEditionOrFirst text e → IsEditionOrFirst text e' → e ≡ e'
+same_edition None e e' is is' = is ∙ sym is'
+same_edition (Some text) e e' is is' = one_edition e e' (is.1 ∙ sym is'.1)
 
 one_step : (text : Option Text) (step step' : Option ℕ) → AreNumber text step → AreNumber text step' → step ≡ step'
 one_step None step step' is is' = is ∙ sym is'
@@ -59,7 +56,7 @@ one_some o x y is is' = ap (some_or x) (sym is ∙ is')
 
 same_wish : (words : List Text) (options options' : Options) → AreGiven words options → AreGiven words options' → wish_of options' ≡ wish_of options
 same_wish words options options' given given' =
-    let edition = one_edition _ options'.edition options.edition given'.edition given.edition in
+    let edition = same_edition _ options'.edition options.edition given'.edition given.edition in
     let step = one_step _ options'.step options.step given'.step given.step in
     let glyph = one_some (option_and_then name_of_word (glyph_word words)) options'.glyph.items options.glyph.items given'.glyph given.glyph in
     rw (edition, step, glyph) refl

@@ -3,6 +3,7 @@ use Rattle.std.specs.Prelude.{◌≡◌, ℕ, ◌+◌, ◌-◌, ◌≤◌, ◌�
 use Rattle.t1_font.specs.Fonts.{FontValue}
 use Rattle.t1_char.specs.declared.cursor.Cursor.{Cursor}
 use Rattle.t1_char.specs.declared.frames.Frames.{Frames}
+use Rattle.t1_char.specs.declared.frames.Gone.{Gone}
 use Rattle.t1_char.specs.declared.lines.Passing.{Passing}
 use Rattle.t1_char.specs.declared.lines.Way.{Way}
 use Rattle.t1_char.specs.declared.token.CharToken.{CharToken}
@@ -15,22 +16,31 @@ use Rattle.t1_char.specs.Private.Frames.{IsReady, step_here, steps_behind, steps
 use Rattle.t1_char.specs.Private.Machines.{IsBehind}
 use Rattle.t1_char.specs.Private.Taking.{PassesUpTo}
 
+-- What may be passed: which steps, up to which limit, in which font.
+pub record Passage : Type 0 where
+  pub what : Passing
+  pub limit : ℕ
+  pub font : FontValue
+
+abbrev pub passage : Passing → ℕ → FontValue → Passage
+passage what limit font = record { what = what; limit = limit; font = font }
+
 -- So many steps after the first n were passed: executed, and not returned.
-pub record HasGoneFar (what : Passing) (limit : ℕ) (steps : List StepView) (font : FontValue) (n taken : ℕ) (way : Way) (new : Frames) : Type 0 where
-  pub passed : PassesSteps what limit steps n taken way
-  pub behind : IsBehind limit steps font (n + taken) new
+pub record HasGoneFar (p : Passage) (steps : List StepView) (n taken : ℕ) (way : Way) (new : Frames) : Type 0 where
+  pub passed : PassesSteps p.what p.limit steps n taken way
+  pub behind : IsBehind p.limit steps p.font (n + taken) new
 
 -- The same for frames after n steps, whatever glyph they execute.
-abbrev pub GoesFar : Passing → ℕ → FontValue → ℕ → Frames → ℕ → Way → Frames → Type 0
-GoesFar what limit font n f taken way new =
-    (steps : List StepView) → IsBehind limit steps font n f → HasGoneFar what limit steps font n taken way new
+abbrev pub GoesFar : Passage → ℕ → Frames → ℕ → Way → Frames → Type 0
+GoesFar p n f taken way new =
+    (steps : List StepView) → IsBehind p.limit steps p.font n f → HasGoneFar p steps n taken way new
 
 -- Steps were passed, and the token after them was read.
-pub record ReadsToken (what : Passing) (limit : ℕ) (font : FontValue) (n : ℕ) (f : Frames) (m : ℕ) (way : Way) (new : Frames) : Type 0 where
+pub record ReadsToken (p : Passage) (n : ℕ) (f : Frames) (gone : Gone) (new : Frames) : Type 0 where
   pub taken : ℕ
-  pub taken_is : m ≡ n + taken
+  pub taken_is : gone.before ≡ n + taken
   pub passed : Frames
-  pub over : GoesFar what limit font n f taken way passed
+  pub over : GoesFar p n f taken gone.way passed
   pub token : tokens_left passed.current ≡ new.step.token ∷ behind_token new.step.token (tokens_left new.current)
   pub path : new.step.path.items ≡ passed.step.path.items
   pub callers : new.callers.items ≡ passed.callers.items
@@ -52,9 +62,9 @@ pub record IsNext (font : FontValue) (n : ℕ) (f new : Frames) : Type 0 where
   pub number : new.step.number ≡ n + 1
 
 -- Steps were passed, and the step after them was read.
-pub record Advances (what : Passing) (limit : ℕ) (font : FontValue) (n : ℕ) (f : Frames) (m : ℕ) (way : Way) (new : Frames) : Type 0 where
+pub record Advances (p : Passage) (n : ℕ) (f : Frames) (gone : Gone) (new : Frames) : Type 0 where
   pub taken : ℕ
-  pub taken_is : m ≡ n + taken
+  pub taken_is : gone.before ≡ n + taken
   pub passed : Frames
-  pub over : GoesFar what limit font n f taken way passed
-  pub next : IsNext font m passed new
+  pub over : GoesFar p n f taken gone.way passed
+  pub next : IsNext p.font gone.before passed new

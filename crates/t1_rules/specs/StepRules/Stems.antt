@@ -7,9 +7,9 @@ use Rattle.std.specs.Ordering.{int_eq}
 use Rattle.t1_char.specs.declared.command.Command.{Command as Commands}
 use Rattle.t1_char.specs.declared.command.Command.TheVariants.{Hstem, Vstem, Hstem3, Vstem3}
 use Rattle.t1_char.specs.declared.edition.Edition.{Edition}
-use Rattle.t1_char.specs.declared.edition.Edition.TheVariants.{One, Two}
 use Rattle.t1_char.specs.declared.token.CharToken.{CharToken}
 use Rattle.t1_char.specs.Arguments.{argument, is_hint_replacement}
+use Rattle.t1_char.specs.Editions.{knows_one_edge}
 use Rattle.t1_char.specs.Since.{since, was}
 use Rattle.t1_char.specs.Steps.{StepView, is_callsubr}
 use Rattle.t1_rules.specs.declared.step_rules.stems.Stem.{Stem}
@@ -70,15 +70,15 @@ upper stem = int_max stem.position (stem.position +ℤ stem.width)
 abbrev pub overlap : Stem → Stem → Bool
 overlap one other = int_lt (int_max (lower one) (lower other)) (int_min (upper one) (upper other))
 
--- A stem of width -20 or -21, in units of 1/65536, is the hint of one edge, at the top or at the bottom: in the
--- second edition it overlaps nothing.
+-- A stem of width -20 or -21, in units of 1/65536, is the hint of one edge, at the top or at the bottom: where an
+-- edition knows such stems they overlap nothing.
 abbrev pub has_one_edge : Stem → Bool
 has_one_edge stem =
     int_eq stem.width (neg_ℤ (pos (20 * unit))) || int_eq stem.width (neg_ℤ (pos (21 * unit)))
 
 abbrev pub overlap_by : Edition → Stem → Stem → Bool
-overlap_by One one other = overlap one other
-overlap_by Two one other = not (has_one_edge one || has_one_edge other) && overlap one other
+overlap_by edition one other =
+    not (knows_one_edge edition && (has_one_edge one || has_one_edge other)) && overlap one other
 
 -- Which two stems clash is a parameter, since each edition has its own definition: one of the stems clashes
 -- with one that is kept; two of the stems clash.

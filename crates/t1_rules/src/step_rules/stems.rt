@@ -254,16 +254,12 @@ impl Stem {
         position.max(position + i64::from(self.width))
     }
 
-    /// Whether two stems share more than an edge; in the second edition one of one edge shares nothing.
+    /// Whether two stems share more than an edge; where an edition knows stems of one edge, such a one shares nothing.
     pub fn overlaps(self, other: Stem, edition: Edition) -> bool
         ensures { result ≡ overlap_by edition self other }
     {
-        match edition {
-            Edition::One => self.shares_more(other),
-            Edition::Two => {
-                !(self.has_one_edge() | other.has_one_edge()) && self.shares_more(other)
-            }
-        }
+        let one_edge = edition.knows_one_edge() && (self.has_one_edge() | other.has_one_edge());
+        !one_edge && self.shares_more(other)
     }
 
     fn shares_more(self, other: Stem) -> bool
@@ -272,7 +268,7 @@ impl Stem {
         spans_meet(self.lower(), self.upper(), other.lower(), other.upper())
     }
 
-    /// Whether its width is exactly -20 or -21, which means one edge in the second edition.
+    /// Whether its width is exactly -20 or -21, which means one edge where an edition knows such stems.
     pub fn has_one_edge(self) -> bool
         ensures { result ≡ has_one_edge self }
     {

@@ -1,7 +1,7 @@
 use Rattle.std.proofs.Common.{◌+◌, ◌∙◌, List, ap, arith, map, subst, sym}
 use Rattle.std.specs.List.{AllByRecursion}
 use Rattle.t1_many.proofs.FoundKinds.{HaveCounted, none_counted, one_counted, one_left}
-use Rattle.t1_many.proofs.GivenFaults.{all_given, most_given}
+use Rattle.t1_report.proofs.GivenFaults.{all_given, most_given}
 use Rattle.t1_many.proofs.counts.count_kinds.Goals as goal
 use Rattle.t1_many.proofs.counts.count_kinds.Goals.{then-has+in_ok-count_more, else-has, else-loop-fault-test, then-loop-fault-test+in_default}
 use Rattle.t1_many.specs.Counts.{counted_more, kind_counts}

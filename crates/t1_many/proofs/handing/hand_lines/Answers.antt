@@ -1,5 +1,5 @@
 use Rattle.std.proofs.Common.{◌+◌, List, Option, None, Some, ap, arith, subst, sym, ◌∙◌}
-use Rattle.t1_many.proofs.GivenFaults.{all_given}
+use Rattle.t1_report.proofs.GivenFaults.{all_given}
 use Rattle.t1_many.proofs.ReportLines.{HaveGone, lost_same, most_gone, no_ok, none_gone, one_failed, one_gone, one_passed}
 use Rattle.t1_many.proofs.handing.hand_lines.Goals as goal
 use Rattle.t1_many.proofs.handing.hand_lines.Goals.{then-is_told+in_ok-line, else-is_told}

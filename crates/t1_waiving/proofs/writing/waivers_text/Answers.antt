@@ -1,5 +1,5 @@
 use Rattle.std.proofs.Common.{◌≡◌, ◌+◌, ◌∙◌, ◌&&◌, ℕ, Bool, true, false, List, ap, arith, subst, sym, refl}
-use Rattle.t1_many.proofs.GivenFaults.{all_given, most_given}
+use Rattle.t1_report.proofs.GivenFaults.{all_given, most_given}
 use Rattle.t1_report.specs.Checked.{CheckedFont, checked}
 use Rattle.t1_report.specs.Faults.{FaultValue, fault_value}
 use Rattle.t1_report.specs.Lines.{IsInFont}

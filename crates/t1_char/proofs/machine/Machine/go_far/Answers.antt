@@ -34,7 +34,7 @@ returns-then-not-execute-clause-asked c =
 pub invariant_of-self-then-self : goal.invariant_of-self-then-self
 invariant_of-self-then-self c =
     let m = c.self.inside in
-    let read = has_read c.args.passing (limit_of m.edition) m.limit (steps_of m.font.now m.glyph) m.font.now m.counted _ _ m.answer m.frames
+    let read = has_read c.args.passing (limit_of m.edition) m.limit (steps_of m.font.now m.glyph) m.font.now m.counted c.advance-gone.result m.answer m.frames
     c.execute.new.self c.advance-gone.new.self c.self.invariant.1 c.in-Step.is c.self.invariant.0 c.if-not-execute.ensures.steps
     c.if-not-execute.ensures.even c.advance-gone.ensures.over in
     let answers = answers_limit (limit_of m.edition) (steps_of m.font.now m.glyph) m.font.now c.advance-gone.result.before read.passed
@@ -44,7 +44,7 @@ invariant_of-self-then-self c =
 pub returns-then-self-clause-asked : goal.returns-then-self-clause-asked
 returns-then-self-clause-asked c =
     let m = c.self.inside in
-    let read = has_read c.args.passing (limit_of m.edition) m.limit (steps_of m.font.now m.glyph) m.font.now m.counted _ _ m.answer m.frames
+    let read = has_read c.args.passing (limit_of m.edition) m.limit (steps_of m.font.now m.glyph) m.font.now m.counted c.advance-gone.result m.answer m.frames
     c.execute.new.self c.advance-gone.new.self c.self.invariant.1 c.in-Step.is c.self.invariant.0 c.if-not-execute.ensures.steps
     c.if-not-execute.ensures.even c.advance-gone.ensures.over in
     let answers = answers_limit (limit_of m.edition) (steps_of m.font.now m.glyph) m.font.now c.advance-gone.result.before read.passed
@@ -52,13 +52,13 @@ returns-then-self-clause-asked c =
     subst (λ view. IsAskedFarBehind c.args.passing (limit_of view.edition) (steps_of view.font view.glyph) view.counted
     (c.advance-gone.result.before + 1) (answer_view Limit (step_value c.advance-gone.new.self.step)) c.advance-gone.result.way) c.self.view_is
     (asked_far c.args.passing (limit_of m.edition) (steps_of m.font.now m.glyph) m.font.now m.counted c.advance-gone.result.before read.taken
-    c.advance-gone.result.way read.passed Limit c.advance-gone.new.self read.taken_is read.gone c.advance-gone.ensures.told answers)
+    c.advance-gone.result.way read.passed Limit c.advance-gone.new.self read.taken_is read.gone_far c.advance-gone.ensures.told answers)
 
 -- The next step was read.
 pub invariant_of-self-else-self : goal.invariant_of-self-else-self
 invariant_of-self-else-self c =
     let m = c.self.inside in
-    let read = has_read c.args.passing (limit_of m.edition) m.limit (steps_of m.font.now m.glyph) m.font.now m.counted _ _ m.answer m.frames
+    let read = has_read c.args.passing (limit_of m.edition) m.limit (steps_of m.font.now m.glyph) m.font.now m.counted c.advance-gone.result m.answer m.frames
     c.execute.new.self c.advance-gone.new.self c.self.invariant.1 c.in-Step.is c.self.invariant.0 c.if-not-execute.ensures.steps
     c.if-not-execute.ensures.even c.advance-gone.ensures.over in
     let answers = answers_step (limit_of m.edition) (steps_of m.font.now m.glyph) m.font.now c.advance-gone.result.before read.passed
@@ -71,7 +71,7 @@ invariant_of-self-else-self c =
 pub returns-else-self-clause-asked : goal.returns-else-self-clause-asked
 returns-else-self-clause-asked c =
     let m = c.self.inside in
-    let read = has_read c.args.passing (limit_of m.edition) m.limit (steps_of m.font.now m.glyph) m.font.now m.counted _ _ m.answer m.frames
+    let read = has_read c.args.passing (limit_of m.edition) m.limit (steps_of m.font.now m.glyph) m.font.now m.counted c.advance-gone.result m.answer m.frames
     c.execute.new.self c.advance-gone.new.self c.self.invariant.1 c.in-Step.is c.self.invariant.0 c.if-not-execute.ensures.steps
     c.if-not-execute.ensures.even c.advance-gone.ensures.over in
     let answers = answers_step (limit_of m.edition) (steps_of m.font.now m.glyph) m.font.now c.advance-gone.result.before read.passed
@@ -79,4 +79,4 @@ returns-else-self-clause-asked c =
     subst (λ view. IsAskedFarBehind c.args.passing (limit_of view.edition) (steps_of view.font view.glyph) view.counted
     (c.advance-gone.result.before + 1) (answer_view Step (step_value c.advance-gone.new.self.step)) c.advance-gone.result.way) c.self.view_is
     (asked_far c.args.passing (limit_of m.edition) (steps_of m.font.now m.glyph) m.font.now m.counted c.advance-gone.result.before read.taken
-    c.advance-gone.result.way read.passed Step c.advance-gone.new.self read.taken_is read.gone c.advance-gone.ensures.told answers)
+    c.advance-gone.result.way read.passed Step c.advance-gone.new.self read.taken_is read.gone_far c.advance-gone.ensures.told answers)
