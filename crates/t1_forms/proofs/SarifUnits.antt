@@ -10,7 +10,7 @@ use Rattle.t1_refusals.specs.declared.refusal.RefusalCode.{RefusalCode}
 use Rattle.t1_refusals.specs.declared.refusal.RefusalCode.TheVariants.{E01, E15}
 use Rattle.t1_rules.proofs.Lemmas.Book.{in_book, one_rule}
 use Rattle.t1_rules.proofs.Lemmas.RuleCodes.{rule_is_found}
-use Rattle.t1_rules.specs.Book.{code_of, coded_in, number_of, rule_coded}
+use Rattle.t1_rules.specs.Book.{code_of, coded_in, last_number, number_of, rule_coded}
 use Rattle.t1_rules.specs.declared.rule.Rule.{Rule}
 use Rattle.t1_forms.proofs.OneObject.{refusal_among, refusals}
 use Rattle.t1_forms.specs.Objects.{refusal_code_of}
@@ -21,14 +21,14 @@ use Rattle.t1_forms.specs.SarifObjects.{line_code, unit_of}
 -- ---- codes and their numbers
 
 abbrev number_coded : List ℕ → ℕ
-number_coded code = option_map_or (λ rule. number_of rule - 1) (rule_coded code) (70 + option_map_or refusal_number (refusal_among refusals code) 0)
+number_coded code = option_map_or (λ rule. number_of rule - 1) (rule_coded code) (last_number + option_map_or refusal_number (refusal_among refusals code) 0)
 
 of_rule : (rule : Rule) → number_coded (code_of rule) ≡ number_of rule - 1
 of_rule rule =
     ap (λ (found : Option Rule).
-    option_map_or (λ r. number_of r - 1) found (70 + option_map_or refusal_number (refusal_among refusals (code_of rule)) 0)) (rule_is_found rule)
+    option_map_or (λ r. number_of r - 1) found (last_number + option_map_or refusal_number (refusal_among refusals (code_of rule)) 0)) (rule_is_found rule)
 
-of_code : (code : RefusalCode) → number_coded (refusal_code_of code) ≡ 70 + refusal_number code
+of_code : (code : RefusalCode) → number_coded (refusal_code_of code) ≡ last_number + refusal_number code
 unfolding coded_in
 of_code E01 = refl
 of_code _ = refl

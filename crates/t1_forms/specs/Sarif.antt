@@ -6,7 +6,7 @@ use Rattle.t1_io.specs.Devices.{one_more}
 use Rattle.t1_lines.specs.Lines.{LineValue, of_fault, of_refusal}
 use Rattle.t1_refusals.specs.declared.refusal.RefusalCode.{RefusalCode}
 use Rattle.t1_refusals.specs.declared.refusal.RefusalCode.TheVariants.{E01, E02, E03, E04, E05, E06, E07, E08, E09, E10, E11, E12, E13, E14, E15}
-use Rattle.t1_rules.specs.Book.{number_of}
+use Rattle.t1_rules.specs.Book.{last_number, number_of}
 use Rattle.t1_forms.specs.PageValues.{PagesValue, pages_value}
 use Rattle.t1_forms.specs.SarifObjects.{fingerprint, notification_object, result_object, tool_object, unit_of}
 use Rattle.t1_forms.specs.Tellings.{ReasonValue, ToldValue, WhatValue, of_line, of_unchecked}
@@ -77,11 +77,11 @@ refusal_number E15 = 14
 -- First the rules', then the refusals'.
 abbrev pub code_number : LineValue → ℕ
 code_number (of_fault l) = number_of l.rule - 1
-code_number (of_refusal code) = 70 + refusal_number code
+code_number (of_refusal code) = last_number + refusal_number code
 
 -- How many codes there are.
 abbrev pub code_count : ℕ
-code_count = 85
+code_count = last_number + 15
 
 -- ---- the beginning and the end
 

@@ -15,13 +15,17 @@ use std::alloc::{AllocError, Global};
 use t1_io::{Sink, put_all};
 use t1_lines::Line;
 use t1_refusals::RefusalCode;
+use t1_rules::RULE_COUNT;
 
 /// How many fonts that weren't checked one run of the document reports. After them the next run begins.
 const MOST_FAILURES: usize = 1000;
 
+/// How many refusals there are.
+const REFUSAL_COUNT: usize = 15;
+
 /// How many codes there are, of rules and of refusals. Counts are by the code and not by its page, so that a host can keep them in a
 /// place of a fixed size, whatever pages there are.
-pub const RESULT_COUNTS: usize = 85;
+pub const RESULT_COUNTS: usize = RULE_COUNT + REFUSAL_COUNT;
 
 /// A document that is being written.
 ///
@@ -88,21 +92,21 @@ fn separated(alloc: Global, later: bool, text: &str) -> Result<String, AllocErro
     Ok(separated)
 }
 
-/// The number of a line's code: the rules have 0 to 69, the refusals 70 to 84.
+/// The number of a line's code, from 0 on: first the rules', then the refusals'.
 fn code_number(line: &Line<'_>) -> usize
     ensures number { result ≡ code_number (line_value line.now) }
     ensures bound { result < RESULT_COUNTS }
 {
     match line {
         Line::Fault(fault) => usize::from(fault.rule.number() - 1),
-        Line::Refusal(code) => 70 + refusal_number(*code),
+        Line::Refusal(code) => RULE_COUNT + refusal_number(*code),
     }
 }
 
 /// The number of a refusal, from 0 on.
 fn refusal_number(code: RefusalCode) -> usize
     ensures number { result ≡ refusal_number code }
-    ensures bound { result < 15 }
+    ensures bound { result < REFUSAL_COUNT }
 {
     code as usize
 }
@@ -152,7 +156,7 @@ impl<'a> Sarif<'a> {
         })
     }
 
-    /// How many results there were of each code since the unit of the last one began: the 70 rules, then the 15
+    /// How many results there were of each code since the unit of the last one began: the rules, then the
     /// refusals.
     pub fn counts(&self) -> &[u64; RESULT_COUNTS]
         ensures { result.now ≡ (sarif_state self.now).counts }

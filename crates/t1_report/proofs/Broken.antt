@@ -10,7 +10,7 @@ use Rattle.t1_char.specs.Steps.{StepView, steps_of}
 use Rattle.t1_font.specs.Fonts.{FontValue}
 use Rattle.t1_report.specs.Checked.{CheckedFont, step_limit}
 use Rattle.t1_rules.specs.FontRules.{font_rules, violated}
-use Rattle.t1_rules.specs.Keys.{places_of}
+use Rattle.t1_rules.specs.Keys.{index_count, key_count, places_of}
 use Rattle.t1_rules.specs.declared.sidebearings.Component.{Component}
 use Rattle.t1_rules.specs.Components.{components_of}
 use Rattle.t1_rules.specs.declared.rule.Rule.TheVariants.{L01}
@@ -44,7 +44,7 @@ past_key font key step n past less =
     ap (λ (k : ℕ). violated font_rules n font.value k (step % 65536)) at ∙ past_places font.value key (step % 65536) beyond n
 
 -- past the last key
-pub past_keys : (font : CheckedFont) (step n : ℕ) → 65536 * 22 ≤ step → is_broken font 0 step n ≡ false
+pub past_keys : (font : CheckedFont) (step n : ℕ) → index_count * key_count ≤ step → is_broken font 0 step n ≡ false
 unfolding is_broken
 past_keys font step n past = past_last (step / 65536) (omega arith) font.value (step % 65536) n
 

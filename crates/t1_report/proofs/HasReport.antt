@@ -5,7 +5,7 @@ use Rattle.std.proofs.lemmas.List.{length-take}
 use Rattle.t1_char.specs.Steps.{StepView, steps_of}
 use Rattle.t1_report.specs.Checked.{CheckedFont, step_limit}
 use Rattle.t1_rules.specs.declared.rule.Rule.{Rule}
-use Rattle.t1_rules.specs.Book.{number_of, rules}
+use Rattle.t1_rules.specs.Book.{last_number, number_of, rules}
 use Rattle.t1_rules.proofs.Lemmas.Book.{both}
 use Rattle.t1_report.specs.Faults.{FaultValue}
 use Rattle.t1_report.specs.Reports.{IsReport, IsReportOf, Place, is_broken, path_at, is_told}
@@ -15,6 +15,7 @@ use Rattle.t1_report.proofs.Fronts.{fault_at, front_start, front_with}
 use Rattle.t1_report.proofs.UnitFronts.{all_units, first_rule, rule_passed, step_passed, unit_ends}
 use Rattle.t1_report.specs.Waivers.{Waiver}
 use Rattle.t1_report.proofs.Told.{no_waiver, past_waivers, quiet_told, told_of_waiver}
+use Rattle.t1_rules.specs.Keys.{index_count, key_count}
 
 -- The numbers of these rules rise from n one by one.
 rise_from : ℕ → List Rule → Bool
@@ -65,13 +66,13 @@ module _ (broken : ℕ → ℕ → ℕ → Bool) (path_of : Place → List ℕ) 
       subst (HasFront unit step) all (over_rules unit step rest (suc n) parts.1
       (subst (HasFront unit step) next (over_rule unit step rule (subst (HasFront unit step) (sym first) front))))
 
-  over_book : (unit step : ℕ) → HasFront unit step 1 → HasFront unit step 71
+  over_book : (unit step : ℕ) → HasFront unit step 1 → HasFront unit step (last_number + 1)
   over_book unit step front = over_rules unit step rules 1 all_rise front
 
   from_first : (unit step : ℕ) → HasFront unit step 0 → HasFront unit step 1
   from_first unit step (faults, front) = (faults, first_rule broken path_of unit step faults front)
 
-  past_last : (unit step : ℕ) → HasFront unit step 71 → HasFront unit (step + 1) 0
+  past_last : (unit step : ℕ) → HasFront unit step (last_number + 1) → HasFront unit (step + 1) 0
   past_last unit step (faults, front) = (faults, step_passed broken path_of unit step faults front)
 
   over_step : (unit step : ℕ) → HasFront unit step 0 → HasFront unit (step + 1) 0
@@ -109,7 +110,7 @@ quiet_behind font glyph s rule past = past_steps font (suc glyph) glyph s (numbe
     (few_steps (step_limit font) s (steps_of font.value glyph) past)
 
 unit_end : (font : CheckedFont) (unit : ℕ) → (count : ℕ) × ((s : ℕ) (rule : Rule) → count ≤ s → is_broken font unit s (number_of rule) ≡ false)
-unit_end font zero = (65536 * 22, λ s rule past. past_keys font s (number_of rule) past)
+unit_end font zero = (index_count * key_count, λ s rule past. past_keys font s (number_of rule) past)
 unit_end font (suc glyph) = (step_limit font + 2, quiet_behind font glyph)
 
 told_end : (font : CheckedFont) (waivers : List Waiver) (unit : ℕ) → (count : ℕ)

@@ -14,6 +14,7 @@ use Rattle.t1_report.specs.declared.walk.font_places.FontPlaces.{FontPlaces}
 use Rattle.t1_report.specs.Reports.{is_broken}
 use Rattle.t1_report.specs.Private.Units.{IsFirst, IsFontPlaces, IsQuiet, IsQuietFrom, font_step}
 use Rattle.t1_report.proofs.Broken.{in_font, no_path, past_key, past_keys}
+use Rattle.t1_rules.specs.Keys.{key_count}
 
 -- An index that is tested is below 65,536.
 pub few_index : (font : FontValue) (p : FontPlaces) → IsFontPlaces font p → p.index < p.places → p.index < 65536
@@ -62,7 +63,7 @@ key_passed font from p next is past quiet key index = λ s rule behind before.
     ]
 
 -- Past the last key.
-pub keys_passed : (font : CheckedFont) (from : ℕ) (p : FontPlaces) → 22 ≤ p.key → IsQuiet font 0 from (font_step p) → IsQuietFrom font 0 from
+pub keys_passed : (font : CheckedFont) (from : ℕ) (p : FontPlaces) → key_count ≤ p.key → IsQuiet font 0 from (font_step p) → IsQuietFrom font 0 from
 keys_passed font from p last quiet = λ s rule behind.
     elim (cases_lt s (font_step p)) [
       | inl earlier ↦ quiet s rule behind earlier
@@ -70,5 +71,5 @@ keys_passed font from p last quiet = λ s rule behind.
     ]
 
 -- The measure: places that are left, and the keys.
-pub fewer_places : (key index : ℕ) → index < 65536 → (22 - key) * 65537 + (65536 - (index + 1)) < (22 - key) * 65537 + (65536 - index)
+pub fewer_places : (key index : ℕ) → index < 65536 → (key_count - key) * 65537 + (65536 - (index + 1)) < (key_count - key) * 65537 + (65536 - index)
 fewer_places key index few = omega (arith, few)

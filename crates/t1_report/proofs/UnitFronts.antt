@@ -4,7 +4,7 @@ use Rattle.std.proofs.lemmas.Bool.{cases_lt}
 use Rattle.t1_rules.specs.declared.rule.Rule.{Rule}
 use Rattle.t1_rules.specs.Mask.{HasNoneAbove, IsLeastAbove, has}
 use Rattle.t1_rules.specs.declared.mask.Mask.{Mask}
-use Rattle.t1_rules.specs.Book.{number_of}
+use Rattle.t1_rules.specs.Book.{last_number, number_of}
 use Rattle.t1_report.specs.Faults.{FaultValue}
 use Rattle.t1_report.specs.Reports.{Comes, IsReportOf, Place, spot}
 use Rattle.t1_report.specs.Private.Fronts.{IsFrontOf}
@@ -48,7 +48,7 @@ comes_near u s r unit step step' none (inr (c, inl d)) =
 comes_near u s r unit step step' none (inr (c, inr (d, e))) = absurd (omega arith)
 
 -- before the next step there are no more rules than the book has
-comes_last : (u s r unit step : ℕ) → r < 71 → Comes (spot u s r) (spot unit (step + 1) 0) → Comes (spot u s r) (spot unit step 71)
+comes_last : (u s r unit step : ℕ) → r ≤ last_number → Comes (spot u s r) (spot unit (step + 1) 0) → Comes (spot u s r) (spot unit step (last_number + 1))
 comes_last u s r unit step few (inl c) = inl c
 comes_last u s r unit step few (inr (c, inl d)) =
     elim (cases_lt s step) [
@@ -118,18 +118,18 @@ module _ (broken : ℕ → ℕ → ℕ → Bool) (path_of : Place → List ℕ) 
       never p.unit p.step unit step (number_of p.rule) at place is (ap (λ (n : ℕ). broken unit step n) same ∙ none)) before)
 
   -- past the last rule of the book
-  pub step_passed : (unit step : ℕ) (faults : List FaultValue) → Front unit step 71 faults → Front unit (step + 1) 0 faults
+  pub step_passed : (unit step : ℕ) (faults : List FaultValue) → Front unit step (last_number + 1) faults → Front unit (step + 1) 0 faults
   step_passed unit step faults front =
-      front_on IsBroken path_of unit step 71 unit (step + 1) 0 faults front
-      (λ u s r before. comes_on u s r unit step 71 unit (step + 1) 0 before (inr (refl, inl (omega arith))))
+      front_on IsBroken path_of unit step (last_number + 1) unit (step + 1) 0 faults front
+      (λ u s r before. comes_on u s r unit step (last_number + 1) unit (step + 1) 0 before (inr (refl, inl (omega arith))))
       (λ p is before. comes_last p.unit p.step (number_of p.rule) unit step (let last = (in_book p.rule).1 in omega arith) before)
 
   -- the end of a step
   pub place_ends : (unit step floor : ℕ) (mask : Mask) (faults : List FaultValue) → Front unit step (floor + 1) faults
-      → HasNoneAbove mask floor → Agrees mask unit step → floor ≤ 70 → Front unit (step + 1) 0 faults
+      → HasNoneAbove mask floor → Agrees mask unit step → floor ≤ last_number → Front unit (step + 1) 0 faults
   place_ends unit step floor mask faults front none agrees low =
       step_passed unit step faults
-      (up_to unit step floor 71 mask faults front agrees (omega arith) (λ rule above below. none (number_of rule) above (in_book rule).1))
+      (up_to unit step floor (last_number + 1) mask faults front agrees (omega arith) (λ rule above below. none (number_of rule) above (in_book rule).1))
 
   -- the next rule of a step
   pub fault_more : (unit step floor : ℕ) (mask : Mask) (rule : Rule) (faults : List FaultValue) → Front unit step (floor + 1) faults

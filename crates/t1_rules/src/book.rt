@@ -5,13 +5,13 @@ ghost use Rattle.t1_rules.specs.Private.BookRows.{row_coded, row_view, rows};
 ghost use Rattle.t1_rules.specs.Book.{code_of, last_number, level_of, number_of, text_of};
 
 use crate::level::Level;
-use crate::rule::Rule;
+use crate::rule::{RULE_COUNT, Rule};
 
 /// A rule with its level, its code and its text.
 type Row = (Rule, Level, &'static str, &'static str);
 
 /// The book, in the order of the rules' numbers, of which the first is 1.
-static BOOK: [Row; 70] = [
+static BOOK: [Row; RULE_COUNT] = [
     (Rule::F01, Level::Should, "F01", "no end segment"),
     (Rule::F02, Level::Tidy, "F02", "bytes after the end segment"),
     (Rule::F03, Level::Must, "F03", "FontType is not 1"),

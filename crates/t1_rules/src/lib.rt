@@ -80,7 +80,7 @@ pub use laws::{
 };
 pub use level::Level;
 pub use mask::Mask;
-pub use rule::{Rule, all_rules};
+pub use rule::{RULE_COUNT, Rule, all_rules};
 pub use sidebearings::Sidebearings;
 pub use standard_encoding::standard_name;
 pub use step_rules::arguments::ArgumentWatcher;

@@ -157,7 +157,7 @@ pub enum Rule {
 }
 
 impl Rule {
-    /// The number of the rule, from 1 to 70.
+    /// The number of the rule, from 1 on.
     pub fn number(self) -> u8
         ensures number { result ≡ number_of self }
         ensures first { 1 ≤ result }
@@ -166,7 +166,7 @@ impl Rule {
         self as u8
     }
 
-    /// The rule of a number, if there is one: from 1 to 70.
+    /// The rule of a number, if there is one: from 1 to [`RULE_COUNT`].
     pub fn from_number(number: u8) -> Option<Rule>
         ensures some { IfSome result (λ rule. number_of rule ≡ number) }
         ensures none { IfNone result ((number ≡ 0) ⊎ (last_number < number)) }
@@ -182,8 +182,11 @@ impl Rule {
     }
 }
 
+/// How many rules there are.
+pub const RULE_COUNT: usize = 70;
+
 /// The rules, in the order of their numbers.
-static RULES: [Rule; 70] = [
+static RULES: [Rule; RULE_COUNT] = [
     Rule::F01,
     Rule::F02,
     Rule::F03,
@@ -257,7 +260,7 @@ static RULES: [Rule; 70] = [
 ];
 
 /// All rules, in the order of their numbers.
-pub fn all_rules() -> &'static [Rule; 70]
+pub fn all_rules() -> &'static [Rule; RULE_COUNT]
     ensures { result.now ≡ rules }
 {
     &RULES

@@ -13,7 +13,7 @@ use Rattle.std.specs.declared.cmp.Ordering.{Ordering}
 use Rattle.std.specs.declared.cmp.Ordering.TheVariants.{Less, Equal, Greater}
 use Rattle.t1_rules.proofs.Lemmas.Book.{one_rule}
 use Rattle.t1_rules.proofs.Lemmas.RuleCodes.{rule_is_found}
-use Rattle.t1_rules.specs.Book.{code_of, number_of, rule_coded, rules}
+use Rattle.t1_rules.specs.Book.{code_of, last_number, number_of, rule_coded, rules}
 use Rattle.t1_rules.specs.declared.rule.Rule.{Rule}
 use Rattle.t1_summary.specs.Laws.{RankingsAreOne, RankingsStand}
 use Rattle.t1_summary.specs.Rankings.{IsRanking, placed, rank_cmp, ranked, ranking}
@@ -233,5 +233,5 @@ pub sorted_book : (tally : Tally) (book order : List Rule) → book ≡ rules �
 sorted_book tally book order is all up =
     rankings_are_one tally order (record { all = subst (λ (some : List Rule). IsPermutation some order) is all; sorted = up })
 
-pub ranking_length : (tally : Tally) → length (ranking tally) ≡ 70
+pub ranking_length : (tally : Tally) → length (ranking tally) ≡ last_number
 ranking_length tally = length_permutation rules (ranking tally) (rankings_stand tally).all

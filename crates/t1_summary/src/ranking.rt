@@ -3,12 +3,12 @@
 ghost use Rattle.std.specs.Prelude.{◌≡◌};
 ghost use Rattle.t1_summary.specs.Rankings.{rank_cmp, ranking};
 
-use crate::tally::{RULES, Tally};
+use crate::tally::Tally;
 use std::cmp::Ordering;
-use t1_rules::{Rule, all_rules, rule_code};
+use t1_rules::{RULE_COUNT, Rule, all_rules, rule_code};
 
 /// The rules, those with the most lines first, and those with equally many by their codes.
-pub(crate) fn ranking(tally: &Tally) -> [Rule; RULES]
+pub(crate) fn ranking(tally: &Tally) -> [Rule; RULE_COUNT]
     ensures { result ≡ ranking tally.now }
 {
     let mut order = *all_rules();

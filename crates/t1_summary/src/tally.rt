@@ -6,13 +6,10 @@ ghost use Rattle.t1_summary.specs.Tallies.{all_fonts, fonts_in, lines_in, tally_
 ghost use Rattle.t1_summary.specs.declared.found.FontClass.{FontClass};
 
 use crate::found::FontClass;
-use t1_rules::Rule;
+use t1_rules::{RULE_COUNT, Rule};
 
 /// The number of classes of fonts.
 pub(crate) const CLASSES: usize = 5;
-
-/// The number of rules.
-pub(crate) const RULES: usize = 70;
 
 /// Numbers of fonts by how they were found, and of lines by their rules. A number stays at 2^64 - 1 once it is there.
 #[derive(Clone, Copy, Debug, PartialEq, Eq)]
@@ -20,7 +17,7 @@ pub struct Tally {
     /// By [`FontClass::place`].
     pub(crate) fonts: [u64; CLASSES],
     /// By the rule's number, less 1.
-    pub(crate) lines: [u64; RULES],
+    pub(crate) lines: [u64; RULE_COUNT],
 }
 
 impl Tally {
@@ -30,7 +27,7 @@ impl Tally {
     {
         Tally {
             fonts: [0; CLASSES],
-            lines: [0; RULES],
+            lines: [0; RULE_COUNT],
         }
     }
 

@@ -11,6 +11,7 @@ use Rattle.t1_rules.specs.Private.KeyTests.{broken_among}
 use Rattle.t1_rules.specs.Laws.FontRules.{RuleNumbersAreInOrder}
 use Rattle.t1_rules.specs.FontRules.{KeyTest, FontRule, font_rules, says, violated}
 use Rattle.t1_rules.proofs.Lemmas.Book.{both, in_book}
+use Rattle.t1_rules.specs.Keys.{key_count}
 
 -- The keys of all tests are less than m.
 abbrev pub keys_below : ℕ → List FontRule → Bool
@@ -45,13 +46,13 @@ number_within (r ∷ rs) n font key index broken =
     go true false e some rest = rest some
     go true true e some rest = let same : number_of r.rule ≡ n = eqb-true (number_of r.rule) n e in rw same at (in_book r.rule)
 
-keys_within : keys_below 22 font_rules ≡ true
+keys_within : keys_below key_count font_rules ≡ true
 unfolding font_rules
 keys_within = refl
 
 -- No font rule is past the last key.
-pub past_last : (key : ℕ) → 22 ≤ key → (font : FontValue) (index n : ℕ) → violated font_rules n font key index ≡ false
-past_last key past font index n = none_at 22 font_rules keys_within n font key index past
+pub past_last : (key : ℕ) → key_count ≤ key → (font : FontValue) (index n : ℕ) → violated font_rules n font key index ≡ false
+past_last key past font index n = none_at key_count font_rules keys_within n font key index past
 
 -- A set that says what the tests of a key say.
 pub told_at : (key own : ℕ) (tests : List (Rule × Bool)) (mask : Mask) (font : FontValue) (index : ℕ) → key ≡ own →

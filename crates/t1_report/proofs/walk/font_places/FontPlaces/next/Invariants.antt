@@ -3,6 +3,7 @@ use Rattle.t1_char.specs.declared.edition.Edition.{Edition}
 use Rattle.t1_report.specs.Checked.{checked}
 use Rattle.t1_report.specs.Private.Units.{IsFontPlaces, IsQuiet, font_step}
 use Rattle.t1_report.proofs.walk.font_places.FontPlaces.next.Given as goal
+use Rattle.t1_rules.specs.Keys.{key_count}
 
 abbrev pub invariant-loop-self : goal.invariant-loop-self
 invariant-loop-self l = record {
@@ -12,4 +13,4 @@ invariant-loop-self l = record {
 }
 
 abbrev pub decreases-loop-self : goal.decreases-loop-self
-decreases-loop-self l = (22 - l.self.key) * 65537 + (65536 - l.self.index)
+decreases-loop-self l = (key_count - l.self.key) * 65537 + (65536 - l.self.index)
