@@ -8,7 +8,7 @@ use Rattle.t1_scan.specs.Texts.{BeginsWith}
 use Rattle.t1_font.specs.declared.refusal.Refusal.TheVariants.{BadSubrs, BadCharStrings, PastLimit}
 use Rattle.t1_font.specs.Fonts.{Marks}
 use Rattle.t1_font.specs.PrivateText.{private_of}
-use Rattle.t1_font.specs.Keys.{private_key}
+use Rattle.t1_font.specs.Keys.{private_key, private_note}
 use Rattle.t1_font.specs.Tokens.{is_number_kind, whole}
 use Rattle.t1_font.specs.Laws.BrokenPrivateText.{IsBegun, Opening, IsOpening, key_name, SubrStart, IsSubrStart, lone_dup, subr_number, no_length, glyph_name, Begun, in_keys, among_subrs, among_glyphs, begun_pieces}
 use Rattle.t1_font.specs.Laws.BrokenTexts.{SmallTextsBreak}
@@ -37,14 +37,14 @@ abbrev among : SubrStart → Begun
 among k = among_subrs [] 1 (digits (codes "1")) [] k
 
 len_iv_begun : IsBegun (in_keys nothing (key_name LenIv (codes "lenIV"))) (codes "/lenIV ") space
-unfolding private_key
+unfolding private_key private_note
 len_iv_begun = record {
   parts = (is_nothing, refl);
   written = is_written ([] ∷ []) (begun_pieces (in_keys nothing (key_name LenIv (codes "lenIV")))) space refl;
 }
 
 blue_fuzz_begun : IsBegun (in_keys nothing (key_name BlueFuzz (codes "BlueFuzz"))) (codes "/BlueFuzz ") space
-unfolding private_key
+unfolding private_key private_note
 blue_fuzz_begun = record {
   parts = (is_nothing, refl);
   written = is_written ([] ∷ []) (begun_pieces (in_keys nothing (key_name BlueFuzz (codes "BlueFuzz")))) space refl;

@@ -15,11 +15,11 @@ use Rattle.t1_font.specs.declared.mode.PrivateMode.{PrivateMode}
 use Rattle.t1_font.specs.declared.mode.PrivateMode.TheVariants.{Outside, Subrs, Glyphs}
 use Rattle.t1_font.specs.declared.refusal.Refusal.{Refusal}
 use Rattle.t1_font.specs.declared.refusal.Refusal.TheVariants.{Unclosed, BadSubrs, BadCharStrings, BadLenIv, PastLimit}
-use Rattle.t1_font.specs.Keys.{private_key, same_name}
+use Rattle.t1_font.specs.Keys.{private_key, same_name, all_notes}
 use Rattle.t1_font.specs.Fonts.{Stated, Marks, FontValue, value_of, glyph_of, size_of, firsts}
 use Rattle.t1_font.specs.Tokens.{token_at, wanted, token_ahead, whole, natural, is_word_kind, past_word, raw_of, charstring_at}
 use Rattle.t1_font.specs.Private.Room.{HasRoom}
-use Rattle.t1_font.specs.PrivateText.{private_value, private_outside, subrs_at, subr_at, dup_turn, glyphs_at, glyph_turn, private_turn, private_of}
+use Rattle.t1_font.specs.PrivateText.{private_value, private_outside, subrs_at, subr_at, dup_turn, glyphs_at, glyph_turn, private_turn, private_of, private_turn_by, private_of_by}
 use Rattle.t1_font.specs.Laws.Written.{IsWritten, IsWhole}
 use Rattle.t1_font.specs.Laws.UsualPrivateText.{PrivateItem, private_pieces, private_states, IsPrivateItem, SubrItem, some_subrs, subrs_pieces, subrs_states, IsSubrsPart, GlyphItem, glyph_pieces, glyph_states, glyph_names, IsGlyphItem, IsCount, StatesNoCharstring}
 use Rattle.t1_font.specs.Laws.BrokenPrivateText.{IsUnclosed, Opening, opening_pieces, IsOpening, KeyStart, no_key, key_name, key_start_pieces, IsKeyStart, SubrsStart, subrs_name, subrs_count, subrs_start_pieces, IsSubrsStart, CharstringStart, no_length, its_length, charstring_start_pieces, IsCharstringStart, SubrStart, no_subr, lone_dup, subr_number, subr_start_pieces, IsSubrStart, GlyphsStart, glyphs_name, glyphs_count, glyphs_dict, glyphs_dup, glyphs_start_pieces, IsGlyphsStart, GlyphStart, no_glyph, glyph_name, glyph_start_pieces, glyph_start_names, IsGlyphStart, head_pieces, Begun, begun_pieces, in_keys, in_subrs, among_subrs, in_glyphs, among_glyphs, AreBegun, IsBegun, missing_value, missing_subr, missing}
@@ -111,7 +111,7 @@ glyph_fails v run s left e room h fails = glyphs_read.name_among_glyphs v s run 
 
 module _ (f : Refusal → Refusal) (left : List ℕ) (lacks : Lacks f left) where
   turn_lacks : (v : FontValue) (mode : PrivateMode) → private_turn v mode left ≡ Err (f BadCharStrings)
-  unfolding private_turn
+  unfolding private_turn_by
   turn_lacks v mode = rw (lacks.wants BadCharStrings) refl
 
   word_lacks : (bad : Refusal) (bytes : List ℕ) → past_word bad bytes left ≡ Err (f bad)
@@ -125,7 +125,7 @@ module _ (f : Refusal → Refusal) (left : List ℕ) (lacks : Lacks f left) wher
   charstring_lacks bad (its_length n count) s is h =
       rw (wanted_is bad s count left (last_token s count left h), natural_is bad 65535 n count is.0 is.1, lacks.wants bad) refl
 
-  value_lacks : (k : Key) (run : List ℕ) → private_value (Some k) left ≡ Err (f (missing_value (key_name k run)))
+  value_lacks : (k : Key) (run : List ℕ) → private_value all_notes (Some k) (47 ∷ run) left ≡ Err (f (missing_value (key_name k run)))
   unfolding private_value
   value_lacks LenIv run = rw (lacks.wants BadLenIv) refl
   value_lacks _ run = rw (lacks.wants BadCharStrings) refl
@@ -191,11 +191,11 @@ name_is : (still : Bool) (v : FontValue) (s run left : List ℕ) → BeginsWith 
 name_is true v s run left h = keys_read.name_among v s run left h
 name_is false v s run left h = keys_read.outside v s (name run) left h
 
-key_of : (v : FontValue) (k : Key) (run s : List ℕ) → private_key (47 ∷ run) ≡ Some k → private_outside v Name (47 ∷ run) s ≡ private_value (Some k) s
+key_of : (v : FontValue) (k : Key) (run s : List ℕ) → private_key (47 ∷ run) ≡ Some k → private_outside v Name (47 ∷ run) s ≡ private_value all_notes (Some k) (47 ∷ run) s
 key_of v k run s is =
     keys_read.name_outside v (47 ∷ run) s (is_other private_key (47 ∷ run) (codes "/Subrs") k keys_read.no_subrs_key is)
     (is_other private_key (47 ∷ run) (codes "/CharStrings") k keys_read.no_glyphs_key is)
-    ∙ ap (λ o. private_value o s) is
+    ∙ ap (λ o. private_value all_notes o (47 ∷ run) s) is
 
 module _ (marks : Marks) where
   fails : (before : List Stated) (mode : PrivateMode) (s : List ℕ) (e : Refusal) → private_turn (value_of marks before) mode s ≡ Err e
@@ -338,11 +338,11 @@ module _ (marks : Marks) where
       first.is ∙ fails first.after Glyphs c.left (f BadCharStrings) (glyph_lacks f left lacks k first.after c.left are.3 first.few c.back)
 
 pub ends_too_soon : EndsTooSoon
-unfolding private_of
+unfolding private_of_by
 ends_too_soon marks before b s left none is end = lacking marks (λ e. e) b before s left (lacks_at_end left end) is.parts none is.written
 
 pub unclosed_token : UnclosedToken
-unfolding private_of
+unfolding private_of_by
 unclosed_token marks before b s left none is broken = lacking marks (λ _. Unclosed) b before s left (lacks_unclosed left broken) is.parts none is.written
 
 -- An entry whose charstring is refused.
@@ -350,7 +350,7 @@ module _ (marks : Marks) (before : List Stated) (none : StatesNoCharstring befor
   subr_refused : (front : List PrivateItem) (n : ℕ) (count : Plain) (items : List SubrItem) (i : ℕ) (number : Plain) (c : CharstringStart) (s left : List ℕ)
       (e : Refusal) → IsBegun (among_subrs front n count items (subr_number i number c)) s left
       → ((mid : List ℕ) → IsWritten mid (charstring_start_pieces c) left → charstring_at BadSubrs mid ≡ Err e) → private_of marks before s ≡ Err e
-  unfolding private_of
+  unfolding private_of_by
   subr_refused front n count items i number c s left e is h =
       let a = parts s (flat_map private_pieces front) (subrs_pieces (some_subrs n count items) ++ subr_start_pieces (subr_number i number c)) left is.written in
       let b = parts a.left (subrs_pieces (some_subrs n count items)) (subr_start_pieces (subr_number i number c)) left a.back in
@@ -363,7 +363,7 @@ module _ (marks : Marks) (before : List Stated) (none : StatesNoCharstring befor
   glyph_refused : (o : Opening) (count : Plain) (items : List GlyphItem) (run : List ℕ) (c : CharstringStart) (s left : List ℕ) (e : Refusal)
       → IsBegun (among_glyphs o count items (glyph_name run c)) s left
       → ((mid : List ℕ) → IsWritten mid (charstring_start_pieces c) left → charstring_at BadCharStrings mid ≡ Err e) → private_of marks before s ≡ Err e
-  unfolding private_of
+  unfolding private_of_by
   glyph_refused o count items run c s left e is h =
       let start = glyph_start_pieces (glyph_name run c) in
       let a = parts s (opening_pieces o) (head_pieces count ++ (flat_map glyph_pieces items ++ start)) left is.written in
@@ -396,7 +396,7 @@ glyph_too_long marks before o count items run len bytes s mid left none is h who
     (λ x w. too_long BadCharStrings x bytes left len (subst (λ y. BeginsWith y bytes left) (sym w) h) whole long)
 
 pub subr_number_first : SubrNumberFirst
-unfolding private_of dup_turn
+unfolding private_of_by dup_turn
 subr_number_first marks before front n count items number s mid left none is h is_number no_whole =
     let a = parts s (flat_map private_pieces front) (subrs_pieces (some_subrs n count items) ++ subr_start_pieces lone_dup) mid is.written in
     let b = parts a.left (subrs_pieces (some_subrs n count items)) (subr_start_pieces lone_dup) mid a.back in

@@ -10,7 +10,7 @@ use Rattle.t1_font.specs.declared.refusal.Refusal.TheVariants.{NoEexec}
 use Rattle.t1_font.specs.Tokens.{is_name_kind, is_number_kind}
 use Rattle.t1_font.specs.Fonts.{Stated, Marks, FontValue, value_of, code, bad_code}
 use Rattle.t1_font.specs.TextTurns.{TextTurn, TextRead, goes, with_one, stated_in}
-use Rattle.t1_font.specs.ClearText.{clear_turn, code_statement, code_at, code_turn, code_token}
+use Rattle.t1_font.specs.ClearText.{clear_turn, code_statement, code_at, code_turn, code_token, clear_turn_by}
 use Rattle.t1_font.specs.Laws.Written.{Piece, token, IsWritten, IsWhole, is_word_of}
 use Rattle.t1_font.specs.Laws.UsualClearText.{CodeItem, group, between_groups, lone_dup, code_pieces, code_states, PassesInCodes, ends_group, AreCodeItems}
 use Rattle.t1_font.proofs.Shorter.{clear_shortens}
@@ -19,7 +19,7 @@ use Rattle.t1_font.proofs.WrittenRead.{wanted_is, ahead_is, last_token, whole_up
 
 -- A token in a custom encoding.
 inside : (v : FontValue) (s : List ℕ) (t : Plain) (left : List ℕ) → BeginsWith s t left → clear_turn v Codes s ≡ Ok (code_token (meant t) (spelled t) left)
-unfolding clear_turn
+unfolding clear_turn_by
 inside v s t left h = rw (wanted_is NoEexec s t left h) refl
 
 dup_turn : (v : FontValue) (s left : List ℕ) → BeginsWith s (word (codes "dup")) left → clear_turn v Codes s ≡ Ok (code_turn left)

@@ -30,6 +30,7 @@ codes_same (clear.lone_dup ∷ items) = codes_same items
 clear_same : (items : List clear.ClearItem) → clear.all_clear_states (clear.clear_entries items) ≡ clear.all_clear_states items
 clear_same [] = refl
 clear_same (clear.key k run value ∷ items) = ap (λ es. plain k (lexeme_of value) ∷ es) (clear_same items)
+clear_same (clear.noted_key k run value ∷ items) = ap (λ es. plain k (lexeme_of value) ∷ es) (clear_same items)
 clear_same (clear.standard ∷ items) = ap (λ es. encoding Standard ∷ es) (clear_same items)
 clear_same (clear.custom count codes ∷ items) = rw (codes_same codes, clear_same items) refl
 clear_same (clear.other_name run ∷ items) = clear_same items
@@ -46,6 +47,7 @@ additions_in_clear marks items more s rest text end a b same =
 keys_same : (items : List private.PrivateItem) → flat_map private.private_states (filter private.is_key items) ≡ flat_map private.private_states items
 keys_same [] = refl
 keys_same (private.key k run value ∷ items) = ap (λ es. plain k (lexeme_of value) ∷ es) (keys_same items)
+keys_same (private.noted_key k run value ∷ items) = ap (λ es. plain k (lexeme_of value) ∷ es) (keys_same items)
 keys_same (private.other_name run ∷ items) = keys_same items
 keys_same (private.other_token t ∷ items) = keys_same items
 
@@ -85,6 +87,7 @@ codes_none f none (clear.lone_dup ∷ items) = codes_none f none items
 no_size : (items : List clear.ClearItem) → flat_map size_of (clear.all_clear_states items) ≡ []
 no_size [] = refl
 no_size (clear.key k run value ∷ items) = no_size items
+no_size (clear.noted_key k run value ∷ items) = no_size items
 no_size (clear.standard ∷ items) = no_size items
 no_size (clear.custom count codes ∷ items) =
     flat_map-append size_of (flat_map clear.code_states codes) (clear.all_clear_states items)
@@ -95,6 +98,7 @@ no_size (clear.other_token t ∷ items) = no_size items
 no_glyph : (items : List clear.ClearItem) → flat_map glyph_of (clear.all_clear_states items) ≡ []
 no_glyph [] = refl
 no_glyph (clear.key k run value ∷ items) = no_glyph items
+no_glyph (clear.noted_key k run value ∷ items) = no_glyph items
 no_glyph (clear.standard ∷ items) = no_glyph items
 no_glyph (clear.custom count codes ∷ items) =
     flat_map-append glyph_of (flat_map clear.code_states codes) (clear.all_clear_states items)

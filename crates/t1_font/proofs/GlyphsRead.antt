@@ -11,7 +11,7 @@ use Rattle.t1_font.specs.Keys.{same_name}
 use Rattle.t1_font.specs.Tokens.{is_word_kind}
 use Rattle.t1_font.specs.Fonts.{Stated, Marks, FontValue, value_of, glyph, firsts}
 use Rattle.t1_font.specs.TextTurns.{over, goes}
-use Rattle.t1_font.specs.PrivateText.{has_key, glyphs_at, glyph_turn, glyphs_token, private_outside, private_turn}
+use Rattle.t1_font.specs.PrivateText.{has_key, glyphs_at, glyph_turn, glyphs_token, private_outside, private_turn, private_turn_by, private_outside_by}
 use Rattle.t1_font.specs.Laws.Written.{token, IsWritten, is_word_of, Charstring, charstring_pieces, IsCharstring}
 use Rattle.t1_font.specs.Laws.UsualPrivateText.{GlyphItem, glyph_entry, between_glyphs, glyph_pieces, glyph_states, glyph_names, IsGlyphItem, IsCount, glyphs_pieces}
 use Rattle.t1_font.proofs.GlyphNames.{names_of, names_more, has_room}
@@ -44,7 +44,7 @@ header_is count s left is h =
     ) refl
 
 pub glyphs_name : (v : FontValue) (rest : List ℕ) → private_outside v Name (codes "/CharStrings") rest ≡ glyphs_at rest
-unfolding private_outside
+unfolding private_outside_by
 glyphs_name v rest = refl
 
 pub name_turn : (still : Bool) (v : FontValue) (s left : List ℕ) → BeginsWith s (name (codes "CharStrings")) left
@@ -54,7 +54,7 @@ name_turn false v s left h = outside v s (name (codes "CharStrings")) left h ∙
 
 -- A token among the glyphs.
 among : (v : FontValue) (s : List ℕ) (t : Plain) (left : List ℕ) → BeginsWith s t left → private_turn v Glyphs s ≡ glyphs_token v (meant t) (spelled t) left
-unfolding private_turn
+unfolding private_turn_by
 among v s t left h = rw (wanted_is BadCharStrings s t left h) refl
 
 end_turn : (v : FontValue) (s rest : List ℕ) → BeginsWith s (word (codes "end")) rest → private_turn v Glyphs s ≡ Ok (over rest)

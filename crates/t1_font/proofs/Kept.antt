@@ -11,8 +11,8 @@ use Rattle.t1_font.specs.Readings.{◌>>=◌}
 use Rattle.t1_font.specs.Fonts.{Stated, Marks, FontValue, value_of}
 use Rattle.t1_font.specs.Puts.{put}
 use Rattle.t1_font.specs.TextTurns.{TextTurn, over, goes, TextRead, Reader, with_one, stated_within}
-use Rattle.t1_font.specs.ClearText.{clear_turn, begins_as_font, clear_of}
-use Rattle.t1_font.specs.PrivateText.{private_turn, private_of}
+use Rattle.t1_font.specs.ClearText.{clear_turn, begins_as_font, clear_of, clear_of_by}
+use Rattle.t1_font.specs.PrivateText.{private_turn, private_of, private_of_by}
 use Rattle.t1_font.specs.Texts.{font_value_of}
 use Rattle.t1_font.proofs.Running.{follow}
 use Rattle.t1_font.proofs.Stating.{value_step}
@@ -60,14 +60,14 @@ module _ (holds : FontValue → Type 0) (fits : FontValue → Stated → Type 0)
       (private_fits : (v : FontValue) (mode : PrivateMode) (s : List ℕ) → IfOk (private_turn v mode s) (StatesFitting (fits v)))
       (nothing_holds : (marks : Marks) → holds (value_of marks [])) where
     clear_holds : (marks : Marks) (s : List ℕ) → IfOk (clear_of marks s) (HoldsOf holds marks)
-    unfolding clear_of
+    unfolding clear_of_by
     clear_holds marks s = either (HoldsOf holds marks) (begins_as_font s)
         (stated_within clear_turn NoEexec marks (suc (length s)) [] clear_modes.Outside s) (Err NoEexec)
         (text_holds clear_turn NoEexec marks clear_fits (suc (length s)) [] clear_modes.Outside s (nothing_holds marks)) tt
 
     private_holds : (marks : Marks) (before : List Stated) (s : List ℕ) → holds (value_of marks before)
         → IfOk (private_of marks before s) (HoldsOf holds marks)
-    unfolding private_of
+    unfolding private_of_by
     private_holds marks before s w = text_holds private_turn BadCharStrings marks private_fits (suc (length s)) before Outside s w
 
     value_holds : (marks : Marks) (read : Result TextRead Refusal) → IfOk read (HoldsOf holds marks) → IfOk (font_value_of marks read) holds

@@ -15,6 +15,7 @@ pub mod ListValues
 pub mod Lists
 pub mod Maps
 pub mod NamesFound
+pub mod NotesApart
 pub mod NumberLists
 pub mod PartsRefused
 pub mod PrivateItemsRead

@@ -13,31 +13,32 @@ use Rattle.t1_font.specs.declared.mode.PrivateMode.{PrivateMode}
 use Rattle.t1_font.specs.declared.mode.PrivateMode.TheVariants.{Outside, Subrs}
 use Rattle.t1_font.specs.declared.refusal.Refusal.{Refusal}
 use Rattle.t1_font.specs.declared.refusal.Refusal.TheVariants.{BadCharStrings, BadLenIv}
-use Rattle.t1_font.specs.Keys.{private_key, same_name}
+use Rattle.t1_font.specs.Keys.{all_notes, private_key, private_note, same_name}
 use Rattle.t1_font.specs.Tokens.{is_word_kind, is_name_kind}
 use Rattle.t1_font.specs.Fonts.{Stated, Marks, FontValue, value_of, plain}
 use Rattle.t1_font.specs.TextTurns.{TextRead, goes, with_one, stated_in}
-use Rattle.t1_font.specs.PrivateText.{is_len_iv, is_len_iv_key, private_value, private_outside, subrs_token, private_turn}
+use Rattle.t1_font.specs.PrivateText.{is_len_iv, is_len_iv_key, private_value, private_outside, subrs_token, private_turn, private_turn_by, private_outside_by, subrs_token_by}
 use Rattle.t1_font.specs.Laws.Written.{IsWritten, is_word_of}
-use Rattle.t1_font.specs.Laws.UsualPrivateText.{PrivateItem, key, other_name, other_token, private_pieces, private_states, IsLenIv, FitsKey, IsOtherPrivateName, IsPrivateItem, IsNoDup}
+use Rattle.t1_font.specs.Laws.UsualPrivateText.{PrivateItem, IsPrivateNote, key, noted_key, other_name, other_token, private_pieces, private_states, IsLenIv, FitsKey, IsOtherPrivateName, IsPrivateItem, IsNoDup}
 use Rattle.t1_font.proofs.Shorter.{private_shortens}
 use Rattle.t1_font.proofs.Steps.{goes_on}
-use Rattle.t1_font.proofs.WrittenRead.{is_other, wanted_is, last_token, parts, whole_number, whole_up_to_kind}
+use Rattle.t1_font.proofs.WrittenRead.{is_other, noted_is, nothing_noted, wanted_is, last_token, parts, whole_number, whole_up_to_kind}
 use Rattle.t1_scan.specs.Numbers.{billion}
+use Rattle.t1_font.specs.Notes.{noted}
 
 -- A token outside, and among the Subrs.
 pub outside : (v : FontValue) (s : List ℕ) (t : Plain) (left : List ℕ) → BeginsWith s t left
     → private_turn v Outside s ≡ private_outside v (meant t) (spelled t) left
-unfolding private_turn
+unfolding private_turn_by
 outside v s t left h = rw (wanted_is BadCharStrings s t left h) refl
 
 pub among : (v : FontValue) (s : List ℕ) (t : Plain) (left : List ℕ) → BeginsWith s t left → private_turn v Subrs s ≡ subrs_token v (meant t) (spelled t) left
-unfolding private_turn
+unfolding private_turn_by
 among v s t left h = rw (wanted_is BadCharStrings s t left h) refl
 
 -- A name is no word, so it is read among the Subrs as outside.
 pub name_among : (v : FontValue) (s run left : List ℕ) → BeginsWith s (name run) left → private_turn v Subrs s ≡ private_outside v Name (47 ∷ run) left
-unfolding subrs_token
+unfolding subrs_token_by
 name_among v s run left h = among v s (name run) left h
 
 -- The names of another meaning are no plain keys.
@@ -50,8 +51,8 @@ unfolding private_key
 no_glyphs_key = refl
 
 pub name_outside : (v : FontValue) (text rest : List ℕ) → same_name text (codes "/Subrs") ≡ false → same_name text (codes "/CharStrings") ≡ false
-    → private_outside v Name text rest ≡ private_value (private_key text) rest
-unfolding private_outside
+    → private_outside v Name text rest ≡ private_value all_notes (private_key text) text rest
+unfolding private_outside_by
 name_outside v text rest a b = rw (a, b) refl
 
 -- A lenIV from -1 to 64 is one.
@@ -65,40 +66,54 @@ fits : (k : Key) (kind : Kind) → FitsKey k kind → (is_len_iv_key k && not (i
 fits LenIv kind h = rw (len_iv_is kind h) refl
 fits _ kind h = refl
 
-value_is : (k : Key) (s : List ℕ) (value : Plain) (left : List ℕ) → FitsKey k (meant value) → BeginsWith s value left
-    → private_value (Some k) s ≡ Ok (goes (Some (plain k (lexeme_of value))) Outside left)
+value_is : (k : Key) (text s : List ℕ) (value : Plain) (left : List ℕ) → FitsKey k (meant value) → BeginsWith s value left
+    → private_value all_notes (Some k) text s ≡ Ok (goes (Some (plain k (lexeme_of value))) Outside left)
 unfolding private_value
-value_is k s value left fit h =
+value_is k text s value left fit h =
     rw (wanted_is (if is_len_iv_key k then BadLenIv else BadCharStrings) s value left h, fits k (meant value) fit) refl
 
-none_is : (s : List ℕ) → private_value None s ≡ Ok (goes None Outside s)
+none_is : (text s : List ℕ) → private_value all_notes None text s ≡ Ok (goes (noted (private_note text) s) Outside s)
 unfolding private_value
-none_is s = refl
+none_is text s = refl
 
 key_is : (v : FontValue) (k : Key) (run s : List ℕ) (value : Plain) (left : List ℕ) → private_key (47 ∷ run) ≡ Some k → FitsKey k (meant value)
     → BeginsWith s value left → private_outside v Name (47 ∷ run) s ≡ Ok (goes (Some (plain k (lexeme_of value))) Outside left)
 key_is v k run s value left is fit h =
     name_outside v (47 ∷ run) s (is_other private_key (47 ∷ run) (codes "/Subrs") k no_subrs_key is)
     (is_other private_key (47 ∷ run) (codes "/CharStrings") k no_glyphs_key is)
-    ∙ ap (λ o. private_value o s) is
-    ∙ value_is k s value left fit h
+    ∙ ap (λ o. private_value all_notes o (47 ∷ run) s) is
+    ∙ value_is k (47 ∷ run) s value left fit h
 
 name_is : (v : FontValue) (run s : List ℕ) → IsOtherPrivateName run → private_outside v Name (47 ∷ run) s ≡ Ok (goes None Outside s)
-name_is v run s is = name_outside v (47 ∷ run) s is.not_subrs is.not_glyphs ∙ ap (λ o. private_value o s) is.no_key ∙ none_is s
+name_is v run s is =
+    name_outside v (47 ∷ run) s is.not_subrs is.not_glyphs
+    ∙ ap (λ o. private_value all_notes o (47 ∷ run) s) is.no_key
+    ∙ none_is (47 ∷ run) s
+    ∙ ap (λ k. Ok (goes (noted k s) Outside s)) is.no_note
+    ∙ ap (λ e. Ok (goes e Outside s)) (nothing_noted s)
+
+note_is : (v : FontValue) (k : Key) (run s : List ℕ) (value : Plain) (left : List ℕ) → IsPrivateNote k run → BeginsWith s value left
+    → private_outside v Name (47 ∷ run) s ≡ Ok (goes (Some (plain k (lexeme_of value))) Outside s)
+note_is v k run s value left is h =
+    name_outside v (47 ∷ run) s is.not_subrs is.not_glyphs
+    ∙ ap (λ o. private_value all_notes o (47 ∷ run) s) is.no_key
+    ∙ none_is (47 ∷ run) s
+    ∙ ap (λ k. Ok (goes (noted k s) Outside s)) is.note
+    ∙ ap (λ e. Ok (goes e Outside s)) (noted_is k s value left h)
 
 token_outside : (v : FontValue) (kind : Kind) (text rest : List ℕ) → is_name_kind kind ≡ false → private_outside v kind text rest ≡ Ok (goes None Outside rest)
-unfolding private_outside
+unfolding private_outside_by
 token_outside v kind text rest is = rw is refl
 
 -- Among the Subrs a word leaves reading there, and any other token ends them.
 word_among : (v : FontValue) (t : Plain) (rest : List ℕ) → is_word_of (codes "dup") t ≡ false → is_word_kind (meant t) ≡ true
     → subrs_token v (meant t) (spelled t) rest ≡ Ok (goes None Subrs rest)
-unfolding subrs_token
+unfolding subrs_token_by
 word_among v t rest other is = rw (other, is) refl
 
 token_among : (v : FontValue) (t : Plain) (rest : List ℕ) → is_word_of (codes "dup") t ≡ false → is_word_kind (meant t) ≡ false
     → subrs_token v (meant t) (spelled t) rest ≡ private_outside v (meant t) (spelled t) rest
-unfolding subrs_token
+unfolding subrs_token_by
 token_among v t rest other is = rw (other, is) refl
 
 -- Reading goes on outside, or still among the Subrs.
@@ -117,12 +132,25 @@ module _ (marks : Marks) where
   pub nothing_more : (before : List Stated) (mode : PrivateMode) (s : List ℕ) → read before mode s ≡ read (before ++ []) mode s
   nothing_more before mode s = ap (λ es. read es mode s) (sym (append-nil before))
 
+  -- The value of a noted key is read once more.
+  value_passes : (before : List Stated) (value : Plain) (s left : List ℕ) → is_name_kind (meant value) ≡ false → BeginsWith s value left
+      → read before Outside s ≡ read before Outside left
+  value_passes before value s left is h =
+      on before Outside s None Outside left
+      (outside (value_of marks before) s value left h ∙ token_outside (value_of marks before) (meant value) (spelled value) left is)
+
   item_read : (item : PrivateItem) (before : List Stated) (s left : List ℕ) → IsPrivateItem item → IsWritten s (private_pieces item) left
       → read before Outside s ≡ read (before ++ private_states item) Outside left
   item_read (key k run value) before s left is h =
       let v = value_of marks before in
       on before Outside s (Some (plain k (lexeme_of value))) Outside left
       (outside v s (name run) h.0 h.1 ∙ key_is v k run h.0 value left is.0 is.1 (last_token h.0 value left h.2))
+  item_read (noted_key k run value) before s left is h =
+      let v = value_of marks before in
+      let value_there = last_token h.0 value left h.2 in
+      on before Outside s (Some (plain k (lexeme_of value))) Outside h.0
+      (outside v s (name run) h.0 h.1 ∙ note_is v k run h.0 value left is.0 value_there)
+      ∙ value_passes (before ++ plain k (lexeme_of value) ∷ []) value h.0 left is.1 value_there
   item_read (other_name run) before s left is h =
       let v = value_of marks before in
       on before Outside s None Outside left (outside v s (name run) left (last_token s (name run) left h) ∙ name_is v run left is)
@@ -154,6 +182,15 @@ module _ (marks : Marks) where
         still = false;
         is = on before Subrs s (Some (plain k (lexeme_of value))) Outside left
             (name_among v s run h.0 h.1 ∙ key_is v k run h.0 value left is.0 is.1 (last_token h.0 value left h.2));
+      }
+  item_behind (noted_key k run value) before s left is other h =
+      let v = value_of marks before in
+      let value_there = last_token h.0 value left h.2 in
+      record {
+        still = false;
+        is = on before Subrs s (Some (plain k (lexeme_of value))) Outside h.0
+            (name_among v s run h.0 h.1 ∙ note_is v k run h.0 value left is.0 value_there)
+            ∙ value_passes (before ++ plain k (lexeme_of value) ∷ []) value h.0 left is.1 value_there;
       }
   item_behind (other_name run) before s left is other h =
       let v = value_of marks before in

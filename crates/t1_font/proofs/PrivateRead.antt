@@ -3,10 +3,10 @@ use Rattle.std.proofs.Common.{◌≡◌, ◌≤◌, ℕ, Ok, Bool, List, [], ◌
 use Rattle.std.proofs.lemmas.Grind.{flat_map-append}
 use Rattle.t1_font.specs.Keys.{same_name}
 use Rattle.t1_font.specs.Fonts.{Stated, Marks, size_of, glyph_of, firsts}
-use Rattle.t1_font.specs.PrivateText.{private_of}
+use Rattle.t1_font.specs.PrivateText.{private_of, private_of_by}
 use Rattle.t1_font.specs.declared.mode.PrivateMode.TheVariants.{Outside}
 use Rattle.t1_font.specs.Laws.Written.{IsWritten}
-use Rattle.t1_font.specs.Laws.UsualPrivateText.{PrivateItem, key, other_name, other_token, private_pieces, private_states, SubrItem, subr_entry, between_subrs, subr_states, SubrsPart, no_subrs, empty_subrs, some_subrs, subrs_pieces, subrs_states, glyph_names, glyph_states, glyphs_pieces, PrivateParts, all_private_pieces, all_private_states, IsUsualParts, StatesNoCharstring}
+use Rattle.t1_font.specs.Laws.UsualPrivateText.{PrivateItem, key, noted_key, other_name, other_token, private_pieces, private_states, SubrItem, subr_entry, between_subrs, subr_states, SubrsPart, no_subrs, empty_subrs, some_subrs, subrs_pieces, subrs_states, glyph_names, glyph_states, glyphs_pieces, PrivateParts, all_private_pieces, all_private_states, IsUsualParts, StatesNoCharstring}
 use Rattle.t1_font.specs.Laws.UsualTexts.{ReadsUsualPrivate}
 use Rattle.t1_font.proofs.GlyphNames.{names_of}
 use Rattle.t1_font.proofs.GlyphsRead.{glyphs_read}
@@ -18,12 +18,14 @@ use Rattle.t1_font.proofs.WrittenRead.{parts}
 pub keys_no_size : (items : List PrivateItem) → flat_map size_of (flat_map private_states items) ≡ []
 keys_no_size [] = refl
 keys_no_size (key k run value ∷ items) = keys_no_size items
+keys_no_size (noted_key k run value ∷ items) = keys_no_size items
 keys_no_size (other_name run ∷ items) = keys_no_size items
 keys_no_size (other_token t ∷ items) = keys_no_size items
 
 pub keys_no_glyph : (items : List PrivateItem) → flat_map glyph_of (flat_map private_states items) ≡ []
 keys_no_glyph [] = refl
 keys_no_glyph (key k run value ∷ items) = keys_no_glyph items
+keys_no_glyph (noted_key k run value ∷ items) = keys_no_glyph items
 keys_no_glyph (other_name run ∷ items) = keys_no_glyph items
 keys_no_glyph (other_token t ∷ items) = keys_no_glyph items
 
@@ -88,5 +90,5 @@ module _ (marks : Marks) (p : PrivateParts) where
       ∙ ap (λ es. Ok (record { stated = es; rest = rest })) (append_assoc before keys (subrs ++ (others ++ glyphs)))
 
 pub reads_usual_private : ReadsUsualPrivate
-unfolding private_of
+unfolding private_of_by
 reads_usual_private marks before p s rest none is = from_front marks p before s rest is.parts none is.written

@@ -10,8 +10,8 @@ use Rattle.t1_seal.specs.Readings.{RefusesBy}
 use Rattle.t1_font.specs.Fonts.{Stated, Marks, FontValue, value_of}
 use Rattle.t1_font.specs.TextTurns.{TextRead, stated_in}
 use Rattle.t1_font.specs.Runs.{FontRead, run_of, value_read}
-use Rattle.t1_font.specs.ClearText.{begins_as_font, clear_turn, clear_of}
-use Rattle.t1_font.specs.PrivateText.{private_turn, private_of}
+use Rattle.t1_font.specs.ClearText.{begins_as_font, clear_turn, clear_of, clear_of_by}
+use Rattle.t1_font.specs.PrivateText.{private_turn, private_of, private_of_by}
 use Rattle.t1_font.specs.Texts.{clear_value_of, clear_read, font_value_of, font_read, value_alone}
 use Rattle.t1_font.specs.Laws.Statements.{ReadAsStated}
 use Rattle.t1_font.proofs.Running.{IsEndOf, run_ends, run_is_read}
@@ -73,7 +73,7 @@ clear_error marks s (Err x) Memory given = tt
 pub clear_is_read : (marks : Marks) (text s rest : List ℕ) (old v : FontValue) → text ≡ s → old ≡ value_of marks [] → begins_as_font text ≡ true
     → run_of clear_turn NoEexec old clear_modes.Outside text ≡ Ok (record { value = v; rest = rest })
     → clear_read marks s ≡ Ok (record { font = v; after = length text - length rest })
-unfolding clear_of
+unfolding clear_of_by
 clear_is_read marks text s rest old v same start begins given =
     let run = rw (start, read_as_stated clear_turn NoEexec marks [] clear_modes.Outside text) at given in
     rw (← same, begins) (clear_by_rest marks text (stated_in clear_turn NoEexec marks [] clear_modes.Outside text) v rest run)
@@ -89,7 +89,7 @@ clear_rest marks read v rest given found is =
 pub clear_is_behind : (marks : Marks) (text s rest : List ℕ) (old v : FontValue) → text ≡ s → old ≡ value_of marks [] → begins_as_font text ≡ true
     → run_of clear_turn NoEexec old clear_modes.Outside text ≡ Ok (record { value = v; rest = rest }) → (found : TextRead) → clear_of marks s ≡ Ok found
     → found.rest ≡ drop (length text - length rest) s
-unfolding clear_of
+unfolding clear_of_by
 clear_is_behind marks text s rest old v same start begins given found is =
     let run = rw (start, read_as_stated clear_turn NoEexec marks [] clear_modes.Outside text) at given in
     let read : stated_in clear_turn NoEexec marks [] clear_modes.Outside text ≡ Ok found = rw (← same, begins) at is in
@@ -99,18 +99,18 @@ clear_is_behind marks text s rest old v same start begins given found is =
 
 pub clear_is_refused : (marks : Marks) (text s : List ℕ) (old : FontValue) (e : Refusal) → text ≡ s → old ≡ value_of marks [] → begins_as_font text ≡ true
     → RefusesBy is_memory e (run_of clear_turn NoEexec old clear_modes.Outside text) → RefusesBy is_memory e (clear_read marks s)
-unfolding clear_of
+unfolding clear_of_by
 clear_is_refused marks text s old e same start begins given =
     let run = rw (start, read_as_stated clear_turn NoEexec marks [] clear_modes.Outside text) at given in
     rw (← same, begins) (clear_error marks text (stated_in clear_turn NoEexec marks [] clear_modes.Outside text) e run)
 
 pub clear_is_no_font : (marks : Marks) (text s : List ℕ) → text ≡ s → begins_as_font text ≡ false → clear_read marks s ≡ Err NoEexec
-unfolding clear_of
+unfolding clear_of_by
 clear_is_no_font marks text s same begins = rw (← same, begins) refl
 
 font_run : (marks : Marks) (before : List Stated) (s : List ℕ) (old : FontValue) → old ≡ value_of marks before
     → value_alone (run_of private_turn BadCharStrings old Outside s) ≡ font_read marks before s
-unfolding private_of
+unfolding private_of_by
 font_run marks before s old start =
     rw (start, read_as_stated private_turn BadCharStrings marks before Outside s)
     (alone_read marks (stated_in private_turn BadCharStrings marks before Outside s))

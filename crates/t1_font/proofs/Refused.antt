@@ -11,14 +11,14 @@ use Rattle.t1_font.specs.declared.mode.PrivateMode.TheVariants.{Outside, Subrs, 
 use Rattle.t1_font.specs.declared.refusal.Refusal.{Refusal}
 use Rattle.t1_font.specs.declared.refusal.Refusal.TheVariants.{Unclosed, BadSubrs, BadCharStrings, BadLenIv, NoEexec, PastLimit}
 use Rattle.t1_font.specs.Readings.{◌>>=◌}
-use Rattle.t1_font.specs.Keys.{private_key, clear_key}
+use Rattle.t1_font.specs.Keys.{private_key, clear_key, all_notes}
 use Rattle.t1_font.specs.Tokens.{token_at, wanted, token_ahead, whole, natural, is_word_kind, is_number_kind, name_of, spells, raw_of, some_raw, past_word, charstring_at}
 use Rattle.t1_font.specs.Fonts.{Stated, Marks, FontValue, value_of, size, glyph}
 use Rattle.t1_font.specs.Puts.{put_one}
 use Rattle.t1_font.specs.TextTurns.{over, goes, TextRead, Reader, with_one, stated_within}
 use Rattle.t1_font.specs.Runs.{FontRead, go_on, run_within}
-use Rattle.t1_font.specs.ClearText.{clear_value, clear_outside, clear_turn, begins_as_font, clear_of}
-use Rattle.t1_font.specs.PrivateText.{is_len_iv_key, private_value, subrs_at, subrs_turn, glyphs_at, private_outside, subr_at, dup_turn, subrs_token, glyph_turn, glyphs_token, private_turn, private_of}
+use Rattle.t1_font.specs.ClearText.{clear_value, clear_outside, clear_turn, begins_as_font, clear_of, clear_turn_by, clear_outside_by, clear_of_by}
+use Rattle.t1_font.specs.PrivateText.{is_len_iv_key, private_value, subrs_at, subrs_turn, glyphs_at, private_outside, subr_at, dup_turn, subrs_token, glyph_turn, glyphs_token, private_turn, private_of, private_turn_by, private_outside_by, subrs_token_by, private_of_by}
 use Rattle.t1_font.specs.Texts.{clear_value_of, font_value_of, value_alone}
 use Rattle.t1_font.specs.Laws.Refusals.{IsClearRefusal, IsPrivateRefusal, ClearRefusals, ClearReadRefusals, PrivateRefusals, FontReadRefusals, FontAfterRefusals}
 use Rattle.t1_font.proofs.Running.{follow}
@@ -73,17 +73,17 @@ module _ (P : Refusal → Type 0) (bad : Refusal) (unclosed : P Unclosed) (told 
         either_refused P (is_word_kind word.kind) (some_raw bad (raw_of len word.rest)) (Err bad) (raw_refused (raw_of len word.rest)) told)))
 
 -- A turn of the clear text.
-clear_value_refused : (k : Option Key) (s : List ℕ) → IfErr (clear_value k s) IsClearRefusal
+clear_value_refused : (k : Option Key) (text s : List ℕ) → IfErr (clear_value all_notes k text s) IsClearRefusal
 unfolding clear_value
-clear_value_refused None s = tt
-clear_value_refused (Some k) s = then_refused IsClearRefusal (wanted NoEexec s) _ (wanted_refused IsClearRefusal NoEexec tt tt s) (λ t. tt)
+clear_value_refused None text s = tt
+clear_value_refused (Some k) text s = then_refused IsClearRefusal (wanted NoEexec s) _ (wanted_refused IsClearRefusal NoEexec tt tt s) (λ t. tt)
 
 clear_outside_refused : (kind : Kind) (text s : List ℕ) → IfErr (clear_outside kind text s) IsClearRefusal
-unfolding clear_outside
-clear_outside_refused kind text s = search (rules, either_refused, clear_value_refused (clear_key text) s)
+unfolding clear_outside_by
+clear_outside_refused kind text s = search (rules, either_refused, clear_value_refused (clear_key text) text s)
 
 clear_turn_refused : (v : FontValue) (mode : ClearMode) (s : List ℕ) → IfErr (clear_turn v mode s) IsClearRefusal
-unfolding clear_turn
+unfolding clear_turn_by
 clear_turn_refused v clear_modes.Outside s = then_refused IsClearRefusal (wanted NoEexec s) _ (wanted_refused IsClearRefusal NoEexec tt tt s)
     (λ t. clear_outside_refused t.kind t.text t.rest)
 clear_turn_refused v clear_modes.Codes s = then_refused IsClearRefusal (wanted NoEexec s) _ (wanted_refused IsClearRefusal NoEexec tt tt s) (λ t. tt)
@@ -93,10 +93,10 @@ key_refusal : (b : Bool) → IsPrivateRefusal (cond b BadLenIv BadCharStrings)
 key_refusal true = tt
 key_refusal false = tt
 
-private_value_refused : (k : Option Key) (s : List ℕ) → IfErr (private_value k s) IsPrivateRefusal
+private_value_refused : (k : Option Key) (text s : List ℕ) → IfErr (private_value all_notes k text s) IsPrivateRefusal
 unfolding private_value
-private_value_refused None s = tt
-private_value_refused (Some k) s =
+private_value_refused None text s = tt
+private_value_refused (Some k) text s =
     then_refused IsPrivateRefusal (wanted _ s) _ (wanted_refused IsPrivateRefusal (if is_len_iv_key k then BadLenIv else BadCharStrings) tt
     (key_refusal (is_len_iv_key k)) s) (λ t.
     search (rules, either_refused))
@@ -128,9 +128,9 @@ glyphs_at_refused s =
     (past_refused IsPrivateRefusal BadCharStrings tt tt (codes "begin") b) (λ c. tt)))))
 
 private_outside_refused : (v : FontValue) (kind : Kind) (text s : List ℕ) → IfErr (private_outside v kind text s) IsPrivateRefusal
-unfolding private_outside
+unfolding private_outside_by
 private_outside_refused v kind text s =
-    search (rules, either_refused, subrs_turn_refused v s, glyphs_at_refused s, private_value_refused (private_key text) s)
+    search (rules, either_refused, subrs_turn_refused v s, glyphs_at_refused s, private_value_refused (private_key text) text s)
 
 subr_at_refused : (kind : Kind) (s : List ℕ) → IfErr (subr_at kind s) IsPrivateRefusal
 unfolding subr_at
@@ -150,7 +150,7 @@ dup_turn_refused s =
     ]
 
 subrs_token_refused : (v : FontValue) (kind : Kind) (text s : List ℕ) → IfErr (subrs_token v kind text s) IsPrivateRefusal
-unfolding subrs_token
+unfolding subrs_token_by
 subrs_token_refused v kind text s = search (rules, either_refused, dup_turn_refused s, private_outside_refused v kind text s)
 
 glyph_turn_refused : (v : FontValue) (name s : List ℕ) → IfErr (glyph_turn v name s) IsPrivateRefusal
@@ -166,7 +166,7 @@ unfolding glyphs_token
 glyphs_token_refused v kind text s = search (rules, either_refused, glyph_turn_refused v (name_of text) s)
 
 private_turn_refused : (v : FontValue) (mode : PrivateMode) (s : List ℕ) → IfErr (private_turn v mode s) IsPrivateRefusal
-unfolding private_turn
+unfolding private_turn_by
 private_turn_refused v Outside s = then_refused IsPrivateRefusal (wanted BadCharStrings s) _ (wanted_refused IsPrivateRefusal BadCharStrings tt tt s)
     (λ t. private_outside_refused v t.kind t.text t.rest)
 private_turn_refused v Subrs s = then_refused IsPrivateRefusal (wanted BadCharStrings s) _ (wanted_refused IsPrivateRefusal BadCharStrings tt tt s)
@@ -198,12 +198,12 @@ module _ {M : Type 0} (P : Refusal → Type 0) (turn : Reader M) (ended : Refusa
       ])
 
 clear_is_refused : (marks : Marks) (s : List ℕ) → IfErr (clear_of marks s) IsClearRefusal
-unfolding clear_of
+unfolding clear_of_by
 clear_is_refused marks s = either_refused IsClearRefusal (begins_as_font s) (stated_within clear_turn NoEexec marks (suc (length s)) [] clear_modes.Outside s)
     (Err NoEexec) (text_refused IsClearRefusal clear_turn NoEexec tt clear_turn_refused marks (suc (length s)) [] clear_modes.Outside s) tt
 
 private_is_refused : (marks : Marks) (before : List Stated) (s : List ℕ) → IfErr (private_of marks before s) IsPrivateRefusal
-unfolding private_of
+unfolding private_of_by
 private_is_refused marks before s = text_refused IsPrivateRefusal private_turn BadCharStrings tt private_turn_refused marks (suc (length s)) before Outside s
 
 -- Readers refuse as the texts do.

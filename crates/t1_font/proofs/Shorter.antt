@@ -7,7 +7,7 @@ use Rattle.t1_scan.specs.Spelling.{spelled}
 use Rattle.t1_scan.proofs.Cover.{shortens}
 use Rattle.t1_scan.proofs.TokensFound.{finds_token}
 use Rattle.t1_font.specs.declared.key.Key.{Key}
-use Rattle.t1_font.specs.Keys.{private_key, clear_key}
+use Rattle.t1_font.specs.Keys.{private_key, clear_key, all_notes}
 use Rattle.t1_font.specs.declared.encoding.Encoding.TheVariants.{Custom, Other}
 use Rattle.t1_font.specs.declared.mode.ClearMode.{ClearMode}
 use Rattle.t1_font.specs.declared.mode.ClearMode.TheVariants as clear_modes
@@ -19,8 +19,8 @@ use Rattle.t1_font.specs.Readings.{◌>>=◌}
 use Rattle.t1_font.specs.Tokens.{token_at, wanted, token_ahead, natural, is_number_kind, is_name_kind, name_of, spells, past_word, charstring_at, raw_of, some_raw, ◌>?◌}
 use Rattle.t1_font.specs.Fonts.{FontValue, size, glyph}
 use Rattle.t1_font.specs.TextTurns.{goes}
-use Rattle.t1_font.specs.ClearText.{clear_value, array_at, encoding_at, encoding_turn, clear_outside, code_at, code_turn, code_token, clear_turn, code_statement, begins}
-use Rattle.t1_font.specs.PrivateText.{private_value, subrs_at, subrs_turn, glyphs_at, private_outside, subr_at, dup_turn, subrs_token, glyph_turn, glyphs_token, private_turn}
+use Rattle.t1_font.specs.ClearText.{clear_value, array_at, encoding_at, encoding_turn, clear_outside, code_at, code_turn, code_token, clear_turn, code_statement, begins, clear_turn_by, clear_outside_by}
+use Rattle.t1_font.specs.PrivateText.{private_value, subrs_at, subrs_turn, glyphs_at, private_outside, subr_at, dup_turn, subrs_token, glyph_turn, glyphs_token, private_turn, private_turn_by, private_outside_by, subrs_token_by}
 use Rattle.t1_font.proofs.Compose.{bind, either, choose, look, which, found_or, ok_is}
 use Rattle.t1_font.proofs.Running.{IsBehind, is_behind_rest, Leaves, Shortens}
 
@@ -108,10 +108,10 @@ charstring_less e s whole lt =
     bind (RestBehind whole) (PairBehind whole) (wanted e count.rest) _ (wanted_less e count.rest whole h) (λ word k.
     either (PairBehind whole) _ (some_raw e (raw_of len word.rest)) (Err e) (raw_less e len word.rest whole k) tt)))
 
-private_value_less : (k : Option Key) (s : List ℕ) (whole : List ℕ) → IsBehind whole s → IfOk (private_value k s) (Leaves whole)
+private_value_less : (k : Option Key) (text s : List ℕ) (whole : List ℕ) → IsBehind whole s → IfOk (private_value all_notes k text s) (Leaves whole)
 unfolding private_value
-private_value_less None s whole lt = lt
-private_value_less (Some k) s whole lt =
+private_value_less None text s whole lt = lt
+private_value_less (Some k) text s whole lt =
     bind (RestBehind whole) (Leaves whole) (wanted _ s) _ (wanted_less _ s whole lt) (λ t h.
     search (rules, either, h))
 
@@ -140,9 +140,9 @@ glyphs_at_less s whole lt =
     bind (IsBehind whole) (Leaves whole) (past_word BadCharStrings (codes "begin") b) _ (past_less BadCharStrings (codes "begin") b whole j) (λ c k. k)))))
 
 private_outside_less : (v : FontValue) (kind : Kind) (text s : List ℕ) (whole : List ℕ) → IsBehind whole s → IfOk (private_outside v kind text s) (Leaves whole)
-unfolding private_outside
+unfolding private_outside_by
 private_outside_less v kind text s whole lt =
-    search (rules, either, lt, subrs_turn_less v s whole lt, glyphs_at_less s whole lt, private_value_less (private_key text) s whole lt)
+    search (rules, either, lt, subrs_turn_less v s whole lt, glyphs_at_less s whole lt, private_value_less (private_key text) text s whole lt)
 
 subr_at_less : (kind : Kind) (s : List ℕ) (whole : List ℕ) → IsBehind whole s → IfOk (subr_at kind s) (Leaves whole)
 unfolding subr_at
@@ -162,7 +162,7 @@ dup_turn_less s whole lt =
     ] (ahead_less s whole lt)
 
 subrs_token_less : (v : FontValue) (kind : Kind) (text s : List ℕ) (whole : List ℕ) → IsBehind whole s → IfOk (subrs_token v kind text s) (Leaves whole)
-unfolding subrs_token
+unfolding subrs_token_by
 subrs_token_less v kind text s whole lt =
     search (rules, either, lt, dup_turn_less s whole lt, private_outside_less v kind text s whole lt)
 
@@ -180,7 +180,7 @@ glyphs_token_less v kind text s whole lt =
     search (rules, either, lt, glyph_turn_less v (name_of text) s whole lt)
 
 private_less : (v : FontValue) (mode : PrivateMode) (s : List ℕ) → IfOk (private_turn v mode s) (Leaves s)
-unfolding private_turn
+unfolding private_turn_by
 private_less v Outside s = bind (RestBehind s) (Leaves s) (wanted BadCharStrings s) _ (wanted_first BadCharStrings s)
     (λ t h. private_outside_less v t.kind t.text t.rest s h)
 private_less v Subrs s = bind (RestBehind s) (Leaves s) (wanted BadCharStrings s) _ (wanted_first BadCharStrings s)
@@ -191,10 +191,10 @@ private_less v Glyphs s = bind (RestBehind s) (Leaves s) (wanted BadCharStrings 
 pub private_shortens : Shortens private_turn
 private_shortens = record { less = private_less }
 
-clear_value_less : (k : Option Key) (s : List ℕ) (whole : List ℕ) → IsBehind whole s → IfOk (clear_value k s) (Leaves whole)
+clear_value_less : (k : Option Key) (text s : List ℕ) (whole : List ℕ) → IsBehind whole s → IfOk (clear_value all_notes k text s) (Leaves whole)
 unfolding clear_value
-clear_value_less None s whole lt = lt
-clear_value_less (Some k) s whole lt =
+clear_value_less None text s whole lt = lt
+clear_value_less (Some k) text s whole lt =
     bind (RestBehind whole) (Leaves whole) (wanted NoEexec s) _ (wanted_less NoEexec s whole lt) (λ t h. h)
 
 array_less : (s : List ℕ) (whole : List ℕ) → IsBehind whole s → IfSome (array_at s) (IsBehind whole)
@@ -214,9 +214,9 @@ unfolding encoding_turn
 encoding_turn_less s whole lt = found_or (Leaves whole) (encoding_at s) (begins Other clear_modes.Outside s) (encoding_at_less s whole lt) lt
 
 clear_outside_less : (kind : Kind) (text s : List ℕ) (whole : List ℕ) → IsBehind whole s → IfOk (clear_outside kind text s) (Leaves whole)
-unfolding clear_outside
+unfolding clear_outside_by
 clear_outside_less kind text s whole lt =
-    search (rules, either, lt, ok_is (Leaves whole) (encoding_turn s) (encoding_turn_less s whole lt), clear_value_less (clear_key text) s whole lt)
+    search (rules, either, lt, ok_is (Leaves whole) (encoding_turn s) (encoding_turn_less s whole lt), clear_value_less (clear_key text) text s whole lt)
 
 code_at_less : (s : List ℕ) (whole : List ℕ) → IsBehind whole s → IfSome (code_at s) (Leaves whole)
 unfolding code_at
@@ -244,7 +244,7 @@ unfolding code_token
 code_token_less kind text s whole lt = search (rules, choose (Leaves {M = ClearMode} whole), lt, code_turn_less s whole lt)
 
 clear_less : (v : FontValue) (mode : ClearMode) (s : List ℕ) → IfOk (clear_turn v mode s) (Leaves s)
-unfolding clear_turn
+unfolding clear_turn_by
 clear_less v clear_modes.Outside s = bind (RestBehind s) (Leaves s) (wanted NoEexec s) _ (wanted_first NoEexec s)
     (λ t h. clear_outside_less t.kind t.text t.rest s h)
 clear_less v clear_modes.Codes s = bind (RestBehind s) (Leaves s) (wanted NoEexec s) _ (wanted_first NoEexec s)

@@ -13,7 +13,7 @@ use Rattle.t1_scan.specs.Texts.{Lexeme}
 use Rattle.t1_font.specs.declared.encoding.Encoding.{Encoding}
 use Rattle.t1_font.specs.declared.encoding.Encoding.TheVariants.{Absent}
 use Rattle.t1_font.specs.declared.key.Key.{Key}
-use Rattle.t1_font.specs.declared.key.Key.TheVariants.{FontType, PaintType, UniqueId, PrivateUniqueId, Password, MinFeature, LenIv, BlueValues, OtherBlues, FamilyBlues, FamilyOtherBlues, BlueScale, BlueShift, BlueFuzz, StdHw, StdVw, StemSnapH, StemSnapV}
+use Rattle.t1_font.specs.declared.key.Key.TheVariants.{FontType, PaintType, UniqueId, PrivateUniqueId, Password, MinFeature, LenIv, BlueValues, OtherBlues, FamilyBlues, FamilyOtherBlues, BlueScale, BlueShift, BlueFuzz, StdHw, StdVw, StemSnapH, StemSnapV, FontMatrix, FontBBox, Xuid, LanguageGroup}
 use Rattle.t1_font.specs.Keys.{same_name, index_of, key_places}
 use Rattle.t1_font.specs.Puts.{put, put_pair, twice_more}
 use Rattle.t1_font.specs.PrivateText.{has_key}
@@ -211,6 +211,10 @@ module _ (marks : Marks) (es : List Stated) where
   placed StdVw t = simp last_one
   placed StemSnapH t = simp last_one
   placed StemSnapV t = simp last_one
+  placed FontMatrix t = simp last_one
+  placed FontBBox t = simp last_one
+  placed Xuid t = simp last_one
+  placed LanguageGroup t = simp last_one
 
   -- What one statement more changes.
   pub value_step : (e : Stated) → value_of marks (es ++ e ∷ []) ≡ put (value_of marks es) e

@@ -16,8 +16,8 @@ use Rattle.t1_font.specs.Readings.{◌>>=◌}
 use Rattle.t1_font.specs.Tokens.{token_at, wanted}
 use Rattle.t1_font.specs.Fonts.{Stated, Marks, FontValue, value_of}
 use Rattle.t1_font.specs.TextTurns.{TextTurn, over, goes, Reader, with_one, stated_within, stated_in}
-use Rattle.t1_font.specs.ClearText.{code_at, code_turn, clear_turn, clear_outside, code_token}
-use Rattle.t1_font.specs.PrivateText.{private_turn, private_outside, subrs_token, glyphs_token}
+use Rattle.t1_font.specs.ClearText.{code_at, code_turn, clear_turn, clear_outside, code_token, clear_turn_by, clear_outside_by}
+use Rattle.t1_font.specs.PrivateText.{private_turn, private_outside, subrs_token, glyphs_token, private_turn_by, private_outside_by, subrs_token_by}
 use Rattle.t1_font.specs.Laws.UsualTexts.{BlanksPass, BlanksPassInPrivate, DupPassesInCodes, WordsPass, WordsPassInCodes, WordsPassInPrivate, WordsPassInSubrs, WordsPassInGlyphs}
 use Rattle.t1_font.proofs.Running.{follow, Leaves, Shortens, is_shorter}
 use Rattle.t1_font.proofs.Shorter.{clear_shortens, private_shortens}
@@ -86,11 +86,11 @@ wanted_behind ended gap s h =
     ]) (skip_gap gap s h)
 
 clear_behind : (v : FontValue) (mode : ClearMode) (gap s : List ℕ) → is_gap false gap ≡ true → clear_turn v mode (gap ++ s) ≡ clear_turn v mode s
-unfolding clear_turn
+unfolding clear_turn_by
 clear_behind v mode gap s h = rw (wanted_behind NoEexec gap s h) refl
 
 private_behind : (v : FontValue) (mode : PrivateMode) (gap s : List ℕ) → is_gap false gap ≡ true → private_turn v mode (gap ++ s) ≡ private_turn v mode s
-unfolding private_turn
+unfolding private_turn_by
 private_behind v mode gap s h = rw (wanted_behind BadCharStrings gap s h) refl
 
 pub blanks_pass : BlanksPass
@@ -103,7 +103,7 @@ blanks_pass_in_private marks before mode gap s h = same_turn private_turn BadCha
 
 clear_word : (v : FontValue) (s : List ℕ) (t : Found) → token_of s ≡ Ok (Some t) → t.kind ≡ Word → same_name t.text (codes "eexec") ≡ false
     → clear_turn v clear_modes.Outside s ≡ Ok (goes None clear_modes.Outside t.rest)
-unfolding clear_turn clear_outside
+unfolding clear_turn_by clear_outside_by
 clear_word v s t h word other = rw (found NoEexec s t h, word, other) refl
 
 pub words_pass : WordsPass
@@ -113,7 +113,7 @@ words_pass marks before s t h word other = goes_on clear_turn NoEexec clear_shor
 code_word : (v : FontValue) (s : List ℕ) (t : Found) → token_of s ≡ Ok (Some t) → t.kind ≡ Word → same_name t.text (codes "eexec") ≡ false
     → same_name t.text (codes "def") ≡ false → same_name t.text (codes "dup") ≡ false → clear_turn v clear_modes.Codes s
     ≡ Ok (goes None clear_modes.Codes t.rest)
-unfolding clear_turn code_token
+unfolding clear_turn_by code_token
 code_word v s t h word a b c = rw (found NoEexec s t h, word, a, b, c) refl
 
 pub words_pass_in_codes : WordsPassInCodes
@@ -126,7 +126,7 @@ lone_dup s none = ap (λ (r : Option (TextTurn ClearMode)). elim r [ Some t ↦ 
 
 code_dup : (v : FontValue) (s : List ℕ) (t : Found) → token_of s ≡ Ok (Some t) → t.kind ≡ Word → t.text ≡ codes "dup" → code_at t.rest ≡ None
     → clear_turn v clear_modes.Codes s ≡ Ok (goes None clear_modes.Codes t.rest)
-unfolding clear_turn code_token
+unfolding clear_turn_by code_token
 code_dup v s t h word text none = rw (found NoEexec s t h, word, text) (ap Ok (lone_dup t.rest none))
 
 pub dup_passes_in_codes : DupPassesInCodes
@@ -134,7 +134,7 @@ dup_passes_in_codes marks before s t h word text none = goes_on clear_turn NoEex
     (code_dup (value_of marks before) s t h word text none)
 
 private_word : (v : FontValue) (s : List ℕ) (t : Found) → token_of s ≡ Ok (Some t) → t.kind ≡ Word → private_turn v Outside s ≡ Ok (goes None Outside t.rest)
-unfolding private_turn private_outside
+unfolding private_turn_by private_outside_by
 private_word v s t h word = rw (found BadCharStrings s t h, word) refl
 
 pub words_pass_in_private : WordsPassInPrivate
@@ -143,7 +143,7 @@ words_pass_in_private marks before s t h word = goes_on private_turn BadCharStri
 
 subr_word : (v : FontValue) (s : List ℕ) (t : Found) → token_of s ≡ Ok (Some t) → t.kind ≡ Word → same_name t.text (codes "dup") ≡ false
     → private_turn v Subrs s ≡ Ok (goes None Subrs t.rest)
-unfolding private_turn subrs_token
+unfolding private_turn_by subrs_token_by
 subr_word v s t h word other = rw (found BadCharStrings s t h, word, other) refl
 
 pub words_pass_in_subrs : WordsPassInSubrs
@@ -152,7 +152,7 @@ words_pass_in_subrs marks before s t h word other = goes_on private_turn BadChar
 
 glyph_word : (v : FontValue) (s : List ℕ) (t : Found) → token_of s ≡ Ok (Some t) → t.kind ≡ Word → same_name t.text (codes "end") ≡ false
     → private_turn v Glyphs s ≡ Ok (goes None Glyphs t.rest)
-unfolding private_turn glyphs_token
+unfolding private_turn_by glyphs_token
 glyph_word v s t h word other = rw (found BadCharStrings s t h, word, other) refl
 
 pub words_pass_in_glyphs : WordsPassInGlyphs

@@ -16,7 +16,7 @@ use Rattle.t1_font.specs.declared.refusal.Refusal.TheVariants.{BadSubrs}
 use Rattle.t1_font.specs.Tokens.{token_at, inside_of, is_array_kind, is_number_kind, is_word_kind}
 use Rattle.t1_font.specs.Fonts.{Stated, Marks, FontValue, value_of, size, subr, size_of}
 use Rattle.t1_font.specs.TextTurns.{TextTurn, goes}
-use Rattle.t1_font.specs.PrivateText.{is_blank_text, subrs_at, subrs_turn, subr_at, dup_turn, subrs_token, private_outside, private_turn}
+use Rattle.t1_font.specs.PrivateText.{is_blank_text, subrs_at, subrs_turn, subr_at, dup_turn, subrs_token, private_outside, private_turn, private_outside_by, subrs_token_by}
 use Rattle.t1_font.specs.Laws.Written.{IsWritten, IsWhole, is_word_of, Charstring, charstring_pieces, IsCharstring}
 use Rattle.t1_font.specs.Laws.UsualPrivateText.{SubrItem, subr_entry, between_subrs, subr_pieces, subr_states, IsSubrItem, SubrsPart, no_subrs, empty_subrs, some_subrs, subrs_pieces, subrs_states, IsSubrsPart}
 use Rattle.t1_font.proofs.PrivateItemsRead.{read, on, nothing_more, outside, among, mode_of}
@@ -28,7 +28,7 @@ unfolding value_of
 no_size marks before none = rw none refl
 
 pub subrs_name : (v : FontValue) (rest : List ℕ) → is_some v.size ≡ false → private_outside v Name (codes "/Subrs") rest ≡ subrs_at rest
-unfolding private_outside subrs_turn
+unfolding private_outside_by subrs_turn
 subrs_name v rest none = rw none refl
 
 -- A count and the word array.
@@ -83,12 +83,12 @@ unfolding dup_turn
 number_is n number s mid is h = ap (behind_dup s) (ahead_is s number mid h) ∙ rw (whole_is_number number n is) refl
 
 pub dup_among : (v : FontValue) (s left : List ℕ) → BeginsWith s (word (codes "dup")) left → private_turn v Subrs s ≡ dup_turn left
-unfolding subrs_token
+unfolding subrs_token_by
 dup_among v s left h = among v s (word (codes "dup")) left h
 
 word_among : (v : FontValue) (t : Plain) (rest : List ℕ) → is_word_kind (meant t) ≡ true → is_word_of (codes "dup") t ≡ false
     → subrs_token v (meant t) (spelled t) rest ≡ Ok (goes None Subrs rest)
-unfolding subrs_token
+unfolding subrs_token_by
 word_among v t rest is other = rw (other, is) refl
 
 module _ (marks : Marks) where

@@ -14,16 +14,18 @@ use Rattle.t1_font.specs.declared.mode.PrivateMode.TheVariants.{Outside, Subrs, 
 use Rattle.t1_font.specs.declared.refusal.Refusal.{Refusal}
 use Rattle.t1_font.specs.declared.refusal.Refusal.TheVariants.{BadCharStrings, BadSubrs, NoEexec, PastLimit}
 use Rattle.t1_font.specs.Readings.{◌>>=◌}
-use Rattle.t1_font.specs.Keys.{same_name, private_key, clear_key}
+use Rattle.t1_font.specs.Keys.{same_name, private_key, clear_key, all_notes, clear_note, private_note}
 use Rattle.t1_font.specs.Tokens.{wanted, token_ahead, natural, whole, whole_up_to, is_number_kind, is_name_kind, is_word_kind, name_of, spells, past_word, charstring_at, ◌>?◌}
 use Rattle.t1_font.specs.Fonts.{Stated, FontValue, plain, encoding, code, bad_code, size, subr, glyph}
 use Rattle.t1_font.specs.TextTurns.{TextTurn, over, goes}
-use Rattle.t1_font.specs.ClearText.{clear_value, array_at, encoding_at, encoding_turn, clear_outside, code_statement, code_at, code_turn, code_token, clear_turn, begins}
-use Rattle.t1_font.specs.PrivateText.{has_key, private_value, subrs_at, subrs_turn, glyphs_at, private_outside, subr_at, dup_turn, subrs_token, glyph_turn, glyphs_token, private_turn}
+use Rattle.t1_font.specs.ClearText.{clear_value, array_at, encoding_at, encoding_turn, clear_outside, code_statement, code_at, code_turn, code_token, clear_turn, begins, clear_turn_by, clear_outside_by}
+use Rattle.t1_font.specs.PrivateText.{has_key, private_value, subrs_at, subrs_turn, glyphs_at, private_outside, subr_at, dup_turn, subrs_token, glyph_turn, glyphs_token, private_turn, private_turn_by, private_outside_by, subrs_token_by}
 use Rattle.t1_font.specs.Private.Room.{HasRoom, HasRoomFor}
 use Rattle.t1_font.proofs.Compose.{bind, next, either, choose, glance, which, found_or}
 use Rattle.t1_font.proofs.Kept.{FitsOne, StatesFitting}
 use Rattle.t1_font.proofs.NamesFound.{NamedFound, wanted_named}
+use Rattle.t1_font.specs.Notes.{noted}
+use Rattle.t1_scan.specs.Tokens.{Found}
 
 -- A statement that leaves a value within the limits; a glyph's has its name as well, of regular bytes.
 abbrev pub Fits : FontValue → Stated → Type 0
@@ -70,10 +72,20 @@ whole_up_to_fits limit kind = glance (λ n. n ≤ limit) (whole kind) (λ n. if 
     ])
 
 module _ (v : FontValue) where
-  private_value_fits : (k : Option Key) (s : List ℕ) → IfOk (private_value k s) (Keeps v)
+  -- A noted key's value always fits.
+  note_fits : {M : Type 0} (k : Option Key) (mode : M) (s : List ℕ) → Keeps v (goes (noted k s) mode s)
+  unfolding noted
+  note_fits None mode s = tt
+  note_fits (Some k) mode s = elim (token_ahead s) as
+      (λ (r : Option Found). Keeps v (goes (r >? λ t. Some (plain k (record { kind = t.kind; text = t.text }))) mode s)) [
+        | None ↦ tt
+        | Some t ↦ tt
+      ]
+
+  private_value_fits : (k : Option Key) (text s : List ℕ) → IfOk (private_value all_notes k text s) (Keeps v)
   unfolding private_value
-  private_value_fits None s = tt
-  private_value_fits (Some k) s = next (Keeps v) (wanted _ s) _ (λ t. search (rules, either))
+  private_value_fits None text s = note_fits (private_note text) Outside s
+  private_value_fits (Some k) text s = next (Keeps v) (wanted _ s) _ (λ t. search (rules, either))
 
   subrs_at_fits : (s : List ℕ) → IfOk (subrs_at s) (Keeps v)
   unfolding subrs_at
@@ -100,9 +112,9 @@ module _ (v : FontValue) where
       next (Keeps v) (past_word BadCharStrings (codes "begin") b) _ (λ c. tt)))))
 
   private_outside_fits : (kind : Kind) (text s : List ℕ) → IfOk (private_outside v kind text s) (Keeps v)
-  unfolding private_outside
+  unfolding private_outside_by
   private_outside_fits kind text s =
-      search (rules, either, subrs_turn_fits s, glyphs_at_fits s, private_value_fits (private_key text) s)
+      search (rules, either, subrs_turn_fits s, glyphs_at_fits s, private_value_fits (private_key text) text s)
 
   subr_at_fits : (kind : Kind) (s : List ℕ) → IfOk (subr_at kind s) (Keeps v)
   unfolding subr_at
@@ -123,7 +135,7 @@ module _ (v : FontValue) where
       ]
 
   subrs_token_fits : (kind : Kind) (text s : List ℕ) → IfOk (subrs_token v kind text s) (Keeps v)
-  unfolding subrs_token
+  unfolding subrs_token_by
   subrs_token_fits kind text s = search (rules, either, dup_turn_fits s, private_outside_fits kind text s)
 
   glyph_turn_fits : (name s : List ℕ) → IsTrue (list_all is_regular name) → IfOk (glyph_turn v name s) (Keeps v)
@@ -146,16 +158,16 @@ module _ (v : FontValue) where
       ]))
 
   pub private_fits : (mode : PrivateMode) (s : List ℕ) → IfOk (private_turn v mode s) (Keeps v)
-  unfolding private_turn
+  unfolding private_turn_by
   private_fits Outside s = next (Keeps v) (wanted BadCharStrings s) _ (λ t. private_outside_fits t.kind t.text t.rest)
   private_fits Subrs s = next (Keeps v) (wanted BadCharStrings s) _ (λ t. subrs_token_fits t.kind t.text t.rest)
   private_fits Glyphs s = bind NamedFound (Keeps v) (wanted BadCharStrings s) _ (wanted_named BadCharStrings s)
       (λ t named. glyphs_token_fits t.kind t.text t.rest named)
 
-  clear_value_fits : (k : Option Key) (s : List ℕ) → IfOk (clear_value k s) (Keeps v)
+  clear_value_fits : (k : Option Key) (text s : List ℕ) → IfOk (clear_value all_notes k text s) (Keeps v)
   unfolding clear_value
-  clear_value_fits None s = tt
-  clear_value_fits (Some k) s = next (Keeps v) (wanted NoEexec s) _ (λ t. tt)
+  clear_value_fits None text s = note_fits (clear_note text) clear_modes.Outside s
+  clear_value_fits (Some k) text s = next (Keeps v) (wanted NoEexec s) _ (λ t. tt)
 
   encoding_at_fits : (s : List ℕ) → IfSome (encoding_at s) (Keeps v)
   unfolding encoding_at
@@ -170,8 +182,8 @@ module _ (v : FontValue) where
   encoding_turn_fits s = found_or (Keeps v) (encoding_at s) (begins Other clear_modes.Outside s) (encoding_at_fits s) tt
 
   clear_outside_fits : (kind : Kind) (text s : List ℕ) → IfOk (clear_outside kind text s) (Keeps v)
-  unfolding clear_outside
-  clear_outside_fits kind text s = search (rules, either, encoding_turn_fits s, clear_value_fits (clear_key text) s)
+  unfolding clear_outside_by
+  clear_outside_fits kind text s = search (rules, either, encoding_turn_fits s, clear_value_fits (clear_key text) text s)
 
   code_statement_fits : (kind : Kind) (text : List ℕ) → Fits v (code_statement kind text)
   unfolding code_statement
@@ -207,7 +219,7 @@ module _ (v : FontValue) where
   code_token_fits kind text s = search (rules, choose (Keeps {M = ClearMode} v), code_turn_fits s)
 
   pub clear_fits : (mode : ClearMode) (s : List ℕ) → IfOk (clear_turn v mode s) (Keeps v)
-  unfolding clear_turn
+  unfolding clear_turn_by
   clear_fits clear_modes.Outside s = next (Keeps v) (wanted NoEexec s) _ (λ t. clear_outside_fits t.kind t.text t.rest)
   clear_fits clear_modes.Codes s = next (Keeps v) (wanted NoEexec s) _ (λ t. code_token_fits t.kind t.text t.rest)
 

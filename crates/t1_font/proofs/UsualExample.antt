@@ -6,7 +6,7 @@ use Rattle.std.proofs.lemmas.List.Elements.{All-from_recursion}
 use Rattle.t1_scan.specs.Numbers.{scaled, value_of, magnitude_of, decimal_of, radix_of}
 use Rattle.t1_scan.specs.Spelling.{word, spelled, meant, depth_of, is_plain}
 use Rattle.t1_scan.specs.Texts.{BeginsWith, can_end, is_gap}
-use Rattle.t1_font.specs.Keys.{clear_key, private_key}
+use Rattle.t1_font.specs.Keys.{clear_key, clear_note, private_key, private_note}
 use Rattle.t1_font.specs.Laws.Written.{Piece, token, raw, IsWritten}
 use Rattle.t1_font.specs.Laws.UsualClearText as clear
 use Rattle.t1_font.specs.Laws.UsualPrivateText as private
@@ -76,13 +76,13 @@ private_written = is_written private_gaps (private.all_private_pieces private_pa
 
 -- The conditions on the items.
 clear_usual : All clear.IsClearItem clear_items
-unfolding clear_key scaled magnitude_of value_of decimal_of radix_of
+unfolding clear_key clear_note scaled magnitude_of value_of decimal_of radix_of
 clear_usual =
     let code : 65 ≤ 255 = omega arith in
     All-from_recursion clear.IsClearItem clear_items (assumption code)
 
 private_usual : private.IsUsualParts private_parts
-unfolding private_key scaled magnitude_of value_of decimal_of radix_of
+unfolding private_key private_note scaled magnitude_of value_of decimal_of radix_of
 private_usual =
     let number : 0 ≤ 65534 = omega arith in
     let one : 1 ≤ 65535 = omega arith in

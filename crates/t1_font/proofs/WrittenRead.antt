@@ -9,7 +9,7 @@ use Rattle.t1_scan.specs.declared.token.Kind.{Kind}
 use Rattle.t1_scan.specs.declared.token.Kind.TheVariants.{Number}
 use Rattle.t1_scan.specs.Tokens.{Found}
 use Rattle.t1_scan.specs.Spelling.{Plain, word, spelled, meant}
-use Rattle.t1_scan.specs.Texts.{BeginsWith}
+use Rattle.t1_scan.specs.Texts.{BeginsWith, lexeme_of}
 use Rattle.t1_scan.proofs.TextsRead.{reads_token}
 use Rattle.t1_font.specs.declared.refusal.Refusal.{Refusal}
 use Rattle.t1_font.specs.declared.refusal.Refusal.TheVariants.{PastLimit}
@@ -20,6 +20,8 @@ use Rattle.t1_font.specs.Laws.Written.{Piece, token, raw, IsWritten, IsWhole, Ch
 use Rattle.t1_font.proofs.Steps.{found}
 use Rattle.t1_font.proofs.Tables.{name_exact}
 use Rattle.t1_scan.specs.Numbers.{billion}
+use Rattle.t1_font.specs.Notes.{noted}
+use Rattle.t1_font.specs.Fonts.{plain}
 
 -- A token, and what follows it.
 abbrev pub seen : Plain → List ℕ → Found
@@ -28,9 +30,18 @@ seen t left = record { kind = meant t; text = spelled t; rest = left }
 pub wanted_is : (ended : Refusal) (s : List ℕ) (t : Plain) (left : List ℕ) → BeginsWith s t left → wanted ended s ≡ Ok (seen t left)
 wanted_is ended s t left h = found ended s (seen t left) (reads_token s t left h)
 
+-- A noted key with the token behind it, and no key.
+pub nothing_noted : (s : List ℕ) → noted None s ≡ None
+unfolding noted
+nothing_noted s = refl
+
 pub ahead_is : (s : List ℕ) (t : Plain) (left : List ℕ) → BeginsWith s t left → token_ahead s ≡ Some (seen t left)
 unfolding token_ahead token_at
 ahead_is s t left h = ap (λ (r : Result (Option Found) ScanError). elim r [ Err _ ↦ None | Ok some ↦ some ]) (reads_token s t left h)
+
+pub noted_is : (k : Key) (s : List ℕ) (value : Plain) (left : List ℕ) → BeginsWith s value left → noted (Some k) s ≡ Some (plain k (lexeme_of value))
+unfolding noted
+noted_is k s value left h = rw (ahead_is s value left h) refl
 
 -- The last piece that is written ends where the rest begins.
 pub last_token : (s : List ℕ) (t : Plain) (left : List ℕ) → IsWritten s (token t ∷ []) left → BeginsWith s t left

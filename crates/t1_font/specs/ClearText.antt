@@ -12,17 +12,18 @@ use Rattle.t1_font.specs.declared.refusal.Refusal.{Refusal}
 use Rattle.t1_font.specs.declared.refusal.Refusal.TheVariants.{NoEexec, MultipleMaster}
 use Rattle.t1_font.specs.Readings.{◌>>=◌}
 use Rattle.t1_font.specs.declared.key.Key.{Key}
-use Rattle.t1_font.specs.Keys.{clear_key, same_name}
+use Rattle.t1_font.specs.Keys.{Notes, all_notes, clear_key, same_name}
+use Rattle.t1_font.specs.Notes.{noted}
 use Rattle.t1_font.specs.Tokens.{wanted, token_ahead, whole_up_to, spells, is_name_kind, is_number_kind, name_of, ◌>?◌}
 use Rattle.t1_font.specs.Fonts.{Stated, Marks, FontValue, plain, encoding, code, bad_code}
 use Rattle.t1_font.specs.TextTurns.{TextTurn, over, goes, pass, TextRead, stated_in}
 use Rattle.t1_font.specs.Bounds.{code_count}
 use Rattle.t1_scan.specs.Numbers.{billion}
 
--- A plain key takes the next token as its value, whatever it is.
-unfoldable pub clear_value : Option Key → List ℕ → Result (TextTurn ClearMode) Refusal
-clear_value None rest = Ok (pass Outside rest)
-clear_value (Some k) rest =
+-- A plain key takes the next token as its value, whatever it is; a noted one looks at it.
+unfoldable pub clear_value : Notes → Option Key → List ℕ → List ℕ → Result (TextTurn ClearMode) Refusal
+clear_value notes None text rest = Ok (goes (noted (notes.clear text) rest) Outside rest)
+clear_value notes (Some k) text rest =
     wanted NoEexec rest >>= λ t.
     Ok (goes (Some (plain k (record { kind = t.kind; text = t.text }))) Outside t.rest)
 
@@ -51,13 +52,16 @@ unfoldable pub encoding_turn : List ℕ → TextTurn ClearMode
 encoding_turn s = elim (encoding_at s) [ Some t ↦ t | None ↦ begins Other Outside s ]
 
 -- A token outside a custom encoding, and what follows it.
-unfoldable pub clear_outside : Kind → List ℕ → List ℕ → Result (TextTurn ClearMode) Refusal
-clear_outside kind text rest =
+unfoldable pub clear_outside_by : Notes → Kind → List ℕ → List ℕ → Result (TextTurn ClearMode) Refusal
+clear_outside_by notes kind text rest =
     if spells (codes "eexec") kind text then Ok (over rest)
     else if not (is_name_kind kind) then Ok (pass Outside rest)
     else if same_name text (codes "/WeightVector") then Err MultipleMaster
     else if same_name text (codes "/Encoding") then Ok (encoding_turn rest)
-    else clear_value (clear_key text) rest
+    else clear_value notes (clear_key text) text rest
+
+abbrev pub clear_outside : Kind → List ℕ → List ℕ → Result (TextTurn ClearMode) Refusal
+clear_outside kind text rest = clear_outside_by all_notes kind text rest
 
 -- A code with its name; one that isn't whole from 0 to 255 sets nothing.
 unfoldable pub code_statement : Kind → List ℕ → Stated
@@ -86,17 +90,24 @@ code_token kind text rest =
     else if spells (codes "dup") kind text then code_turn rest
     else pass Codes rest
 
--- A turn of the clear text.
-unfoldable pub clear_turn : FontValue → ClearMode → List ℕ → Result (TextTurn ClearMode) Refusal
-clear_turn v mode s = wanted NoEexec s >>= λ t. elim mode [
-  | Outside ↦ clear_outside t.kind t.text t.rest
+-- A turn of the clear text, where these keys are noted.
+unfoldable pub clear_turn_by : Notes → FontValue → ClearMode → List ℕ → Result (TextTurn ClearMode) Refusal
+clear_turn_by notes v mode s = wanted NoEexec s >>= λ t. elim mode [
+  | Outside ↦ clear_outside_by notes t.kind t.text t.rest
   | Codes ↦ Ok (code_token t.kind t.text t.rest)
 ]
+
+abbrev pub clear_turn : FontValue → ClearMode → List ℕ → Result (TextTurn ClearMode) Refusal
+clear_turn = clear_turn_by all_notes
 
 -- The bytes begin with %!, as those of a PFA file do.
 abbrev pub begins_as_font : List ℕ → Bool
 begins_as_font = begins_pfa
 
 -- What is stated in the clear text, and what follows the word eexec.
-unfoldable pub clear_of : Marks → List ℕ → Result TextRead Refusal
-clear_of marks s = if begins_as_font s then stated_in clear_turn NoEexec marks [] Outside s else Err NoEexec
+unfoldable pub clear_of_by : Notes → Marks → List ℕ → Result TextRead Refusal
+clear_of_by notes marks s =
+    if begins_as_font s then stated_in (clear_turn_by notes) NoEexec marks [] Outside s else Err NoEexec
+
+abbrev pub clear_of : Marks → List ℕ → Result TextRead Refusal
+clear_of marks s = clear_of_by all_notes marks s

@@ -5,6 +5,7 @@ pub mod Example
 pub mod Keys
 pub mod Limits
 pub mod Lists
+pub mod Notes
 pub mod Parts
 pub mod Refusals
 pub mod Statements

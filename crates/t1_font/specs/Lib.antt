@@ -6,6 +6,7 @@ pub mod Fonts
 pub mod Keys
 pub mod Laws
 pub mod LenIv
+pub mod Notes
 pub mod Private
 pub mod PrivateText
 pub mod Puts

@@ -11,7 +11,8 @@ use Rattle.t1_font.specs.declared.mode.PrivateMode.TheVariants.{Outside, Subrs, 
 use Rattle.t1_font.specs.declared.refusal.Refusal.{Refusal}
 use Rattle.t1_font.specs.declared.refusal.Refusal.TheVariants.{BadSubrs, BadCharStrings, BadLenIv, PastLimit, SecondSubrs}
 use Rattle.t1_font.specs.Readings.{◌>>=◌}
-use Rattle.t1_font.specs.Keys.{private_key, same_name}
+use Rattle.t1_font.specs.Keys.{Notes, all_notes, private_key, same_name}
+use Rattle.t1_font.specs.Notes.{noted}
 use Rattle.t1_font.specs.Tokens.{token_at, wanted, token_ahead, whole_up_to, natural, spells, is_word_kind, is_name_kind, is_number_kind, is_array_kind, name_of, inside_of, past_word, charstring_at}
 use Rattle.t1_font.specs.Fonts.{Stated, Marks, FontValue, plain, size, subr, glyph}
 use Rattle.t1_font.specs.TextTurns.{TextTurn, over, goes, pass, TextRead, stated_in}
@@ -30,10 +31,11 @@ abbrev pub is_len_iv_key : Key → Bool
 is_len_iv_key LenIv = true
 is_len_iv_key _ = false
 
--- A plain key takes the next token as its value; the refusal at the end of the text depends on the key.
-unfoldable pub private_value : Option Key → List ℕ → Result (TextTurn PrivateMode) Refusal
-private_value None rest = Ok (pass Outside rest)
-private_value (Some k) rest =
+-- A plain key takes the next token as its value; the refusal at the end of the text depends on the key. A noted one
+-- looks at the token.
+unfoldable pub private_value : Notes → Option Key → List ℕ → List ℕ → Result (TextTurn PrivateMode) Refusal
+private_value notes None text rest = Ok (goes (noted (notes.private text) rest) Outside rest)
+private_value notes (Some k) text rest =
     wanted (if is_len_iv_key k then BadLenIv else BadCharStrings) rest >>= λ t.
     if is_len_iv_key k && not (is_len_iv t.kind) then Err BadLenIv
     else Ok (goes (Some (plain k (record { kind = t.kind; text = t.text }))) Outside t.rest)
@@ -67,12 +69,15 @@ glyphs_at rest =
     Ok (pass Glyphs c)
 
 -- A token outside the Subrs and the CharStrings, and what follows it.
-unfoldable pub private_outside : FontValue → Kind → List ℕ → List ℕ → Result (TextTurn PrivateMode) Refusal
-private_outside v kind text rest =
+unfoldable pub private_outside_by : Notes → FontValue → Kind → List ℕ → List ℕ → Result (TextTurn PrivateMode) Refusal
+private_outside_by notes v kind text rest =
     if not (is_name_kind kind) then Ok (pass Outside rest)
     else if same_name text (codes "/Subrs") then subrs_turn v rest
     else if same_name text (codes "/CharStrings") then glyphs_at rest
-    else private_value (private_key text) rest
+    else private_value notes (private_key text) text rest
+
+abbrev pub private_outside : FontValue → Kind → List ℕ → List ℕ → Result (TextTurn PrivateMode) Refusal
+private_outside v kind text rest = private_outside_by all_notes v kind text rest
 
 -- A Subr: dup, its number, the count of its bytes, a word, one byte and the bytes.
 unfoldable pub subr_at : Kind → List ℕ → Result (TextTurn PrivateMode) Refusal
@@ -89,11 +94,14 @@ dup_turn rest = elim (token_ahead rest) [
 ]
 
 -- A token among the Subrs: a word other than dup is skipped, and no word ends them.
-unfoldable pub subrs_token : FontValue → Kind → List ℕ → List ℕ → Result (TextTurn PrivateMode) Refusal
-subrs_token v kind text rest =
+unfoldable pub subrs_token_by : Notes → FontValue → Kind → List ℕ → List ℕ → Result (TextTurn PrivateMode) Refusal
+subrs_token_by notes v kind text rest =
     if spells (codes "dup") kind text then dup_turn rest
     else if is_word_kind kind then Ok (pass Subrs rest)
-    else private_outside v kind text rest
+    else private_outside_by notes v kind text rest
+
+abbrev pub subrs_token : FontValue → Kind → List ℕ → List ℕ → Result (TextTurn PrivateMode) Refusal
+subrs_token v kind text rest = subrs_token_by all_notes v kind text rest
 
 -- This name among these.
 abbrev pub has_key : {K V : Type 0} → (K → K → Bool) → List (K × V) → K → Bool
@@ -114,14 +122,20 @@ glyphs_token v kind text rest =
     else if is_name_kind kind then glyph_turn v (name_of text) rest
     else Err BadCharStrings
 
--- A turn of the private text.
-unfoldable pub private_turn : FontValue → PrivateMode → List ℕ → Result (TextTurn PrivateMode) Refusal
-private_turn v mode s = wanted BadCharStrings s >>= λ t. elim mode [
-  | Outside ↦ private_outside v t.kind t.text t.rest
-  | Subrs ↦ subrs_token v t.kind t.text t.rest
+-- A turn of the private text, where these keys are noted.
+unfoldable pub private_turn_by : Notes → FontValue → PrivateMode → List ℕ → Result (TextTurn PrivateMode) Refusal
+private_turn_by notes v mode s = wanted BadCharStrings s >>= λ t. elim mode [
+  | Outside ↦ private_outside_by notes v t.kind t.text t.rest
+  | Subrs ↦ subrs_token_by notes v t.kind t.text t.rest
   | Glyphs ↦ glyphs_token v t.kind t.text t.rest
 ]
 
+abbrev pub private_turn : FontValue → PrivateMode → List ℕ → Result (TextTurn PrivateMode) Refusal
+private_turn = private_turn_by all_notes
+
 -- What is stated in the private text, after what was stated in the clear text.
-unfoldable pub private_of : Marks → List Stated → List ℕ → Result TextRead Refusal
-private_of marks before s = stated_in private_turn BadCharStrings marks before Outside s
+unfoldable pub private_of_by : Notes → Marks → List Stated → List ℕ → Result TextRead Refusal
+private_of_by notes marks before s = stated_in (private_turn_by notes) BadCharStrings marks before Outside s
+
+abbrev pub private_of : Marks → List Stated → List ℕ → Result TextRead Refusal
+private_of marks before s = private_of_by all_notes marks before s

@@ -6,23 +6,25 @@ ghost use Rattle.t1_font.specs.Fonts.{FontValue};
 ghost use Rattle.t1_font.specs.Private.Readings.{Is};
 ghost use Rattle.t1_font.specs.Private.Statements.{statement_view, turn_view};
 ghost use Rattle.t1_font.specs.Private.Tokens.{Sees};
+ghost use Rattle.t1_font.specs.Keys.{all_notes, clear_key};
 
 use crate::bounds::CODES;
 use crate::encoding::Encoding;
-use crate::key::{Key, clear_key};
+use crate::key::{clear_key, clear_note};
 use crate::mode::ClearMode;
 use crate::refusal::Refusal;
-use crate::statement::{Statement, Turn};
+use crate::statement::{Statement, Turn, noted};
 use crate::tokens::{BILLION, is_name, is_number, is_word, name, token_ahead, wanted, whole_up_to};
 use t1_scan::Kind;
 
-/// Takes a plain key's value, whatever it is.
+/// Takes a plain key's value, whatever it is, and looks at a noted key's.
 #[tactic(auto, unfolding(crate::specs::ClearText::clear_value))]
-fn clear_value<'a>(key: Option<Key>, text: &'a [u8]) -> Result<Turn<'a, ClearMode>, Refusal>
-    ensures { Is turn_view result (clear_value key text.now) }
+fn clear_value<'a>(name: &[u8], text: &'a [u8]) -> Result<Turn<'a, ClearMode>, Refusal>
+    ensures { Is turn_view result (clear_value all_notes (clear_key name.now) name.now text.now) }
 {
-    let Some(key) = key else {
-        return Ok(Turn::Goes(None, ClearMode::Outside, text));
+    let Some(key) = clear_key(name) else {
+        let value = noted(clear_note(name), text);
+        return Ok(Turn::Goes(value, ClearMode::Outside, text));
     };
     let (value, rest) = wanted(text, Refusal::NoEexec)?;
     Ok(Turn::Goes(Some(Statement::Plain(key, value)), ClearMode::Outside, rest))
@@ -91,7 +93,7 @@ fn encoding_turn<'a>(text: &'a [u8]) -> Turn<'a, ClearMode>
 }
 
 /// A token outside a custom encoding.
-#[tactic(auto, unfolding(crate::specs::ClearText::clear_outside))]
+#[tactic(auto, unfolding(crate::specs::ClearText::clear_outside_by))]
 fn clear_outside<'a>(
     kind: Kind,
     text: &'a [u8],
@@ -111,7 +113,7 @@ fn clear_outside<'a>(
     if text == b"/Encoding".as_slice() {
         return Ok(encoding_turn(rest));
     }
-    clear_value(clear_key(text), rest)
+    clear_value(text, rest)
 }
 
 /// What a custom encoding's code and name say.
@@ -175,7 +177,7 @@ fn code_token<'a>(kind: Kind, text: &'a [u8], rest: &'a [u8]) -> Turn<'a, ClearM
 }
 
 /// One turn of the clear text.
-#[tactic(auto, unfolding(crate::specs::ClearText::clear_turn))]
+#[tactic(auto, unfolding(crate::specs::ClearText::clear_turn_by))]
 pub(crate) fn clear_turn<'a>(
     mode: ClearMode,
     text: &'a [u8],

@@ -1,9 +1,10 @@
 //! The plain keys of a font: Type 1 Font Format 1.1, chapters 2 and 5.
 
 ghost use Rattle.std.specs.Prelude.{◌≡◌, ◌<◌};
-ghost use Rattle.t1_font.specs.Keys.{clear_key, index_of, plain_keys, private_key};
+ghost use Rattle.t1_font.specs.Keys.{clear_key, clear_note, index_of, plain_keys, private_key, private_note};
 
-/// A key with a plain value: three of the clear text, and then those of the Private dictionary.
+/// A key with a plain value: three of the clear text, and then those of the Private dictionary. The last four are
+/// noted: reading looks at the token behind their name, and doesn't take it.
 #[derive(Clone, Copy, Debug, PartialEq, Eq)]
 pub enum Key {
     FontType,
@@ -25,6 +26,10 @@ pub enum Key {
     StdVw,
     StemSnapH,
     StemSnapV,
+    FontMatrix,
+    FontBBox,
+    Xuid,
+    LanguageGroup,
 }
 
 impl Key {
@@ -88,6 +93,34 @@ pub(crate) fn private_key(name: &[u8]) -> Option<Key>
         Some(Key::StemSnapH)
     } else if name == b"/StemSnapV".as_slice() {
         Some(Key::StemSnapV)
+    } else {
+        None
+    }
+}
+
+/// The noted key of the clear text that a name is.
+#[tactic(auto, unfolding(crate::specs::Keys::clear_note))]
+pub(crate) fn clear_note(name: &[u8]) -> Option<Key>
+    ensures { result ≡ clear_note name.now }
+{
+    if name == b"/FontMatrix".as_slice() {
+        Some(Key::FontMatrix)
+    } else if name == b"/FontBBox".as_slice() {
+        Some(Key::FontBBox)
+    } else if name == b"/XUID".as_slice() {
+        Some(Key::Xuid)
+    } else {
+        None
+    }
+}
+
+/// The noted key of the Private dictionary that a name is.
+#[tactic(auto, unfolding(crate::specs::Keys::private_note))]
+pub(crate) fn private_note(name: &[u8]) -> Option<Key>
+    ensures { result ≡ private_note name.now }
+{
+    if name == b"/LanguageGroup".as_slice() {
+        Some(Key::LanguageGroup)
     } else {
         None
     }

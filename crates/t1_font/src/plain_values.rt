@@ -10,7 +10,7 @@ use crate::key::Key;
 use std::marker::Model;
 
 /// How many plain keys there are.
-const PLAIN_KEYS: usize = 18;
+const PLAIN_KEYS: usize = 22;
 
 /// What each plain key has, at the key's place.
 #[derive(Drop)]
@@ -35,6 +35,10 @@ impl PlainValues {
     {
         PlainValues {
             entries: [
+                Entry::Absent,
+                Entry::Absent,
+                Entry::Absent,
+                Entry::Absent,
                 Entry::Absent,
                 Entry::Absent,
                 Entry::Absent,

@@ -4,13 +4,14 @@ ghost use Rattle.std.specs.Prelude.{◌≡◌};
 ghost use Rattle.t1_font.specs.PrivateText.{dup_turn, glyph_turn, glyphs_at, glyphs_token, is_blank_text, is_len_iv, is_len_iv_key, is_minus_one, private_outside, private_turn, private_value, subr_at, subrs_at, subrs_token, subrs_turn};
 ghost use Rattle.t1_font.specs.Private.Readings.{Is};
 ghost use Rattle.t1_font.specs.Private.Statements.{turn_view};
+ghost use Rattle.t1_font.specs.Keys.{all_notes, private_key};
 
 use crate::bounds::{GREATEST_LEN_IV, MOST_GLYPHS, MOST_SUBRS};
 use crate::font::Font;
-use crate::key::{Key, private_key};
+use crate::key::{Key, private_key, private_note};
 use crate::mode::PrivateMode;
 use crate::refusal::Refusal;
-use crate::statement::{Statement, Turn};
+use crate::statement::{Statement, Turn, noted};
 use crate::tokens::{
     BILLION, charstring, first, inside, is_any_word, is_array, is_name, is_number, is_word, name,
     natural, past_word, wanted, whole_up_to,
@@ -45,13 +46,14 @@ fn is_len_iv_key(key: Key) -> bool
     matches!(key, Key::LenIv)
 }
 
-/// Takes a plain key's value.
+/// Takes a plain key's value, and looks at a noted key's.
 #[tactic(auto, unfolding(crate::specs::PrivateText::private_value))]
-fn private_value<'a>(key: Option<Key>, text: &'a [u8]) -> Result<Turn<'a, PrivateMode>, Refusal>
-    ensures { Is turn_view result (private_value key text.now) }
+fn private_value<'a>(name: &[u8], text: &'a [u8]) -> Result<Turn<'a, PrivateMode>, Refusal>
+    ensures { Is turn_view result (private_value all_notes (private_key name.now) name.now text.now) }
 {
-    let Some(key) = key else {
-        return Ok(Turn::Goes(None, PrivateMode::Outside, text));
+    let Some(key) = private_key(name) else {
+        let value = noted(private_note(name), text);
+        return Ok(Turn::Goes(value, PrivateMode::Outside, text));
     };
     let ended = if is_len_iv_key(key) {
         Refusal::BadLenIv
@@ -124,7 +126,7 @@ fn glyphs_at<'a>(text: &'a [u8]) -> Result<Turn<'a, PrivateMode>, Refusal>
 }
 
 /// A token outside the Subrs and the CharStrings.
-#[tactic(auto, unfolding(crate::specs::PrivateText::private_outside))]
+#[tactic(auto, unfolding(crate::specs::PrivateText::private_outside_by))]
 fn private_outside<'a>(
     font: &Font<'a>,
     kind: Kind,
@@ -142,7 +144,7 @@ fn private_outside<'a>(
     if text == b"/CharStrings".as_slice() {
         return glyphs_at(rest);
     }
-    private_value(private_key(text), rest)
+    private_value(text, rest)
 }
 
 /// A Subr, after its `dup` and its number.
@@ -174,7 +176,7 @@ fn dup_turn<'a>(text: &'a [u8]) -> Result<Turn<'a, PrivateMode>, Refusal>
 }
 
 /// A token among the Subrs.
-#[tactic(auto, unfolding(crate::specs::PrivateText::subrs_token))]
+#[tactic(auto, unfolding(crate::specs::PrivateText::subrs_token_by))]
 fn subrs_token<'a>(
     font: &Font<'a>,
     kind: Kind,
@@ -235,7 +237,7 @@ fn glyphs_token<'a>(
 }
 
 /// One turn of the private text.
-#[tactic(auto, unfolding(crate::specs::PrivateText::private_turn))]
+#[tactic(auto, unfolding(crate::specs::PrivateText::private_turn_by))]
 pub(crate) fn private_turn<'a>(
     font: &Font<'a>,
     mode: PrivateMode,

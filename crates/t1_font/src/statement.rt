@@ -1,7 +1,12 @@
 //! What a font's texts state, one turn of reading after another: Type 1 Font Format 1.1, chapter 2.
 
+ghost use Rattle.std.specs.Prelude.{◌≡◌};
+ghost use Rattle.t1_font.specs.Notes.{noted};
+ghost use Rattle.t1_font.specs.Private.Statements.{view_if_any};
+
 use crate::encoding::Encoding;
 use crate::key::Key;
+use crate::tokens::token_ahead;
 use t1_scan::Token;
 
 /// What a text states.
@@ -30,4 +35,14 @@ pub enum Turn<'a, M> {
     Over(&'a [u8]),
     /// Reading goes on at what is left, after a statement or none.
     Goes(Option<Statement<'a>>, M, &'a [u8]),
+}
+
+/// What a noted key states: the token behind its name, which isn't taken.
+#[tactic(auto, unfolding(crate::specs::Notes::noted))]
+pub(crate) fn noted<'a>(key: Option<Key>, text: &'a [u8]) -> Option<Statement<'a>>
+    ensures { view_if_any result ≡ noted key text.now }
+{
+    let key = key?;
+    let (token, _) = token_ahead(text)?;
+    Some(Statement::Plain(key, token))
 }

@@ -6,7 +6,7 @@ use Rattle.t1_scan.specs.Spelling.{Plain, name, word, meant}
 use Rattle.t1_scan.specs.Texts.{lexeme_of}
 use Rattle.t1_font.specs.declared.encoding.Encoding.TheVariants.{Standard, Custom}
 use Rattle.t1_font.specs.declared.key.Key.{Key}
-use Rattle.t1_font.specs.Keys.{clear_key, same_name}
+use Rattle.t1_font.specs.Keys.{clear_key, clear_note, same_name}
 use Rattle.t1_font.specs.Tokens.{is_name_kind, is_number_kind}
 use Rattle.t1_font.specs.Fonts.{Stated, plain, encoding, code}
 use Rattle.t1_font.specs.ClearText.{begins_as_font}
@@ -50,10 +50,12 @@ AreCodeItems (group n number run ∷ items) = IsWhole number n × (n ≤ code_co
 AreCodeItems (between_groups t ∷ items) = PassesInCodes t × AreCodeItems items
 AreCodeItems (lone_dup ∷ items) = (ends_group items ≡ false) × AreCodeItems items
 
--- What is in a clear text: a plain key k, by its name, with its value of one token; /Encoding StandardEncoding;
--- /Encoding, the number 256, array, what is in the encoding, and def; another name; another token.
+-- What is in a clear text: a plain key k, by its name, with its value of one token; a noted key likewise;
+-- /Encoding StandardEncoding; /Encoding, the number 256, array, what is in the encoding, and def; another name;
+-- another token.
 pub data ClearItem : Type 0 where
   key : Key → List ℕ → Plain → ClearItem
+  noted_key : Key → List ℕ → Plain → ClearItem
   standard : ClearItem
   custom : Plain → List CodeItem → ClearItem
   other_name : List ℕ → ClearItem
@@ -61,6 +63,7 @@ pub data ClearItem : Type 0 where
 
 abbrev pub clear_pieces : ClearItem → List Piece
 clear_pieces (key k run value) = token (name run) ∷ token value ∷ []
+clear_pieces (noted_key k run value) = token (name run) ∷ token value ∷ []
 clear_pieces standard = token (name (codes "Encoding")) ∷ token (word (codes "StandardEncoding")) ∷ []
 clear_pieces (custom count items) =
     token (name (codes "Encoding")) ∷ token count ∷ token (word (codes "array"))
@@ -70,14 +73,23 @@ clear_pieces (other_token t) = token t ∷ []
 
 abbrev pub clear_states : ClearItem → List Stated
 clear_states (key k run value) = plain k (lexeme_of value) ∷ []
+clear_states (noted_key k run value) = plain k (lexeme_of value) ∷ []
 clear_states standard = encoding Standard ∷ []
 clear_states (custom count items) = encoding Custom ∷ flat_map code_states items
 clear_states (other_name run) = []
 clear_states (other_token t) = []
 
--- A name, without its slash, that states nothing in the clear text: no plain key, not Encoding, and
+-- A name, without its slash, that states nothing in the clear text: no plain key and no noted one, not Encoding, and
 -- not WeightVector, which only a multiple master font has.
 pub record IsOtherClearName (run : List ℕ) : Type 0 where
+  pub no_key : clear_key (47 ∷ run) ≡ None
+  pub no_note : clear_note (47 ∷ run) ≡ None
+  pub not_encoding : same_name (47 ∷ run) (codes "/Encoding") ≡ false
+  pub not_weights : same_name (47 ∷ run) (codes "/WeightVector") ≡ false
+
+-- The name of a noted key has no other meaning.
+pub record IsClearNote (k : Key) (run : List ℕ) : Type 0 where
+  pub note : clear_note (47 ∷ run) ≡ Some k
   pub no_key : clear_key (47 ∷ run) ≡ None
   pub not_encoding : same_name (47 ∷ run) (codes "/Encoding") ≡ false
   pub not_weights : same_name (47 ∷ run) (codes "/WeightVector") ≡ false
@@ -87,9 +99,10 @@ pub record PassesInClear (t : Plain) : Type 0 where
   pub no_name : is_name_kind (meant t) ≡ false
   pub not_eexec : is_word_of (codes "eexec") t ≡ false
 
--- The name of a key is the one that the key has.
+-- The name of a key is the one that the key has. The value of a noted key is read once more, as another token.
 abbrev pub IsClearItem : ClearItem → Type 0
 IsClearItem (key k run value) = clear_key (47 ∷ run) ≡ Some k
+IsClearItem (noted_key k run value) = IsClearNote k run × PassesInClear value
 IsClearItem standard = Unit {0}
 IsClearItem (custom count items) = IsWhole count code_count × AreCodeItems items
 IsClearItem (other_name run) = IsOtherClearName run
@@ -114,6 +127,7 @@ is_group lone_dup = false
 
 abbrev pub clear_entry : ClearItem → List ClearItem
 clear_entry (key k run value) = key k run value ∷ []
+clear_entry (noted_key k run value) = noted_key k run value ∷ []
 clear_entry standard = standard ∷ []
 clear_entry (custom count items) = custom count (filter is_group items) ∷ []
 clear_entry (other_name run) = []

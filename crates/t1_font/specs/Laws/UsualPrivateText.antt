@@ -8,7 +8,7 @@ use Rattle.t1_scan.specs.Spelling.{Plain, name, word, bracketed, Body, body_text
 use Rattle.t1_scan.specs.Texts.{lexeme_of, are_blanks}
 use Rattle.t1_font.specs.declared.key.Key.{Key}
 use Rattle.t1_font.specs.declared.key.Key.TheVariants.{LenIv}
-use Rattle.t1_font.specs.Keys.{private_key, same_name}
+use Rattle.t1_font.specs.Keys.{private_key, private_note, same_name}
 use Rattle.t1_font.specs.Tokens.{is_name_kind}
 use Rattle.t1_font.specs.Fonts.{Stated, plain, size, subr, glyph, size_of, glyph_of, firsts}
 use Rattle.t1_font.specs.Laws.Written.{Piece, token, IsWritten, IsWhole, is_word_of, Charstring, charstring_pieces, IsCharstring}
@@ -16,19 +16,22 @@ use Rattle.t1_font.specs.Bounds.{most_glyphs, most_subrs, greatest_len_iv}
 use Rattle.t1_scan.specs.Numbers.{billion}
 
 -- What is before and after the Subrs: a plain key k, by its name without the slash, with its value of
--- one token; another name; another token.
+-- one token; a noted key likewise; another name; another token.
 pub data PrivateItem : Type 0 where
   key : Key → List ℕ → Plain → PrivateItem
+  noted_key : Key → List ℕ → Plain → PrivateItem
   other_name : List ℕ → PrivateItem
   other_token : Plain → PrivateItem
 
 abbrev pub private_pieces : PrivateItem → List Piece
 private_pieces (key k run value) = token (name run) ∷ token value ∷ []
+private_pieces (noted_key k run value) = token (name run) ∷ token value ∷ []
 private_pieces (other_name run) = token (name run) ∷ []
 private_pieces (other_token t) = token t ∷ []
 
 abbrev pub private_states : PrivateItem → List Stated
 private_states (key k run value) = plain k (lexeme_of value) ∷ []
+private_states (noted_key k run value) = plain k (lexeme_of value) ∷ []
 private_states (other_name run) = []
 private_states (other_token t) = []
 
@@ -41,21 +44,32 @@ abbrev pub FitsKey : Key → Kind → Type 0
 FitsKey LenIv kind = IsLenIv kind
 FitsKey _ kind = Unit {0}
 
--- A name, without its slash, that states nothing: no plain key of Private, not Subrs, not CharStrings.
+-- A name, without its slash, that states nothing: no plain key of Private and no noted one, not Subrs, not CharStrings.
 pub record IsOtherPrivateName (run : List ℕ) : Type 0 where
+  pub no_key : private_key (47 ∷ run) ≡ None
+  pub no_note : private_note (47 ∷ run) ≡ None
+  pub not_subrs : same_name (47 ∷ run) (codes "/Subrs") ≡ false
+  pub not_glyphs : same_name (47 ∷ run) (codes "/CharStrings") ≡ false
+
+-- The name of a noted key has no other meaning.
+pub record IsPrivateNote (k : Key) (run : List ℕ) : Type 0 where
+  pub note : private_note (47 ∷ run) ≡ Some k
   pub no_key : private_key (47 ∷ run) ≡ None
   pub not_subrs : same_name (47 ∷ run) (codes "/Subrs") ≡ false
   pub not_glyphs : same_name (47 ∷ run) (codes "/CharStrings") ≡ false
 
--- The name of a key is the one that the key has; any token but a name states nothing.
+-- The name of a key is the one that the key has; any token but a name states nothing. The value of a noted key is read
+-- once more, as another token.
 abbrev pub IsPrivateItem : PrivateItem → Type 0
 IsPrivateItem (key k run value) = (private_key (47 ∷ run) ≡ Some k) × FitsKey k (meant value)
+IsPrivateItem (noted_key k run value) = IsPrivateNote k run × (is_name_kind (meant value) ≡ false)
 IsPrivateItem (other_name run) = IsOtherPrivateName run
 IsPrivateItem (other_token t) = is_name_kind (meant t) ≡ false
 
 -- After the Subrs the word dup would begin one more.
 abbrev pub IsNoDup : PrivateItem → Type 0
 IsNoDup (key k run value) = Unit {0}
+IsNoDup (noted_key k run value) = Unit {0}
 IsNoDup (other_name run) = Unit {0}
 IsNoDup (other_token t) = is_word_of (codes "dup") t ≡ false
 
@@ -180,6 +194,7 @@ pub record StatesNoCharstring (before : List Stated) : Type 0 where
 -- The entries of a private text: its parts without the items that state nothing.
 abbrev pub is_key : PrivateItem → Bool
 is_key (key k run value) = true
+is_key (noted_key k run value) = true
 is_key (other_name run) = false
 is_key (other_token t) = false
 

@@ -64,9 +64,16 @@ const TEXTS: &[(&str, Option<Refusal>)] = &[
     ("%!\n/FontType eexec eexec", None),
     ("%!\n/FontType", Some(Refusal::NoEexec)),
     ("%!\n/FontType (", Some(Refusal::Unclosed)),
+    ("%!\n/XUID eexec", None),
+    ("%!\n/XUID", Some(Refusal::NoEexec)),
+    ("%!\n/XUID (", Some(Refusal::Unclosed)),
+    (
+        "%!\n/XUID /WeightVector eexec",
+        Some(Refusal::MultipleMaster),
+    ),
 ];
 
-/// `eexec` ends the text unless it is a value; a value is taken whatever it is.
+/// `eexec` ends the text unless it is a value; a value is taken whatever it is, but not that of a noted key.
 #[test]
 fn clear_texts_are_refused_or_not(rt: HostRuntime) -> Result<(), Fail> {
     assert_clear_refusals(&rt, rt.alloc(), TEXTS)
@@ -117,4 +124,59 @@ const VALUES: &[(&str, Fact)] = &[
 #[test]
 fn keys_of_the_clear_text_are_read(rt: HostRuntime) -> Result<(), Fail> {
     assert_facts(&rt, rt.alloc(), CLEAR_LINES, VALUES)
+}
+
+/// Lines with keys that are noted: the token behind their name is looked at, and read as if they weren't there.
+const NOTED: &[(&str, Fact)] = &[
+    (
+        "/FontMatrix [0.001 0 0 0.001 0 0] readonly def",
+        Fact::Value(
+            Key::FontMatrix,
+            Value::Numbers(6, &[1_000_000, 0, 0, 1_000_000, 0, 0]),
+        ),
+    ),
+    (
+        "/FontBBox {-10 0 5 1000} def",
+        Fact::Value(
+            Key::FontBBox,
+            Value::Numbers(4, &[-10_000_000_000, 0, 5_000_000_000, 1_000_000_000_000]),
+        ),
+    ),
+    ("/XUID [] def", Fact::Value(Key::Xuid, Value::Numbers(0, &[]))),
+    (
+        "/XUID [1] def /XUID 2 def",
+        Fact::Value(Key::Xuid, Value::Number(2_000_000_000)),
+    ),
+    ("/XUID [1 a] def", Fact::Value(Key::Xuid, Value::Other)),
+    ("/XUID /UniqueID 5 def", Fact::Value(Key::Xuid, Value::Other)),
+    (
+        "/XUID /UniqueID 5 def",
+        Fact::Value(Key::UniqueId, Value::Number(5_000_000_000)),
+    ),
+    (
+        "/FontMatrix /FontBBox {0 0 1 1}",
+        Fact::Value(Key::FontMatrix, Value::Other),
+    ),
+    (
+        "/FontMatrix /FontBBox {0 0 1 1}",
+        Fact::Value(
+            Key::FontBBox,
+            Value::Numbers(4, &[0, 0, 1_000_000_000, 1_000_000_000]),
+        ),
+    ),
+    ("/FontType /XUID 5 def", Fact::Value(Key::Xuid, Value::Absent)),
+    ("//XUID [1] def", Fact::Value(Key::Xuid, Value::Absent)),
+    (
+        "/Encoding 256 array /XUID [1] def",
+        Fact::Value(Key::Xuid, Value::Absent),
+    ),
+    (
+        "/LanguageGroup 1 def",
+        Fact::Value(Key::LanguageGroup, Value::Absent),
+    ),
+];
+
+#[test]
+fn noted_keys_of_the_clear_text_are_read(rt: HostRuntime) -> Result<(), Fail> {
+    assert_facts(&rt, rt.alloc(), CLEAR_LINES, NOTED)
 }

@@ -102,3 +102,34 @@ fn values_hide_what_they_spell(rt: HostRuntime) -> Result<(), Fail> {
     let mut file = with_private(rt.alloc(), HIDDEN)?;
     assert_all(&rt, rt.alloc(), &mut file, NOTHING)
 }
+
+/// Private texts with /LanguageGroup, which is noted: the token behind it is read as if its name weren't there.
+const LANGUAGE_GROUPS: &[(&str, Fact)] = &[
+    ("", Fact::Value(Key::LanguageGroup, Value::Absent)),
+    (
+        "/LanguageGroup 1 def",
+        Fact::Value(Key::LanguageGroup, Value::Number(1_000_000_000)),
+    ),
+    (
+        "/LanguageGroup /lenIV 5 def",
+        Fact::Value(Key::LanguageGroup, Value::Other),
+    ),
+    ("/LanguageGroup /lenIV 5 def", Fact::LenIv(5)),
+    (
+        "/BlueShift /LanguageGroup 1 def",
+        Fact::Value(Key::LanguageGroup, Value::Absent),
+    ),
+    (
+        "/Subrs 1 array dup 0 1 RD x NP /LanguageGroup 0 def",
+        Fact::Value(Key::LanguageGroup, Value::Number(0)),
+    ),
+    (
+        "/XUID [1] def",
+        Fact::Value(Key::Xuid, Value::Absent),
+    ),
+];
+
+#[test]
+fn language_groups_are_read(rt: HostRuntime) -> Result<(), Fail> {
+    assert_facts(&rt, rt.alloc(), PRIVATE_LINES, LANGUAGE_GROUPS)
+}

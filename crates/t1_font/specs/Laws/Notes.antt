@@ -1,0 +1,37 @@
+-- What noted keys change: their own values, and nothing else.
+use Rattle.std.specs.Prelude.{◌≡◌, ◌++◌, Bool, false, not, nat_le, filter, take, Result, Ok, Err, List, [], ◌∷◌, ℕ}
+use Rattle.t1_font.specs.declared.refusal.Refusal.{Refusal}
+use Rattle.t1_font.specs.ClearText.{clear_of, clear_of_by}
+use Rattle.t1_font.specs.Fonts.{FontValue, Marks, Stated, plain, value_of}
+use Rattle.t1_font.specs.Keys.{index_of, no_notes, taken_keys}
+use Rattle.t1_font.specs.PrivateText.{private_of, private_of_by}
+use Rattle.t1_font.specs.TextTurns.{TextRead}
+use Rattle.t1_font.specs.Values.{absent}
+
+-- A statement of a noted key, and all that is stated but these.
+abbrev pub is_note : Stated → Bool
+is_note (plain k t) = nat_le taken_keys (index_of k)
+is_note _ = false
+
+abbrev pub without_notes : List Stated → List Stated
+without_notes es = filter (λ e. not (is_note e)) es
+
+abbrev pub read_without : Result TextRead Refusal → Result TextRead Refusal
+read_without (Ok read) = Ok (record { stated = without_notes read.stated; rest = read.rest })
+read_without (Err e) = Err e
+
+-- A font whose noted keys have no value.
+abbrev pub unnoted : FontValue → FontValue
+unnoted v = record v { plain = take taken_keys v.plain ++ absent ∷ absent ∷ absent ∷ absent ∷ [] }
+
+-- Where no key is noted a text is refused just as it is, or read to the same place, and states the same but for noted keys.
+abbrev pub ClearStaysWithoutNotes : Type 0
+ClearStaysWithoutNotes = (marks : Marks) (s : List ℕ) → clear_of_by no_notes marks s ≡ read_without (clear_of marks s)
+
+abbrev pub PrivateStaysWithoutNotes : Type 0
+PrivateStaysWithoutNotes = (marks : Marks) (before : List Stated) (s : List ℕ) →
+    private_of_by no_notes marks (without_notes before) s ≡ read_without (private_of marks before s)
+
+-- What is stated without them leaves the same font, whose noted keys have no value.
+abbrev pub ValuesStayWithoutNotes : Type 0
+ValuesStayWithoutNotes = (marks : Marks) (es : List Stated) → value_of marks (without_notes es) ≡ unnoted (value_of marks es)
