@@ -9,44 +9,49 @@ use Rattle.t1_font.specs.declared.key.Key.TheVariants.{FontType, PaintType, Uniq
 abbrev pub same_name : List ℕ → List ℕ → Bool
 same_name = pointwise nat_eq
 
+-- The key that a name has among rows, if there is one.
+abbrev pub key_named : List ℕ → List (List ℕ × Key) → Option Key
+key_named name [] = None
+key_named name (row ∷ rest) = if same_name name row.0 then Some row.1 else key_named name rest
+
 -- The plain keys of the clear text.
 unfoldable pub clear_key : List ℕ → Option Key
-clear_key name =
-    if same_name name (codes "/FontType") then Some FontType
-    else if same_name name (codes "/PaintType") then Some PaintType
-    else if same_name name (codes "/UniqueID") then Some UniqueId
-    else None
+clear_key name = key_named name (
+    (codes "/FontType", FontType)
+    ∷ (codes "/PaintType", PaintType)
+    ∷ (codes "/UniqueID", UniqueId)
+    ∷ [])
 
 -- The plain keys of the Private dictionary.
 unfoldable pub private_key : List ℕ → Option Key
-private_key name =
-    if same_name name (codes "/UniqueID") then Some PrivateUniqueId
-    else if same_name name (codes "/password") then Some Password
-    else if same_name name (codes "/MinFeature") then Some MinFeature
-    else if same_name name (codes "/lenIV") then Some LenIv
-    else if same_name name (codes "/BlueValues") then Some BlueValues
-    else if same_name name (codes "/OtherBlues") then Some OtherBlues
-    else if same_name name (codes "/FamilyBlues") then Some FamilyBlues
-    else if same_name name (codes "/FamilyOtherBlues") then Some FamilyOtherBlues
-    else if same_name name (codes "/BlueScale") then Some BlueScale
-    else if same_name name (codes "/BlueShift") then Some BlueShift
-    else if same_name name (codes "/BlueFuzz") then Some BlueFuzz
-    else if same_name name (codes "/StdHW") then Some StdHw
-    else if same_name name (codes "/StdVW") then Some StdVw
-    else if same_name name (codes "/StemSnapH") then Some StemSnapH
-    else if same_name name (codes "/StemSnapV") then Some StemSnapV
-    else None
+private_key name = key_named name (
+    (codes "/UniqueID", PrivateUniqueId)
+    ∷ (codes "/password", Password)
+    ∷ (codes "/MinFeature", MinFeature)
+    ∷ (codes "/lenIV", LenIv)
+    ∷ (codes "/BlueValues", BlueValues)
+    ∷ (codes "/OtherBlues", OtherBlues)
+    ∷ (codes "/FamilyBlues", FamilyBlues)
+    ∷ (codes "/FamilyOtherBlues", FamilyOtherBlues)
+    ∷ (codes "/BlueScale", BlueScale)
+    ∷ (codes "/BlueShift", BlueShift)
+    ∷ (codes "/BlueFuzz", BlueFuzz)
+    ∷ (codes "/StdHW", StdHw)
+    ∷ (codes "/StdVW", StdVw)
+    ∷ (codes "/StemSnapH", StemSnapH)
+    ∷ (codes "/StemSnapV", StemSnapV)
+    ∷ [])
 
 -- The noted keys of the clear text, and of the Private dictionary.
 unfoldable pub clear_note : List ℕ → Option Key
-clear_note name =
-    if same_name name (codes "/FontMatrix") then Some FontMatrix
-    else if same_name name (codes "/FontBBox") then Some FontBBox
-    else if same_name name (codes "/XUID") then Some Xuid
-    else None
+clear_note name = key_named name (
+    (codes "/FontMatrix", FontMatrix)
+    ∷ (codes "/FontBBox", FontBBox)
+    ∷ (codes "/XUID", Xuid)
+    ∷ [])
 
 unfoldable pub private_note : List ℕ → Option Key
-private_note name = if same_name name (codes "/LanguageGroup") then Some LanguageGroup else None
+private_note name = key_named name ((codes "/LanguageGroup", LanguageGroup) ∷ [])
 
 -- Which keys are noted: of each text, the key that a name is.
 pub record Notes : Type 0 where

@@ -1,5 +1,6 @@
 -- Words that private contracts alone cite: no clause of a public function rests on them.
 pub mod Items
+pub mod KeyRows
 pub mod KeyValues
 pub mod Readings
 pub mod Room

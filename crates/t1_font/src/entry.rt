@@ -65,7 +65,6 @@ impl Entry {
 }
 
 /// What a list has next.
-#[derive(Clone, Copy)]
 enum Item<'a> {
     End,
     /// A number, and what follows it.

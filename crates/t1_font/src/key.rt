@@ -1,7 +1,8 @@
 //! The plain keys of a font: Type 1 Font Format 1.1, chapters 2 and 5.
 
-ghost use Rattle.std.specs.Prelude.{◌≡◌, ◌<◌};
-ghost use Rattle.t1_font.specs.Keys.{clear_key, clear_note, index_of, plain_keys, private_key, private_note};
+ghost use Rattle.std.specs.Prelude.{◌≡◌, ◌<◌, map};
+ghost use Rattle.t1_font.specs.Keys.{clear_key, clear_note, index_of, key_named, plain_keys, private_key, private_note};
+ghost use Rattle.t1_font.specs.Private.KeyRows.{row_view};
 
 /// A key with a plain value: three of the clear text, and then those of the Private dictionary. The last four are
 /// noted: reading looks at the token behind their name, and doesn't take it.
@@ -42,20 +43,63 @@ impl Key {
     }
 }
 
+/// A plain key, after its name in the font's text.
+type Row = (&'static str, Key);
+
+/// The plain keys of the clear text.
+static CLEAR_KEYS: [Row; 3] = [
+    ("/FontType", Key::FontType),
+    ("/PaintType", Key::PaintType),
+    ("/UniqueID", Key::UniqueId),
+];
+
+/// The plain keys of the Private dictionary.
+static PRIVATE_KEYS: [Row; 15] = [
+    ("/UniqueID", Key::PrivateUniqueId),
+    ("/password", Key::Password),
+    ("/MinFeature", Key::MinFeature),
+    ("/lenIV", Key::LenIv),
+    ("/BlueValues", Key::BlueValues),
+    ("/OtherBlues", Key::OtherBlues),
+    ("/FamilyBlues", Key::FamilyBlues),
+    ("/FamilyOtherBlues", Key::FamilyOtherBlues),
+    ("/BlueScale", Key::BlueScale),
+    ("/BlueShift", Key::BlueShift),
+    ("/BlueFuzz", Key::BlueFuzz),
+    ("/StdHW", Key::StdHw),
+    ("/StdVW", Key::StdVw),
+    ("/StemSnapH", Key::StemSnapH),
+    ("/StemSnapV", Key::StemSnapV),
+];
+
+/// The noted keys of the clear text.
+static CLEAR_NOTES: [Row; 3] = [
+    ("/FontMatrix", Key::FontMatrix),
+    ("/FontBBox", Key::FontBBox),
+    ("/XUID", Key::Xuid),
+];
+
+/// The noted key of the Private dictionary.
+static PRIVATE_NOTES: [Row; 1] = [("/LanguageGroup", Key::LanguageGroup)];
+
+/// The key that a name has among rows, if there is one.
+fn key_in(rows: &[Row], name: &[u8]) -> Option<Key>
+    ensures { result ≡ key_named name.now (map row_view rows.now) }
+{
+    for row in rows {
+        if name == row.0.as_bytes() {
+            return Some(row.1);
+        }
+    }
+    None
+}
+
 /// The plain key of the clear text that a name is.
 #[tactic(auto, unfolding(crate::specs::Keys::clear_key))]
 pub(crate) fn clear_key(name: &[u8]) -> Option<Key>
     ensures { result ≡ clear_key name.now }
 {
-    if name == b"/FontType".as_slice() {
-        Some(Key::FontType)
-    } else if name == b"/PaintType".as_slice() {
-        Some(Key::PaintType)
-    } else if name == b"/UniqueID".as_slice() {
-        Some(Key::UniqueId)
-    } else {
-        None
-    }
+    key_in(&CLEAR_KEYS, name)
 }
 
 /// The plain key of the Private dictionary that a name is.
@@ -63,39 +107,7 @@ pub(crate) fn clear_key(name: &[u8]) -> Option<Key>
 pub(crate) fn private_key(name: &[u8]) -> Option<Key>
     ensures { result ≡ private_key name.now }
 {
-    if name == b"/UniqueID".as_slice() {
-        Some(Key::PrivateUniqueId)
-    } else if name == b"/password".as_slice() {
-        Some(Key::Password)
-    } else if name == b"/MinFeature".as_slice() {
-        Some(Key::MinFeature)
-    } else if name == b"/lenIV".as_slice() {
-        Some(Key::LenIv)
-    } else if name == b"/BlueValues".as_slice() {
-        Some(Key::BlueValues)
-    } else if name == b"/OtherBlues".as_slice() {
-        Some(Key::OtherBlues)
-    } else if name == b"/FamilyBlues".as_slice() {
-        Some(Key::FamilyBlues)
-    } else if name == b"/FamilyOtherBlues".as_slice() {
-        Some(Key::FamilyOtherBlues)
-    } else if name == b"/BlueScale".as_slice() {
-        Some(Key::BlueScale)
-    } else if name == b"/BlueShift".as_slice() {
-        Some(Key::BlueShift)
-    } else if name == b"/BlueFuzz".as_slice() {
-        Some(Key::BlueFuzz)
-    } else if name == b"/StdHW".as_slice() {
-        Some(Key::StdHw)
-    } else if name == b"/StdVW".as_slice() {
-        Some(Key::StdVw)
-    } else if name == b"/StemSnapH".as_slice() {
-        Some(Key::StemSnapH)
-    } else if name == b"/StemSnapV".as_slice() {
-        Some(Key::StemSnapV)
-    } else {
-        None
-    }
+    key_in(&PRIVATE_KEYS, name)
 }
 
 /// The noted key of the clear text that a name is.
@@ -103,15 +115,7 @@ pub(crate) fn private_key(name: &[u8]) -> Option<Key>
 pub(crate) fn clear_note(name: &[u8]) -> Option<Key>
     ensures { result ≡ clear_note name.now }
 {
-    if name == b"/FontMatrix".as_slice() {
-        Some(Key::FontMatrix)
-    } else if name == b"/FontBBox".as_slice() {
-        Some(Key::FontBBox)
-    } else if name == b"/XUID".as_slice() {
-        Some(Key::Xuid)
-    } else {
-        None
-    }
+    key_in(&CLEAR_NOTES, name)
 }
 
 /// The noted key of the Private dictionary that a name is.
@@ -119,9 +123,5 @@ pub(crate) fn clear_note(name: &[u8]) -> Option<Key>
 pub(crate) fn private_note(name: &[u8]) -> Option<Key>
     ensures { result ≡ private_note name.now }
 {
-    if name == b"/LanguageGroup".as_slice() {
-        Some(Key::LanguageGroup)
-    } else {
-        None
-    }
+    key_in(&PRIVATE_NOTES, name)
 }

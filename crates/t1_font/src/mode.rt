@@ -1,7 +1,7 @@
 //! Where in a text reading is: what the next token belongs to. Type 1 Font Format 1.1, chapter 2.
 
 /// In the clear text.
-#[derive(Clone, Copy, Debug, PartialEq, Eq)]
+#[derive(Clone, Copy)]
 pub enum ClearMode {
     /// The font's dictionaries.
     Outside,
@@ -10,7 +10,7 @@ pub enum ClearMode {
 }
 
 /// In the private text.
-#[derive(Clone, Copy, Debug, PartialEq, Eq)]
+#[derive(Clone, Copy)]
 pub enum PrivateMode {
     /// The Private dictionary.
     Outside,

@@ -10,7 +10,6 @@ use crate::tokens::token_ahead;
 use t1_scan::Token;
 
 /// What a text states.
-#[derive(Clone, Copy)]
 pub enum Statement<'a> {
     /// A plain key and its value.
     Plain(Key, Token<'a>),
@@ -29,7 +28,6 @@ pub enum Statement<'a> {
 }
 
 /// One turn of reading, `M` the modes of the text.
-#[derive(Clone, Copy)]
 pub enum Turn<'a, M> {
     /// The text is over, and this is left.
     Over(&'a [u8]),
