@@ -305,7 +305,6 @@ pub fn codes_are_judged_by_their_names()
 {}
 
 /// The list of all rules has each rule at its number, and no other; and a code is looked up as the rule that has it.
-#[tactic(auto, using(crate::proofs::Lemmas::Book::listed, crate::proofs::Lemmas::RuleCodes::codes_are_of_their_rules))]
 pub fn rules_are_in_the_book()
     ensures each { EachRuleStands }
     ensures no_more { NoMoreRulesStand }

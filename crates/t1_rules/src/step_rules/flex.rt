@@ -337,7 +337,8 @@ fn moved_by(command: Command, step: &Step) -> Point
 }
 
 fn at(x: i32, y: i32) -> Point
-    ensures { result ≡ at x y }
+    ensures value { result ≡ at x y }
+    ensures near { IsNear 1 result }
 {
     Point {
         x: i64::from(x),
