@@ -34,7 +34,7 @@ joined_near width a b a' b' same less = let same_width = ap (λ (n : ℕ). n * w
 ordinal : ℕ → ℕ → ℕ → ℕ → ℕ
 ordinal width unit step rule = joined (last_number + 1) (joined width unit step) rule
 
-ordinal_rises : (width u s r u' s' r' : ℕ) → s < width → r ≤ last_number → Comes (spot u s r) (spot u' s' r') → ordinal width u s r < ordinal width u' s' r'
+ordinal_rises : (width u s r u' s' r' : ℕ) → s < width → r < last_number + 1 → Comes (spot u s r) (spot u' s' r') → ordinal width u s r < ordinal width u' s' r'
 unfolding ordinal
 ordinal_rises width u s r u' s' r' low few (inl unit) = joined_less (last_number + 1) (joined width u s) r (joined width u' s') r' (joined_less width u s u' s' unit low) few
 ordinal_rises width u s r u' s' r' low few (inr (unit, inl step)) =
@@ -42,7 +42,7 @@ ordinal_rises width u s r u' s' r' low few (inr (unit, inl step)) =
 ordinal_rises width u s r u' s' r' low few (inr (unit, inr (step, rule))) =
     joined_near (last_number + 1) (joined width u s) r (joined width u' s') r' (ap (λ (n : ℕ). joined width n s) unit ∙ ap (joined width u') step) rule
 
-ordinal_below : (width u s r units : ℕ) → u < units → s < width → r ≤ last_number → ordinal width u s r < joined (last_number + 1) (joined width units 0) 0
+ordinal_below : (width u s r units : ℕ) → u < units → s < width → r < last_number + 1 → ordinal width u s r < joined (last_number + 1) (joined width units 0) 0
 unfolding ordinal
 ordinal_below width u s r units less low few = joined_less (last_number + 1) (joined width u s) r (joined width units 0) 0 (joined_less width u s units 0 less low) few
 

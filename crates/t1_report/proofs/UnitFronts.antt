@@ -48,7 +48,7 @@ comes_near u s r unit step step' none (inr (c, inl d)) =
 comes_near u s r unit step step' none (inr (c, inr (d, e))) = absurd (omega arith)
 
 -- before the next step there are no more rules than the book has
-comes_last : (u s r unit step : ℕ) → r ≤ last_number → Comes (spot u s r) (spot unit (step + 1) 0) → Comes (spot u s r) (spot unit step (last_number + 1))
+comes_last : (u s r unit step : ℕ) → r < last_number + 1 → Comes (spot u s r) (spot unit (step + 1) 0) → Comes (spot u s r) (spot unit step (last_number + 1))
 comes_last u s r unit step few (inl c) = inl c
 comes_last u s r unit step few (inr (c, inl d)) =
     elim (cases_lt s step) [
@@ -126,7 +126,7 @@ module _ (broken : ℕ → ℕ → ℕ → Bool) (path_of : Place → List ℕ) 
 
   -- the end of a step
   pub place_ends : (unit step floor : ℕ) (mask : Mask) (faults : List FaultValue) → Front unit step (floor + 1) faults
-      → HasNoneAbove mask floor → Agrees mask unit step → floor ≤ last_number → Front unit (step + 1) 0 faults
+      → HasNoneAbove mask floor → Agrees mask unit step → floor < last_number + 1 → Front unit (step + 1) 0 faults
   place_ends unit step floor mask faults front none agrees low =
       step_passed unit step faults
       (up_to unit step floor (last_number + 1) mask faults front agrees (omega arith) (λ rule above below. none (number_of rule) above (in_book rule).1))
