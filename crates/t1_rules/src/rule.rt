@@ -7,11 +7,12 @@ ghost use Rattle.std.specs.Hash as fed;
 ghost use Rattle.std.specs.Ordering.{on};
 ghost use Rattle.t1_rules.specs.Book.{last_number, number_of, rule_coded, rules};
 
-use crate::book::{rows, rule_in, rule_of};
+use crate::book::{rows, rule_code, rule_in, rule_of};
+use std::fmt;
 use std::hash::{Hash, Hasher};
 
 /// A rule of the rule book. Its number is its place there, from 1 on.
-#[derive(Clone, Copy, Debug)]
+#[derive(Clone, Copy)]
 pub enum Rule {
     /// A PFB file ends with an end segment. Technical Note 5040, section 3.3.
     F01 = 1,
@@ -154,6 +155,12 @@ pub enum Rule {
     L01,
     /// A waiver waives a violation.
     U01,
+}
+
+impl fmt::Debug for Rule {
+    fn fmt<W: fmt::Write>(&self, f: &mut fmt::Formatter<W>) -> fmt::Result {
+        f.write_str(rule_code(*self))
+    }
 }
 
 impl Rule {
