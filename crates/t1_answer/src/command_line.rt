@@ -1,16 +1,16 @@
 //! The command line, by clap.
 
-ghost use Rattle.std.specs.Prelude.{◌≡◌, false, map, IfOk, IfErr};
-ghost use Rattle.clap.specs.Words.{app_of, rule_of};
-ghost use Rattle.t1_answer.specs.CommandLine.{after_rule, file_rule, max_rule, t1check, trace_rule};
+ghost use Rattle.std.specs.Prelude.{◌≡◌, map, IfOk, IfErr};
+ghost use Rattle.clap.specs.Words.{app_of};
+ghost use Rattle.t1_answer.specs.CommandLine.{t1check};
 ghost use Rattle.t1_answer.specs.Words.{AreTaken};
-ghost use Rattle.t1_run.specs.Words.{AreRefused, edition_rule, waive_rule};
+ghost use Rattle.t1_run.specs.Words.{AreRefused};
 
 use crate::asked::Options;
-use clap::{Arg, Command, value_parser};
+use clap::Command;
 use std::alloc::{AllocError, Global};
 use std::convert::AsStr;
-use t1_run::{UsageError, edition, number, owned, parse};
+use t1_run::{Argument, ArgumentKind, UsageError, edition, number, owned, parse, with_arguments};
 
 const ABOUT: &str = "\
 Lists every rule of the book that an Adobe Type 1 font (PFA or PFB) breaks. The book
@@ -39,6 +39,45 @@ Examples:
 
 For many fonts there is t1check-all. t1check is of the version that t1check-all --version tells.";
 
+const ARGUMENTS: &[Argument<'static>] = &[
+    Argument {
+        name: "after",
+        kind: ArgumentKind::Number,
+        value: "K",
+        help: "Leaves the first K lines of the report out [default: 0]",
+    },
+    Argument {
+        name: "max",
+        kind: ArgumentKind::Number,
+        value: "M",
+        help: "Writes at most M of the other lines",
+    },
+    Argument {
+        name: "trace",
+        kind: ArgumentKind::Text,
+        value: "NAME",
+        help: "Writes the steps of the glyph NAME in place of the report, STEP PATH TOKEN a line",
+    },
+    Argument {
+        name: "edition",
+        kind: ArgumentKind::Edition,
+        value: "N",
+        help: "Checks by edition 1 or 2 of the rule book [default: 1]",
+    },
+    Argument {
+        name: "waive",
+        kind: ArgumentKind::Text,
+        value: "FILE",
+        help: "Leaves the faults out that FILE waives by its lines, NAME RULE each",
+    },
+    Argument {
+        name: "file",
+        kind: ArgumentKind::Word,
+        value: "FILE",
+        help: "The font's file, one a run; without it standard input is read",
+    },
+];
+
 /// Reads the words of the command line, the program's name first.
 pub fn options<S: AsStr>(alloc: Global, words: &[S]) -> Result<Options, UsageError>
     ensures taken { IfOk result (AreTaken (map S.text words.now)) }
@@ -61,85 +100,12 @@ pub fn options<S: AsStr>(alloc: Global, words: &[S]) -> Result<Options, UsageErr
     })
 }
 
-/// The command, argument by argument, each in a function of its own: one function of them all takes long to prove.
+/// The command, with its arguments.
 fn command<'a>(alloc: Global) -> Result<Command<'a>, AllocError>
     ensures { IfOk result (λ c. app_of c ≡ t1check) }
 {
-    Command::new(alloc, "t1check")
+    let command = Command::new(alloc, "t1check")
         .about(ABOUT)
-        .after_help(AFTER_HELP)
-        .arg(after_arg(alloc))?
-        .arg(max_arg(alloc))?
-        .arg(trace_arg(alloc))?
-        .arg(edition_arg(alloc))?
-        .arg(waive_arg(alloc))?
-        .arg(file_arg(alloc))
-}
-
-/// The option --after.
-fn after_arg<'a>(alloc: Global) -> Arg<'a>
-    ensures rule { rule_of result ≡ after_rule }
-    ensures own { result.global ≡ false }
-{
-    Arg::new(alloc, "after")
-        .long("after")
-        .value_name("K")
-        .help("Leaves the first K lines of the report out [default: 0]")
-        .value_parser(value_parser!(u64))
-}
-
-/// The option --max.
-fn max_arg<'a>(alloc: Global) -> Arg<'a>
-    ensures rule { rule_of result ≡ max_rule }
-    ensures own { result.global ≡ false }
-{
-    Arg::new(alloc, "max")
-        .long("max")
-        .value_name("M")
-        .help("Writes at most M of the other lines")
-        .value_parser(value_parser!(u64))
-}
-
-/// The option --trace.
-fn trace_arg<'a>(alloc: Global) -> Arg<'a>
-    ensures rule { rule_of result ≡ trace_rule }
-    ensures own { result.global ≡ false }
-{
-    Arg::new(alloc, "trace")
-        .long("trace")
-        .value_name("NAME")
-        .help("Writes the steps of the glyph NAME in place of the report, STEP PATH TOKEN a line")
-}
-
-/// The option --edition.
-fn edition_arg<'a>(alloc: Global) -> Arg<'a>
-    ensures rule { rule_of result ≡ edition_rule }
-    ensures own { result.global ≡ false }
-{
-    Arg::new(alloc, "edition")
-        .long("edition")
-        .value_name("N")
-        .help("Checks by edition 1 or 2 of the rule book [default: 1]")
-        .value_parser(value_parser!(u64).range(1..3))
-}
-
-/// The option --waive.
-fn waive_arg<'a>(alloc: Global) -> Arg<'a>
-    ensures rule { rule_of result ≡ waive_rule }
-    ensures own { result.global ≡ false }
-{
-    Arg::new(alloc, "waive")
-        .long("waive")
-        .value_name("FILE")
-        .help("Leaves the faults out that FILE waives by its lines, NAME RULE each")
-}
-
-/// The font's file.
-fn file_arg<'a>(alloc: Global) -> Arg<'a>
-    ensures rule { rule_of result ≡ file_rule }
-    ensures own { result.global ≡ false }
-{
-    Arg::new(alloc, "file").value_name("FILE").help(
-        "The font's file, one a run; without it standard input is read",
-    )
+        .after_help(AFTER_HELP);
+    with_arguments(alloc, command, ARGUMENTS)
 }

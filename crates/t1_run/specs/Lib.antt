@@ -1,4 +1,5 @@
 pub mod Answering
+pub mod Arguments
 pub mod Failures
 pub mod FontFiles
 pub mod Input

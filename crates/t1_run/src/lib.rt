@@ -1,7 +1,7 @@
 //! What the programs have in common: the words, files and devices before and after each one's own work.
 //!
-//! [`words_given`] has the words of the command line. [`parse`] reads them by clap's rules, or fails with a
-//! [`UsageError`], which [`explain`] prints. [`read_font_file`] and [`read_waivers`] read a file to its end, within its
+//! [`words_given`] has the words of the command line, and [`with_arguments`] makes a command of a table of [`Argument`]s.
+//! [`parse`] reads the words by clap's rules, or fails with a [`UsageError`], which [`explain`] prints. [`read_font_file`] and [`read_waivers`] read a file to its end, within its
 //! limit. Where a run has no result, a [`Failure`] says why, and [`tell_failure`] prints it under the program's own
 //! name; [`give`] prints a result. [`explain`], [`tell_failure`] and [`give`] return a [`Status`].
 //!
@@ -14,6 +14,7 @@
 
 mod answered;
 mod answering;
+mod arguments;
 mod failure;
 mod files;
 mod laws;
@@ -26,6 +27,7 @@ mod words;
 
 pub use answered::Answered;
 pub use answering::answer;
+pub use arguments::{Argument, ArgumentKind, with_arguments};
 pub use failure::Failure;
 pub use files::{LARGEST_FILE, read_font_file, read_waivers};
 pub use laws::each_part_has_its_refusals;

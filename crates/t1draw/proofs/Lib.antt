@@ -1,4 +1,3 @@
 pub mod AnAnswer
-pub mod CommandLemmas
 pub mod GlyphWordLemmas
 pub mod OneAnswer

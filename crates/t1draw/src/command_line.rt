@@ -1,22 +1,24 @@
 //! The command line, by clap.
 
-ghost use Rattle.std.specs.Prelude.{◌≡◌, false, map, IfErr, IfOk};
-ghost use Rattle.clap.specs.Words.{app_of, rule_of};
-ghost use Rattle.t1_run.specs.Words.{edition_rule, waive_rule};
+ghost use Rattle.std.specs.Prelude.{◌≡◌, map, IfErr, IfOk};
+ghost use Rattle.clap.specs.Words.{app_of};
 ghost use Rattle.t1draw.specs.Answers.{drawing};
-ghost use Rattle.t1draw.specs.CommandLine.{AreTaken, AreUntaken, font_rule, glyph_rule, step_rule, t1draw};
+ghost use Rattle.t1draw.specs.CommandLine.{AreTaken, AreUntaken, t1draw};
 
 use crate::PROGRAM;
 use crate::glyph_word::name_in;
 use crate::running::draw;
-use clap::{Arg, ArgAction, Command, value_parser};
+use clap::Command;
 use std::alloc::{AllocError, Global};
 use std::convert::AsStr;
 use t1_char::Edition;
 use t1_font::Font;
 use t1_io::Sink;
 use t1_report::Waivers;
-use t1_run::{Program, Status, UsageError, borrowed, edition, number, owned, parse};
+use t1_run::{
+    Argument, ArgumentKind, Program, Status, UsageError, borrowed, edition, number, owned, parse,
+    with_arguments,
+};
 
 const ABOUT: &str = "\
 Draws a glyph of an Adobe Type 1 font (PFA or PFB), and the faults that t1check finds in it:
@@ -34,6 +36,39 @@ Exit status:
 Examples:
   t1draw A font.pfb >A.svg             draws the glyph A
   t1draw --step 41 A font.pfb >A.svg   draws it up to step 41, whose stretch is thick";
+
+const ARGUMENTS: &[Argument<'static>] = &[
+    Argument {
+        name: "edition",
+        kind: ArgumentKind::Edition,
+        value: "N",
+        help: "Finds faults by edition 1 or 2 of the rule book [default: 1]",
+    },
+    Argument {
+        name: "waive",
+        kind: ArgumentKind::Text,
+        value: "FILE",
+        help: "Leaves the faults out that FILE waives by its lines, NAME RULE each",
+    },
+    Argument {
+        name: "step",
+        kind: ArgumentKind::Positive,
+        value: "N",
+        help: "Draws no further than step N, and the stretch of that step thick",
+    },
+    Argument {
+        name: "glyph",
+        kind: ArgumentKind::RequiredWord,
+        value: "GLYPH",
+        help: "The name of the glyph",
+    },
+    Argument {
+        name: "font",
+        kind: ArgumentKind::Word,
+        value: "FONT",
+        help: "The font's file; without it standard input is read",
+    },
+];
 
 /// What is printed for a glyph's name with a backslash that means nothing.
 const BAD_NAME: &str = "\
@@ -112,73 +147,12 @@ pub fn read_words<S: AsStr>(alloc: Global, words: &[S]) -> Result<Options, Usage
     })
 }
 
-/// The command, argument by argument, each in a function of its own: one function of them all takes long to prove.
+/// The command, with its arguments.
 fn command<'a>(alloc: Global) -> Result<Command<'a>, AllocError>
     ensures { IfOk result (λ c. app_of c ≡ t1draw) }
 {
-    Command::new(alloc, "t1draw")
+    let command = Command::new(alloc, "t1draw")
         .about(ABOUT)
-        .after_help(AFTER_HELP)
-        .arg(edition_arg(alloc))?
-        .arg(waive_arg(alloc))?
-        .arg(step_arg(alloc))?
-        .arg(glyph_arg(alloc))?
-        .arg(font_arg(alloc))
-}
-
-/// The option --edition.
-fn edition_arg<'a>(alloc: Global) -> Arg<'a>
-    ensures rule { rule_of result ≡ edition_rule }
-    ensures own { result.global ≡ false }
-{
-    Arg::new(alloc, "edition")
-        .long("edition")
-        .value_name("N")
-        .help("Finds faults by edition 1 or 2 of the rule book [default: 1]")
-        .value_parser(value_parser!(u64).range(1..3))
-}
-
-/// The option --waive.
-fn waive_arg<'a>(alloc: Global) -> Arg<'a>
-    ensures rule { rule_of result ≡ waive_rule }
-    ensures own { result.global ≡ false }
-{
-    Arg::new(alloc, "waive")
-        .long("waive")
-        .value_name("FILE")
-        .help("Leaves the faults out that FILE waives by its lines, NAME RULE each")
-}
-
-/// The option --step.
-fn step_arg<'a>(alloc: Global) -> Arg<'a>
-    ensures rule { rule_of result ≡ step_rule }
-    ensures own { result.global ≡ false }
-{
-    Arg::new(alloc, "step")
-        .long("step")
-        .value_name("N")
-        .help("Draws no further than step N, and the stretch of that step thick")
-        .value_parser(value_parser!(u64).range(1..))
-}
-
-/// The glyph's name.
-fn glyph_arg<'a>(alloc: Global) -> Arg<'a>
-    ensures rule { rule_of result ≡ glyph_rule }
-    ensures own { result.global ≡ false }
-{
-    Arg::new(alloc, "glyph")
-        .value_name("GLYPH")
-        .action(ArgAction::Set)
-        .required(true)
-        .help("The name of the glyph")
-}
-
-/// The font's file.
-fn font_arg<'a>(alloc: Global) -> Arg<'a>
-    ensures rule { rule_of result ≡ font_rule }
-    ensures own { result.global ≡ false }
-{
-    Arg::new(alloc, "font")
-        .value_name("FONT")
-        .help("The font's file; without it standard input is read")
+        .after_help(AFTER_HELP);
+    with_arguments(alloc, command, ARGUMENTS)
 }

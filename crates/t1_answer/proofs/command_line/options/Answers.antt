@@ -3,8 +3,12 @@ use Rattle.clap.specs.Words.{Text}
 use Rattle.t1_run.specs.Words.{AreNumber, IsEditionOrFirst, IsNumberArgument, IsPlainApp, IsTextOfNumber, edition_rule}
 use Rattle.t1_run.proofs.Commands.{by_rules, first_of-found}
 use Rattle.t1_answer.specs.CommandLine.{t1check, after_rule, max_rule, IsNumberOrZero}
-use Rattle.t1_answer.proofs.CommandLemmas.{plain}
 use Rattle.t1_answer.proofs.command_line.options.Goals as goal
+
+-- no argument excludes anything, and each has an id of its own
+plain : IsPlainApp t1check
+unfolding t1check
+plain = record { own = refl; distinct = refl; plain = refl; negates = refl; simple = refl; free = refl; leaf = refl; alone = refl }
 
 -- the program's rules take a number for --after
 after_is_number : IsNumberArgument t1check 0 18446744073709551615 (codes "after")

@@ -8,8 +8,12 @@ use Rattle.t1_run.proofs.Commands.{by_rules, first_of-found}
 use Rattle.t1draw.specs.CommandLine.{t1draw, glyph_rule, step_rule}
 use Rattle.t1draw.specs.CommandLine.AreUntaken.{no_name}
 use Rattle.t1_forms.specs.NameWords.{name_of_word}
-use Rattle.t1draw.proofs.CommandLemmas.{plain}
 use Rattle.t1draw.proofs.command_line.read_words.Goals as goal
+
+-- no argument excludes anything, and each has an id of its own
+plain : IsPlainApp t1draw
+unfolding t1draw
+plain = record { own = refl; distinct = refl; plain = refl; negates = refl; simple = refl; free = refl; leaf = refl; alone = refl }
 
 -- the program's rules take 1 or 2 for --edition
 edition_is_number : IsNumberArgument t1draw 1 2 (codes "edition")
