@@ -1,9 +1,10 @@
 //! The command line, by clap.
 
 ghost use Rattle.std.specs.Prelude.{◌≡◌, IfErr, IfOk, false, fold, map};
-ghost use Rattle.clap.specs.Words.{app_of, found_of, rows_of, rule_of, with_rule};
-ghost use Rattle.t1_options.specs.CommandLine.{flag_rule, jobs_rule, list_rule, option_rule, path_rule, quiet_rule, t1check_all, version_rule};
+ghost use Rattle.clap.specs.Words.{app_of, found_of, rows_of, rule_of};
+ghost use Rattle.t1_options.specs.CommandLine.{t1check_all};
 ghost use Rattle.t1_options.specs.Given.{given_in};
+ghost use Rattle.t1_options.specs.Private.Arguments.{rule_for, with_argument};
 ghost use Rattle.t1_options.specs.Words.{AsksNothing, HasHelp, IsAnswered, IsAsked, IsRefused, IsTaken};
 ghost use Rattle.t1_run.specs.Words.{AreRefused, IsParsedBy};
 ghost use Rattle.t1_options.specs.Settings.Finding.{files_by};
@@ -52,6 +53,53 @@ font NAME has its waivers, lines as `A H02`. A FONT `-` is standard input.
 Status: 0 nothing was told, 1 a line was, 2 a font was refused, 3 one was not checked or the usage is wrong; the greatest
 of these. Refusals are always told. With --fail-on a line of another level leaves the status as it is.
 ";
+
+/// An argument of the command line.
+#[derive(Clone, Copy)]
+enum Argument {
+    /// `-q`, which may be given again.
+    Quiet,
+    /// `-j N`, which is gone: it is known so that its use can be reported.
+    Jobs,
+    /// `--NAME`, which may be given again.
+    Flag(&'static str),
+    /// `--NAME VALUE`.
+    Option(&'static str, &'static str),
+    /// `--NAME VALUE`, of which each use adds a value.
+    List(&'static str, &'static str),
+    /// `--version`, which the program itself handles.
+    Version,
+    /// `PATH...`.
+    Path,
+}
+
+const ARGUMENTS: &[Argument] = &[
+    Argument::Quiet,
+    Argument::Jobs,
+    Argument::Option("edition", "N"),
+    Argument::List("only", "CODES"),
+    Argument::List("except", "CODES"),
+    Argument::List("level", "LEVELS"),
+    Argument::List("fail-on", "LEVELS"),
+    Argument::Flag("no-waivers"),
+    Argument::Flag("write-waivers"),
+    Argument::Flag("force"),
+    Argument::Option("baseline", "FILE"),
+    Argument::Flag("update-baseline"),
+    Argument::List("files-from", "FILE"),
+    Argument::List("exclude", "GLOB"),
+    Argument::Option("shard", "I/N"),
+    Argument::Option("format", "FORM"),
+    Argument::Option("docs", "URL"),
+    Argument::Option("columns", "N"),
+    Argument::Flag("colour"),
+    Argument::Flag("long"),
+    Argument::Flag("reasons"),
+    Argument::Flag("no-reasons"),
+    Argument::Flag("no-settings"),
+    Argument::Version,
+    Argument::Path,
+];
 
 /// Reads the words of the command line, the program's name first, and the settings of their first path.
 ///
@@ -115,108 +163,51 @@ fn with_help(alloc: Global, error: UsageError) -> UsageError
     }
 }
 
-/// The command, argument by argument.
+/// The command, with its arguments.
 fn command<'a>(alloc: Global) -> Result<Command<'a>, AllocError>
     ensures { IfOk result (λ c. app_of c ≡ t1check_all) }
 {
     let command = Command::new(alloc, "t1check-all").args_override_self(true);
-    let command = with(command, quiet(alloc))?;
-    let command = with(command, jobs(alloc))?;
-    let command = with(command, option(alloc, "edition", "N"))?;
-    let command = with(command, list(alloc, "only", "CODES"))?;
-    let command = with(command, list(alloc, "except", "CODES"))?;
-    let command = with(command, list(alloc, "level", "LEVELS"))?;
-    let command = with(command, list(alloc, "fail-on", "LEVELS"))?;
-    let command = with(command, flag(alloc, "no-waivers"))?;
-    let command = with(command, flag(alloc, "write-waivers"))?;
-    let command = with(command, flag(alloc, "force"))?;
-    let command = with(command, option(alloc, "baseline", "FILE"))?;
-    let command = with(command, flag(alloc, "update-baseline"))?;
-    let command = with(command, list(alloc, "files-from", "FILE"))?;
-    let command = with(command, list(alloc, "exclude", "GLOB"))?;
-    let command = with(command, option(alloc, "shard", "I/N"))?;
-    let command = with(command, option(alloc, "format", "FORM"))?;
-    let command = with(command, option(alloc, "docs", "URL"))?;
-    let command = with(command, option(alloc, "columns", "N"))?;
-    let command = with(command, flag(alloc, "colour"))?;
-    let command = with(command, flag(alloc, "long"))?;
-    let command = with(command, flag(alloc, "reasons"))?;
-    let command = with(command, flag(alloc, "no-reasons"))?;
-    let command = with(command, flag(alloc, "no-settings"))?;
-    let command = with(command, version(alloc))?;
-    with(command, path(alloc))
+    with_arguments(alloc, command, ARGUMENTS)
 }
 
-/// The command with one argument more.
-fn with<'a>(command: Command<'a>, arg: Arg<'a>) -> Result<Command<'a>, AllocError>
-    requires { arg.global ≡ false }
-    ensures { IfOk result (λ c. app_of c ≡ with_rule (app_of command.entry) (rule_of arg.entry)) }
+/// The command with these arguments more. A loop over a table takes less time to prove than a chain of calls.
+fn with_arguments<'a>(
+    alloc: Global,
+    mut command: Command<'a>,
+    arguments: &[Argument],
+) -> Result<Command<'a>, AllocError>
+    ensures { IfOk result (λ c. app_of c ≡ fold with_argument (app_of command.entry) arguments.now) }
 {
-    command.arg(arg)
+    for argument in arguments {
+        command = command.arg(arg_of(alloc, *argument))?;
+    }
+    Ok(command)
 }
 
-/// `-q`, which may be given again.
-fn quiet<'a>(alloc: Global) -> Arg<'a>
-    ensures rule { rule_of result ≡ quiet_rule }
+/// The argument as clap has it.
+fn arg_of<'a>(alloc: Global, argument: Argument) -> Arg<'a>
+    ensures rule { rule_of result ≡ rule_for argument }
     ensures local { result.global ≡ false }
 {
-    Arg::new(alloc, "quiet").short('q').action(ArgAction::Count)
-}
-
-/// `-j N`, which is gone: it is known so that its use can be reported.
-fn jobs<'a>(alloc: Global) -> Arg<'a>
-    ensures rule { rule_of result ≡ jobs_rule }
-    ensures local { result.global ≡ false }
-{
-    Arg::new(alloc, "jobs")
-        .short('j')
-        .value_name("N")
-        .hide(true)
-}
-
-/// `--version`, which the program itself handles. The id `version` is clap's own.
-fn version<'a>(alloc: Global) -> Arg<'a>
-    ensures rule { rule_of result ≡ version_rule }
-    ensures local { result.global ≡ false }
-{
-    Arg::new(alloc, "show-version")
-        .long("version")
-        .action(ArgAction::Count)
-}
-
-/// `PATH...`.
-fn path<'a>(alloc: Global) -> Arg<'a>
-    ensures rule { rule_of result ≡ path_rule }
-    ensures local { result.global ≡ false }
-{
-    Arg::new(alloc, "path")
-        .value_name("PATH")
-        .action(ArgAction::Append)
-}
-
-/// `--NAME`, which may be given again.
-fn flag<'a>(alloc: Global, name: &'a str) -> Arg<'a>
-    ensures rule { rule_of result ≡ flag_rule name.now }
-    ensures local { result.global ≡ false }
-{
-    Arg::new(alloc, name).long(name).action(ArgAction::Count)
-}
-
-/// `--NAME VALUE`.
-fn option<'a>(alloc: Global, name: &'a str, value: &'a str) -> Arg<'a>
-    ensures rule { rule_of result ≡ option_rule name.now }
-    ensures local { result.global ≡ false }
-{
-    Arg::new(alloc, name).long(name).value_name(value)
-}
-
-/// `--NAME VALUE`, of which each use adds a value.
-fn list<'a>(alloc: Global, name: &'a str, value: &'a str) -> Arg<'a>
-    ensures rule { rule_of result ≡ list_rule name.now }
-    ensures local { result.global ≡ false }
-{
-    Arg::new(alloc, name)
-        .long(name)
-        .value_name(value)
-        .action(ArgAction::Append)
+    match argument {
+        Argument::Quiet => Arg::new(alloc, "quiet").short('q').action(ArgAction::Count),
+        Argument::Jobs => Arg::new(alloc, "jobs")
+            .short('j')
+            .value_name("N")
+            .hide(true),
+        Argument::Flag(name) => Arg::new(alloc, name).long(name).action(ArgAction::Count),
+        Argument::Option(name, value) => Arg::new(alloc, name).long(name).value_name(value),
+        Argument::List(name, value) => Arg::new(alloc, name)
+            .long(name)
+            .value_name(value)
+            .action(ArgAction::Append),
+        // The id `version` is clap's own.
+        Argument::Version => Arg::new(alloc, "show-version")
+            .long("version")
+            .action(ArgAction::Count),
+        Argument::Path => Arg::new(alloc, "path")
+            .value_name("PATH")
+            .action(ArgAction::Append),
+    }
 }
