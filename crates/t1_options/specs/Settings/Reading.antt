@@ -6,6 +6,8 @@ use Rattle.toml.specs.Data.{Data, Members, member, no_members}
 use Rattle.toml.specs.Parse.{parse_document}
 use Rattle.t1_options.specs.Complaints.{settings_text}
 use Rattle.t1_options.specs.Settings.Values.{edition_in, file_below, globs_below, names_in}
+use Rattle.t1_options.specs.declared.settings.reading.Key.{Key}
+use Rattle.t1_options.specs.declared.settings.reading.Key.TheVariants.{Baseline, Edition, Except, Exclude, FailOn, Level, Only}
 use Rattle.t1_options.specs.declared.settings.reading.Settings.{Settings}
 
 -- The name of a settings file, and what it gives for each of its keys.
@@ -46,33 +48,53 @@ nothing_in file = record {
 
 -- ---- entries
 
--- Settings with the value of a key, if it is one that the key wants; or what is printed.
-abbrev pub wanted : {X : Type 0} → List ℕ → List ℕ → (X → SettingsValue) → Option X → Result SettingsValue (List ℕ)
-wanted file wants with_value None = Err (settings_text file wants)
-wanted file wants with_value (Some value) = Ok (with_value value)
+-- The key of a name.
+abbrev pub key_of : List ℕ → Option Key
+key_of name =
+    if bytes_eq name (codes "baseline") then Some Baseline
+    else (if bytes_eq name (codes "edition") then Some Edition
+    else (if bytes_eq name (codes "except") then Some Except
+    else (if bytes_eq name (codes "exclude") then Some Exclude
+    else (if bytes_eq name (codes "fail-on") then Some FailOn
+    else (if bytes_eq name (codes "level") then Some Level
+    else (if bytes_eq name (codes "only") then Some Only else None))))))
+
+-- What a key wants, as is printed where its value is nothing of it.
+abbrev pub wants_of : Key → List ℕ
+wants_of Baseline = codes "baseline wants a file"
+wants_of Edition = codes "edition wants 1 or 2"
+wants_of Except = codes "except wants codes of rules or their letters, as [\"H02\", \"Z\"]"
+wants_of Exclude = codes "exclude wants globs, as [\"old/**\"]"
+wants_of FailOn = codes "fail-on wants levels, as [\"must\", \"should\"]"
+wants_of Level = codes "level wants levels, as [\"must\", \"should\"]"
+wants_of Only = codes "only wants codes of rules or their letters, as [\"H02\", \"Z\"]"
+
+-- Settings of a file in this folder with the value of a key, if it is one that the key wants: each key sets the option
+-- of its name.
+abbrev pub with_value : List ℕ → SettingsValue → Key → Data → Option SettingsValue
+with_value folder settings Baseline value = option_map (λ file. record settings { baseline = Some file }) (file_below folder value)
+with_value folder settings Edition value = option_map (λ edition. record settings { edition = Some edition }) (edition_in value)
+with_value folder settings Except value = option_map (λ names. record settings { except = names }) (names_in value)
+with_value folder settings Exclude value = option_map (λ globs. record settings { exclude = globs }) (globs_below folder value)
+with_value folder settings FailOn value = option_map (λ names. record settings { fail_on = names }) (names_in value)
+with_value folder settings Level value = option_map (λ names. record settings { level = names }) (names_in value)
+with_value folder settings Only value = option_map (λ names. record settings { only = names }) (names_in value)
 
 abbrev pub unknown_key_text : List ℕ → List ℕ → List ℕ
 unknown_key_text file name = settings_text file (codes "unknown key " ++ name)
 
--- Settings of a file in this folder, with an entry more: each key sets the option of its name. Or what is printed where
--- the entry is wrong.
+-- Settings, if there are; or else what is printed.
+abbrev pub or_told : List ℕ → Option SettingsValue → Result SettingsValue (List ℕ)
+or_told told None = Err told
+or_told told (Some settings) = Ok settings
+
+-- Settings with an entry more of which this is the key; or what is printed where the entry is wrong.
+abbrev pub with_key : List ℕ → SettingsValue → List ℕ → Data → Option Key → Result SettingsValue (List ℕ)
+with_key folder settings name value None = Err (unknown_key_text settings.file name)
+with_key folder settings name value (Some key) = or_told (settings_text settings.file (wants_of key)) (with_value folder settings key value)
+
 abbrev pub with_entry : List ℕ → SettingsValue → List ℕ → Data → Result SettingsValue (List ℕ)
-with_entry folder settings name value =
-    if bytes_eq name (codes "baseline") then
-    wanted settings.file (codes "baseline wants a file") (λ file. record settings { baseline = Some file }) (file_below folder value)
-    else (if bytes_eq name (codes "edition") then
-    wanted settings.file (codes "edition wants 1 or 2") (λ edition. record settings { edition = Some edition }) (edition_in value)
-    else (if bytes_eq name (codes "except") then
-    wanted settings.file (codes "except wants codes of rules or their letters, as [\"H02\", \"Z\"]") (λ names. record settings { except = names }) (names_in value)
-    else (if bytes_eq name (codes "exclude") then
-    wanted settings.file (codes "exclude wants globs, as [\"old/**\"]") (λ globs. record settings { exclude = globs }) (globs_below folder value)
-    else (if bytes_eq name (codes "fail-on") then
-    wanted settings.file (codes "fail-on wants levels, as [\"must\", \"should\"]") (λ names. record settings { fail_on = names }) (names_in value)
-    else (if bytes_eq name (codes "level") then
-    wanted settings.file (codes "level wants levels, as [\"must\", \"should\"]") (λ names. record settings { level = names }) (names_in value)
-    else (if bytes_eq name (codes "only") then
-    wanted settings.file (codes "only wants codes of rules or their letters, as [\"H02\", \"Z\"]") (λ names. record settings { only = names }) (names_in value)
-    else Err (unknown_key_text settings.file name)))))))
+with_entry folder settings name value = with_key folder settings name value (key_of name)
 
 abbrev pub then_others : (SettingsValue → Result SettingsValue (List ℕ)) → Result SettingsValue (List ℕ) → Result SettingsValue (List ℕ)
 then_others others (Ok settings) = others settings

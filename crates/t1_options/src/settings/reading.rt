@@ -1,8 +1,7 @@
 //! What the text of a settings file gives.
 
-ghost use Rattle.std.specs.Prelude.{◌≡◌, ◌≤◌, None, Some, Ok, Err, IfErr, IfOk, length, string_bytes};
-ghost use Rattle.t1_options.specs.Complaints.{settings_text};
-ghost use Rattle.t1_options.specs.Settings.Reading.{HasSettings, IsWrongIn, file_in, line_at, no_toml_text, nothing_in, settings_in, settings_value, unknown_key_text, with_entry};
+ghost use Rattle.std.specs.Prelude.{◌≡◌, ◌≤◌, None, OnOk, Some, Ok, Err, IfErr, IfOk, if◌then◌else◌, is_some, length, string_bytes};
+ghost use Rattle.t1_options.specs.Settings.Reading.{HasSettings, IsWrongIn, file_in, key_of, line_at, no_toml_text, nothing_in, settings_in, settings_value, unknown_key_text, wants_of, with_entry, with_value};
 ghost use Rattle.t1_options.specs.Words.{IsUsageOr};
 ghost use Rattle.toml.specs.View.{table_view, view};
 
@@ -31,6 +30,25 @@ pub struct Settings {
     pub level: Vec<String>,
     /// `only`: codes of rules or their letters.
     pub only: Vec<String>,
+}
+
+/// A key of a settings file.
+#[derive(Clone, Copy)]
+pub enum Key {
+    /// `baseline`.
+    Baseline,
+    /// `edition`.
+    Edition,
+    /// `except`.
+    Except,
+    /// `exclude`.
+    Exclude,
+    /// `fail-on`.
+    FailOn,
+    /// `level`.
+    Level,
+    /// `only`.
+    Only,
 }
 
 /// The settings of a folder's file that has this text.
@@ -83,7 +101,7 @@ fn settings_of(
 {
     let mut settings = nothing_in(alloc, file);
     for (name, value) in table.iter() {
-        settings = with_entry(alloc, folder, settings, name.as_str(), value)?;
+        add_entry(alloc, folder, &mut settings, name.as_str(), value)?;
     }
     Ok(settings)
 }
@@ -104,99 +122,111 @@ fn nothing_in(alloc: Global, file: String) -> Settings
     }
 }
 
-/// The settings with an entry more.
-fn with_entry(
+/// Sets what an entry gives.
+fn add_entry(
     alloc: Global,
     folder: &str,
-    settings: Settings,
+    settings: &mut Settings,
     name: &str,
     value: &Value,
-) -> Result<Settings, UsageError>
-    ensures settings { IfOk result (λ more. with_entry folder.now (settings_value settings) name.now (view value.now) ≡ Ok (settings_value more)) }
-    ensures wrong { IfErr result (IsUsageOr (λ told. with_entry folder.now (settings_value settings) name.now (view value.now) ≡ Err told)) }
+) -> Result<(), UsageError>
+    ensures settings { OnOk result (with_entry folder.now (settings_value settings.old) name.now (view value.now) ≡ Ok (settings_value settings.new)) }
+    ensures wrong { IfErr result (IsUsageOr (λ told. with_entry folder.now (settings_value settings.old) name.now (view value.now) ≡ Err told)) }
 {
-    let file = settings.file.as_str();
-    if name == "baseline" {
-        let baseline = wanted(
-            alloc,
-            file,
-            "baseline wants a file",
-            file_below(alloc, folder, value)?,
-        )?;
-        Ok(Settings {
-            baseline: Some(baseline),
-            ..settings
-        })
-    } else if name == "edition" {
-        let edition = wanted(alloc, file, "edition wants 1 or 2", edition_in(value))?;
-        Ok(Settings {
-            edition: Some(edition),
-            ..settings
-        })
-    } else if name == "except" {
-        let except = wanted(
-            alloc,
-            file,
-            "except wants codes of rules or their letters, as [\"H02\", \"Z\"]",
-            names_in(alloc, value)?,
-        )?;
-        Ok(Settings { except, ..settings })
-    } else if name == "exclude" {
-        let exclude = wanted(
-            alloc,
-            file,
-            "exclude wants globs, as [\"old/**\"]",
-            globs_below(alloc, folder, value)?,
-        )?;
-        Ok(Settings {
-            exclude,
-            ..settings
-        })
-    } else if name == "fail-on" {
-        let fail_on = wanted(
-            alloc,
-            file,
-            "fail-on wants levels, as [\"must\", \"should\"]",
-            names_in(alloc, value)?,
-        )?;
-        Ok(Settings {
-            fail_on,
-            ..settings
-        })
-    } else if name == "level" {
-        let level = wanted(
-            alloc,
-            file,
-            "level wants levels, as [\"must\", \"should\"]",
-            names_in(alloc, value)?,
-        )?;
-        Ok(Settings { level, ..settings })
-    } else if name == "only" {
-        let only = wanted(
-            alloc,
-            file,
-            "only wants codes of rules or their letters, as [\"H02\", \"Z\"]",
-            names_in(alloc, value)?,
-        )?;
-        Ok(Settings { only, ..settings })
+    let Some(key) = key_of(name) else {
+        return Err(UsageError::Usage(unknown_key_text(alloc, settings.file.as_str(), name)?));
+    };
+    if set_value(alloc, folder, settings, key, value)? {
+        Ok(())
     } else {
-        Err(UsageError::Usage(unknown_key_text(alloc, file, name)?))
+        Err(UsageError::Usage(settings_text(alloc, settings.file.as_str(), wants_of(key))?))
     }
 }
 
-/// The value of a key, if it is one that the key wants: else that is reported.
-fn wanted<T: Drop>(
+/// The key of this name.
+fn key_of(name: &str) -> Option<Key>
+    ensures { result ≡ key_of name.now }
+{
+    if name == "baseline" {
+        Some(Key::Baseline)
+    } else if name == "edition" {
+        Some(Key::Edition)
+    } else if name == "except" {
+        Some(Key::Except)
+    } else if name == "exclude" {
+        Some(Key::Exclude)
+    } else if name == "fail-on" {
+        Some(Key::FailOn)
+    } else if name == "level" {
+        Some(Key::Level)
+    } else if name == "only" {
+        Some(Key::Only)
+    } else {
+        None
+    }
+}
+
+/// What is printed where the value of a key is none that it wants.
+fn wants_of(key: Key) -> &'static str
+    ensures { result.now ≡ wants_of key }
+{
+    match key {
+        Key::Baseline => "baseline wants a file",
+        Key::Edition => "edition wants 1 or 2",
+        Key::Except => "except wants codes of rules or their letters, as [\"H02\", \"Z\"]",
+        Key::Exclude => "exclude wants globs, as [\"old/**\"]",
+        Key::FailOn => "fail-on wants levels, as [\"must\", \"should\"]",
+        Key::Level => "level wants levels, as [\"must\", \"should\"]",
+        Key::Only => "only wants codes of rules or their letters, as [\"H02\", \"Z\"]",
+    }
+}
+
+/// Sets what a key gives, if its value is one that it wants; returns whether it is.
+fn set_value(
     alloc: Global,
-    file: &str,
-    wants: &str,
-    value: Option<T>,
-) -> Result<T, UsageError>
-    ensures fits { IfOk result (λ found. value ≡ Some found) }
-    ensures wrong { IfErr result (λ error. IsUsageOr (λ told. (value ≡ None) × (told ≡ settings_text file.now wants.now)) error) }
+    folder: &str,
+    settings: &mut Settings,
+    key: Key,
+    value: &Value,
+) -> Result<bool, AllocError>
+    ensures set { IfOk result (λ fits. with_value folder.now (settings_value settings.old) key (view value.now) ≡ (if fits then Some (settings_value settings.new) else None)) }
+    ensures file { OnOk result (string_bytes settings.new.file ≡ string_bytes settings.old.file) }
+{
+    match key {
+        Key::Baseline => Ok(put_some(&mut settings.baseline, file_below(alloc, folder, value)?)),
+        Key::Edition => Ok(put_some(&mut settings.edition, edition_in(value))),
+        Key::Except => Ok(put(&mut settings.except, names_in(alloc, value)?)),
+        Key::Exclude => Ok(put(&mut settings.exclude, globs_below(alloc, folder, value)?)),
+        Key::FailOn => Ok(put(&mut settings.fail_on, names_in(alloc, value)?)),
+        Key::Level => Ok(put(&mut settings.level, names_in(alloc, value)?)),
+        Key::Only => Ok(put(&mut settings.only, names_in(alloc, value)?)),
+    }
+}
+
+/// Puts a value in a place, if there is one; returns whether there is.
+fn put<T: Drop>(place: &mut T, value: Option<T>) -> bool
+    ensures { value ≡ (if result then Some place.new else None) }
 {
     match value {
-        Some(value) => Ok(value),
-        None => Err(UsageError::Usage(settings_text(alloc, file, wants)?)),
+        Some(value) => {
+            *place = value;
+            true
+        }
+        None => false,
+    }
+}
+
+/// The same, in a place that may be empty.
+fn put_some<T: Drop>(place: &mut Option<T>, value: Option<T>) -> bool
+    ensures put { value ≡ (if result then place.new else None) }
+    ensures some { result ≡ is_some value }
+{
+    match value {
+        Some(value) => {
+            *place = Some(value);
+            true
+        }
+        None => false,
     }
 }
 
