@@ -192,6 +192,7 @@ dup_turn_stays s = by_ahead (token_ahead s)
       | None ↦ Ok (pass Outside s)
       | Some t ↦ if is_number_kind t.kind then subr_at t.kind t.rest else Ok (pass Outside s)
     ]
+
     by_ahead : (r : Option Found) → dup_by r ≡ all_without (dup_by r)
     by_ahead None = refl
     by_ahead (Some t) = either_stays (is_number_kind t.kind) _ _ _ _ _ refl (subr_at_stays t.kind t.rest) refl
@@ -252,7 +253,7 @@ with_stays before (Some e) =
 
 module _ {M : Type 0} (turn other : Reader M) (ended : Refusal) (marks : Marks)
     (stays : (before : List Stated) (mode : M) (s : List ℕ)
-      → turn (value_of marks (without_notes before)) mode s ≡ all_without (other (value_of marks before) mode s)) where
+    → turn (value_of marks (without_notes before)) mode s ≡ all_without (other (value_of marks before) mode s)) where
   text_stays : (n : ℕ) (before : List Stated) (mode : M) (s : List ℕ)
       → stated_within turn ended marks n (without_notes before) mode s ≡ read_without (stated_within other ended marks n before mode s)
   unfolding stated_within
@@ -284,6 +285,7 @@ none_of f none (e ∷ es) = by_note (none_of f none es) (is_note e) refl
     of_note (size n) is = absurd (false≢true is)
     of_note (subr n bytes) is = absurd (false≢true is)
     of_note (glyph name bytes) is = absurd (false≢true is)
+
     by_note : flat_map f (without_notes es) ≡ flat_map f es → (b : Bool) → is_note e ≡ b
         → flat_map f (without_notes (e ∷ es)) ≡ f e ++ flat_map f es
     by_note more false is = rw is (ap (λ l. f e ++ l) more)

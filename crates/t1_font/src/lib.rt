@@ -51,8 +51,9 @@ pub use font::Font;
 pub use key::Key;
 pub use laws::{
     blanks_between_entries, blanks_of_sections_and_tokens, different_keys, idle_additions,
-    keys_stand_once, noted_keys_change_nothing_else, one_more_statement, reading_by_statements, repeated_keys, small_usual_font,
-    usual_clear_texts, usual_fonts, usual_private_texts, words_between_entries,
+    keys_stand_once, noted_keys_change_nothing_else, one_more_statement, reading_by_statements,
+    repeated_keys, small_usual_font, usual_clear_texts, usual_fonts, usual_private_texts,
+    words_between_entries,
 };
 pub use limit_laws::limits_of_fonts;
 pub use open_font::OpenFont;

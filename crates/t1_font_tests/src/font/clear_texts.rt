@@ -142,13 +142,19 @@ const NOTED: &[(&str, Fact)] = &[
             Value::Numbers(4, &[-10_000_000_000, 0, 5_000_000_000, 1_000_000_000_000]),
         ),
     ),
-    ("/XUID [] def", Fact::Value(Key::Xuid, Value::Numbers(0, &[]))),
+    (
+        "/XUID [] def",
+        Fact::Value(Key::Xuid, Value::Numbers(0, &[])),
+    ),
     (
         "/XUID [1] def /XUID 2 def",
         Fact::Value(Key::Xuid, Value::Number(2_000_000_000)),
     ),
     ("/XUID [1 a] def", Fact::Value(Key::Xuid, Value::Other)),
-    ("/XUID /UniqueID 5 def", Fact::Value(Key::Xuid, Value::Other)),
+    (
+        "/XUID /UniqueID 5 def",
+        Fact::Value(Key::Xuid, Value::Other),
+    ),
     (
         "/XUID /UniqueID 5 def",
         Fact::Value(Key::UniqueId, Value::Number(5_000_000_000)),
@@ -164,7 +170,10 @@ const NOTED: &[(&str, Fact)] = &[
             Value::Numbers(4, &[0, 0, 1_000_000_000, 1_000_000_000]),
         ),
     ),
-    ("/FontType /XUID 5 def", Fact::Value(Key::Xuid, Value::Absent)),
+    (
+        "/FontType /XUID 5 def",
+        Fact::Value(Key::Xuid, Value::Absent),
+    ),
     ("//XUID [1] def", Fact::Value(Key::Xuid, Value::Absent)),
     (
         "/Encoding 256 array /XUID [1] def",

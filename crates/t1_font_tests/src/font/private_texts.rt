@@ -123,10 +123,7 @@ const LANGUAGE_GROUPS: &[(&str, Fact)] = &[
         "/Subrs 1 array dup 0 1 RD x NP /LanguageGroup 0 def",
         Fact::Value(Key::LanguageGroup, Value::Number(0)),
     ),
-    (
-        "/XUID [1] def",
-        Fact::Value(Key::Xuid, Value::Absent),
-    ),
+    ("/XUID [1] def", Fact::Value(Key::Xuid, Value::Absent)),
 ];
 
 #[test]
