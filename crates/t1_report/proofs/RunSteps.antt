@@ -8,7 +8,7 @@ use Rattle.t1_char.specs.Steps.{StepView, steps_of}
 use Rattle.t1_char.specs.StepValues.{step_view, step_value}
 use Rattle.t1_char.specs.Turns.{MachineView, stepped, ended, limited, turn_at, counted_after}
 use Rattle.t1_char.proofs.TurnsTaken.{Executes, IsStepped, IsLimited, IsOver, same_count, same_turn, stepped_is, limited_is, ended_is}
-use Rattle.t1_report.specs.Checked.{CheckedFont, checked, step_limit}
+use Rattle.t1_report.specs.Checked.{CheckedFont, step_limit}
 use Rattle.t1_rules.specs.declared.mask.Mask.{Mask}
 use Rattle.t1_rules.specs.declared.rule.Rule.{Rule}
 use Rattle.t1_rules.specs.declared.watches.Watches.{Watches}
@@ -148,10 +148,6 @@ pub record IsTold (font : CheckedFont) (glyph n counted : ℕ) (step : Step) : T
 executing : (m : MachineView) (font : CheckedFont) (glyph : ℕ) → executed m ≡ font → m.glyph ≡ glyph → Executes font.edition font.value glyph m
 executing m font glyph of_font of_glyph =
     record { edition_is = ap (λ (f : CheckedFont). f.edition) of_font; font_is = ap (λ (f : CheckedFont). f.value) of_font; glyph_is = of_glyph }
-
--- A machine of the same font and edition.
-pub same_executed : (new old : MachineView) → new.font ≡ old.font → new.edition ≡ old.edition → executed new ≡ executed old
-same_executed new old font edition = ap (λ f. checked f new.edition) font ∙ ap (checked old.font) edition
 
 count_near : (limit : ℕ) (all : List StepView) (n : ℕ) → n ≤ length (take limit all) → counted_after limit all n ≡ n + 1
 count_near limit all n near = ap (λ b. if b then n else n + 1) (le-ltb (length (take limit all)) n near)

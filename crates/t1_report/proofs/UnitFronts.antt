@@ -1,14 +1,12 @@
 -- A prefix of a report within a unit: from rule to rule of a step, from step to step, and on to the next unit.
-use Rattle.std.proofs.Common.{◌≡◌, ℕ, ◌+◌, ◌<◌, ◌≤◌, inl, inr, Bool, true, false, true≢false, List, [], ◌∷◌, ◌++◌, length, refl, sym, ap, ◌∙◌, arith}
+use Rattle.std.proofs.Common.{◌≡◌, ℕ, ◌+◌, ◌<◌, ◌≤◌, inl, inr, Bool, true, false, true≢false, List, refl, sym, ap, ◌∙◌, arith}
 use Rattle.std.proofs.lemmas.Bool.{cases_lt}
 use Rattle.t1_rules.specs.declared.rule.Rule.{Rule}
-use Rattle.t1_rules.specs.Mask.{HasNoneAbove, IsLeastAbove, has}
-use Rattle.t1_rules.specs.declared.mask.Mask.{Mask}
 use Rattle.t1_rules.specs.Book.{last_number, number_of}
 use Rattle.t1_report.specs.Faults.{FaultValue}
 use Rattle.t1_report.specs.Reports.{Comes, IsReportOf, Place, spot}
 use Rattle.t1_report.specs.Private.Fronts.{IsFrontOf}
-use Rattle.t1_report.proofs.Fronts.{comes_on, fault_at, front_ends, front_on, front_with}
+use Rattle.t1_report.proofs.Fronts.{comes_on, front_ends, front_on}
 use Rattle.t1_rules.proofs.Lemmas.Book.{in_book}
 
 -- ---- the order of places
@@ -18,12 +16,6 @@ comes_up : (u s r unit step a b : ℕ) → a ≤ b → Comes (spot u s r) (spot 
 comes_up u s r unit step a b more (inl c) = inl c
 comes_up u s r unit step a b more (inr (c, inl d)) = inr (c, inl d)
 comes_up u s r unit step a b more (inr (c, inr (d, e))) = inr (c, inr (d, omega arith))
-
--- before a greater step
-comes_far : (u s r unit step step' : ℕ) → step ≤ step' → Comes (spot u s r) (spot unit step 0) → Comes (spot u s r) (spot unit step' 0)
-comes_far u s r unit step step' more (inl c) = inl c
-comes_far u s r unit step step' more (inr (c, inl d)) = inr (c, inl (omega arith))
-comes_far u s r unit step step' more (inr (c, inr (d, e))) = absurd (omega arith)
 
 -- before a number of a rule that is less, unless it is between both
 comes_back : (u s r unit step a b : ℕ) → (u ≡ unit → s ≡ step → a ≤ r → r < b → ⊥) → Comes (spot u s r) (spot unit step b)
@@ -35,17 +27,6 @@ comes_back u s r unit step a b none (inr (c, inr (d, e))) =
       | inl less ↦ inr (c, inr (d, less))
       | inr past ↦ absurd (none c d past e)
     ]
-
--- before a step that is less, unless it is between both
-comes_near : (u s r unit step step' : ℕ) → (u ≡ unit → step ≤ s → s < step' → ⊥) → Comes (spot u s r) (spot unit step' 0)
-    → Comes (spot u s r) (spot unit step 0)
-comes_near u s r unit step step' none (inl c) = inl c
-comes_near u s r unit step step' none (inr (c, inl d)) =
-    elim (cases_lt s step) [
-      | inl less ↦ inr (c, inl less)
-      | inr past ↦ absurd (none c past d)
-    ]
-comes_near u s r unit step step' none (inr (c, inr (d, e))) = absurd (omega arith)
 
 -- before the next step there are no more rules than the book has
 comes_last : (u s r unit step : ℕ) → r < last_number + 1 → Comes (spot u s r) (spot unit (step + 1) 0) → Comes (spot u s r) (spot unit step (last_number + 1))
@@ -80,10 +61,6 @@ module _ (broken : ℕ → ℕ → ℕ → Bool) (path_of : Place → List ℕ) 
   abbrev Front : ℕ → ℕ → ℕ → List FaultValue → Type 0
   Front unit step rule faults = IsFrontOf IsBroken path_of unit step rule faults
 
-  -- the rules of a set are those that are broken at a step
-  abbrev pub Agrees : Mask → ℕ → ℕ → Type 0
-  Agrees mask unit step = (n : ℕ) → has mask n ≡ broken unit step n
-
   -- what is broken at a place isn't unbroken by another name of the place
   never : (u s unit step n : ℕ) → u ≡ unit → s ≡ step → broken u s n ≡ true → broken unit step n ≡ false → ⊥
   never u s unit step n at place is none =
@@ -96,16 +73,6 @@ module _ (broken : ℕ → ℕ → ℕ → Bool) (path_of : Place → List ℕ) 
       front_on IsBroken path_of unit step 0 unit step 1 faults front (λ u s r. comes_up u s r unit step 0 1 (omega arith))
       (λ p is before. comes_back p.unit p.step (number_of p.rule) unit step 0 1
       (λ at place more less. let some = (in_book p.rule).0 in absurd (omega arith)) before)
-
-  -- from a rule number of a step on to another, where no rule of the step's set is between
-  up_to : (unit step floor next : ℕ) (mask : Mask) (faults : List FaultValue) → Front unit step (floor + 1) faults → Agrees mask unit step
-      → floor + 1 ≤ next → ((rule : Rule) → floor < number_of rule → number_of rule < next → has mask (number_of rule) ≡ false)
-      → Front unit step next faults
-  up_to unit step floor next mask faults front agrees more none =
-      front_on IsBroken path_of unit step (floor + 1) unit step next faults front (λ u s r. comes_up u s r unit step (floor + 1) next more)
-      (λ p is before. comes_back p.unit p.step (number_of p.rule) unit step (floor + 1) next
-      (λ at place past less. never p.unit p.step unit step (number_of p.rule) at place is (sym (agrees (number_of p.rule)) ∙ none p.rule (omega arith) less))
-      before)
 
   -- over a rule that isn't broken
   pub rule_passed : (unit step : ℕ) (rule : Rule) (faults : List FaultValue) → Front unit step (number_of rule) faults
@@ -123,33 +90,6 @@ module _ (broken : ℕ → ℕ → ℕ → Bool) (path_of : Place → List ℕ) 
       front_on IsBroken path_of unit step (last_number + 1) unit (step + 1) 0 faults front
       (λ u s r before. comes_on u s r unit step (last_number + 1) unit (step + 1) 0 before (inr (refl, inl (omega arith))))
       (λ p is before. comes_last p.unit p.step (number_of p.rule) unit step (let last = (in_book p.rule).1 in omega arith) before)
-
-  -- the end of a step
-  pub place_ends : (unit step floor : ℕ) (mask : Mask) (faults : List FaultValue) → Front unit step (floor + 1) faults
-      → HasNoneAbove mask floor → Agrees mask unit step → floor < last_number + 1 → Front unit (step + 1) 0 faults
-  place_ends unit step floor mask faults front none agrees low =
-      step_passed unit step faults
-      (up_to unit step floor (last_number + 1) mask faults front agrees (omega arith) (λ rule above below. none (number_of rule) above (in_book rule).1))
-
-  -- the next rule of a step
-  pub fault_more : (unit step floor : ℕ) (mask : Mask) (rule : Rule) (faults : List FaultValue) → Front unit step (floor + 1) faults
-      → IsLeastAbove mask floor rule → Agrees mask unit step
-      → Front unit step (number_of rule + 1)
-      (faults ++ fault_at (length faults + 1) (record { unit = unit; step = step; rule = rule })
-      (path_of (record { unit = unit; step = step; rule = rule })) ∷ [])
-  fault_more unit step floor mask rule faults front least agrees =
-      let above = least.greater in
-      front_with IsBroken path_of (record { unit = unit; step = step; rule = rule }) faults
-      (up_to unit step floor (number_of rule) mask faults front agrees (omega arith) (λ other more less. least.least (number_of other) more less))
-      (sym (agrees (number_of rule)) ∙ least.is_in)
-
-  -- over steps of a unit at which nothing is broken
-  pub quiet_on : (unit step step' : ℕ) (faults : List FaultValue) → Front unit step 0 faults → step ≤ step'
-      → ((s : ℕ) (rule : Rule) → step ≤ s → s < step' → broken unit s (number_of rule) ≡ false) → Front unit step' 0 faults
-  quiet_on unit step step' faults front more none =
-      front_on IsBroken path_of unit step 0 unit step' 0 faults front (λ u s r. comes_far u s r unit step step' more)
-      (λ p is before. comes_near p.unit p.step (number_of p.rule) unit step step'
-      (λ at past less. never p.unit p.step unit p.step (number_of p.rule) at refl is (none p.step p.rule past less)) before)
 
   -- to the next unit, where nothing is broken after the step
   pub unit_ends : (unit step : ℕ) (faults : List FaultValue) → Front unit step 0 faults

@@ -296,12 +296,6 @@ part_next font waivers from first unit passed checked (Waivers next) new is stil
     over Over at = (record { past = omega (arith, at); passed_are = sum; few = few }, (all, few_waivers))
 part_next font waivers from first unit passed checked Over new is still done begun few few_waivers = absurd (true≢false still)
 
-pub starts_low : (font : CheckedFont) (waivers : List Waiver) (glyph : ℕ) (part : Part) → IsPartBegun font waivers glyph 0 part → step_of_part part ≤ 1
-starts_low font waivers glyph (Font places) is = absurd is
-starts_low font waivers glyph (Glyph run) is = omega (arith, is.counted)
-starts_low font waivers glyph (Waivers next) is = elim is.near [ inl low ↦ low | inr less ↦ omega (arith, less) ]
-starts_low font waivers glyph Over is = omega arith
-
 -- It begins no later than the first reported step from a step on.
 pub starts_near : (font : CheckedFont) (waivers : List Waiver) (glyph step s : ℕ) (part : Part) → IsPartBegun font waivers glyph step part → step ≤ s → 1 ≤ s
     → step_of_part part ≤ s

@@ -1,11 +1,13 @@
 //! The report of a font, as a walk returns it.
 
-ghost use Rattle.std.specs.Prelude.{IfOk};
+ghost use Rattle.std.specs.Prelude.{◌≤◌, IfOk, length};
 ghost use Rattle.std.specs.List.{All};
 ghost use Rattle.t1_report.specs.Checked.{checked};
 ghost use Rattle.t1_report.specs.Faults.{fault_value, faults_of};
 ghost use Rattle.t1_report.specs.Lines.{IsInFont};
 ghost use Rattle.t1_report.specs.Reports.{IsReport};
+ghost use Rattle.t1_report.specs.Waivers.{largest_waivers};
+ghost use Rattle.t1_font.specs.Bounds.{most_glyphs};
 
 use crate::faults::Fault;
 use crate::waivers::Waivers;
@@ -27,6 +29,8 @@ pub fn report(
     ensures in_font { IfOk result
         (λ faults. All (λ fault. IsInFont font.now waivers.now (fault_value fault)) faults.items) }
 {
+    // The call does nothing: the proof cites what it ensures.
+    are_few(font, waivers);
     let sidebearings = Sidebearings::prepare(alloc, font, edition)?;
     let mut walk = Walk::begin(&*font, &sidebearings, &*waivers);
     let mut faults = Vec::new(alloc);
@@ -34,4 +38,13 @@ pub fn report(
         faults.push(fault)?;
     }
     Ok(faults)
+}
+
+/// Neither a font's glyphs nor waivers are so many that the numbers of faults could overflow.
+fn are_few(font: &Font<'_>, waivers: &Waivers<'_>)
+    ensures glyphs { length font.now.glyphs ≤ most_glyphs }
+    ensures waivers { length waivers.now ≤ largest_waivers }
+{
+    font.glyphs();
+    waivers.len();
 }

@@ -3,7 +3,7 @@
 -- Format, chapters 2 and 5).
 use Rattle.std.specs.Prelude.{ℕ, ◌+◌, min, max, List, [], ◌∷◌, codes, length, map, slice_index_or}
 use Rattle.t1_font.specs.declared.key.Key.{Key}
-use Rattle.t1_font.specs.declared.key.Key.TheVariants.{FontType, PaintType, UniqueId, PrivateUniqueId, Password, MinFeature, LenIv, BlueValues, OtherBlues, FamilyBlues, FamilyOtherBlues, BlueScale, BlueShift, BlueFuzz, StdHw, StdVw, StemSnapH, StemSnapV}
+use Rattle.t1_font.specs.declared.key.Key.TheVariants.{FontType, PaintType, UniqueId, PrivateUniqueId, Password, MinFeature, LenIv, BlueValues, OtherBlues, FamilyBlues, FamilyOtherBlues, BlueScale, BlueShift, BlueFuzz, StdHw, StdVw, StemSnapH, StemSnapV, FontMatrix, FontBBox, Xuid, LanguageGroup}
 use Rattle.t1_font.specs.Keys.{index_of}
 use Rattle.t1_font.specs.Fonts.{FontValue}
 use Rattle.t1_font.specs.Values.{Value, absent}
@@ -32,7 +32,7 @@ subrs_key = 20
 abbrev pub glyphs_key : ℕ
 glyphs_key = 21
 
--- The number of a plain key.
+-- The number of a plain key. No rule speaks of the noted ones, whose numbers are past the last.
 abbrev pub key_number : Key → ℕ
 key_number FontType = 1
 key_number PaintType = 2
@@ -52,6 +52,10 @@ key_number StdHw = 16
 key_number StdVw = 17
 key_number StemSnapH = 18
 key_number StemSnapV = 19
+key_number FontMatrix = 22
+key_number FontBBox = 23
+key_number Xuid = 24
+key_number LanguageGroup = 25
 
 -- What a font's plain key has.
 abbrev pub value_at : FontValue → Key → Value

@@ -122,12 +122,14 @@ fn list_places(key: Key) -> u32
     list_limit_of(key) as u32 + 1
 }
 
-/// How many of a plain key: one, for what is said of it as a whole, unless it is a list. No rule speaks of lenIV.
+/// How many of a plain key: one, for what is said of it as a whole, unless it is a list. No rule speaks of lenIV, nor of
+/// noted keys.
 fn value_places(key: Key) -> u32
     ensures { (font : FontValue) → result ≡ places_of font (key_number key) }
 {
     match key {
         Key::LenIv => 0,
+        Key::FontMatrix | Key::FontBBox | Key::Xuid | Key::LanguageGroup => 0,
         Key::BlueValues => list_places(Key::BlueValues),
         Key::OtherBlues => list_places(Key::OtherBlues),
         Key::FamilyBlues => list_places(Key::FamilyBlues),

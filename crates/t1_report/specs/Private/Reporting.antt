@@ -1,5 +1,5 @@
 -- What the watchers have seen of a glyph's steps, and the step that follows.
-use Rattle.std.specs.Prelude.{◌≡◌, ℕ, ◌+◌, ◌≤◌, List, length}
+use Rattle.std.specs.Prelude.{◌≡◌, ◌+◌, ◌≤◌, List, length}
 use Rattle.t1_char.specs.declared.edition.Edition.{Edition}
 use Rattle.t1_char.specs.Editions.{limit_of}
 use Rattle.t1_char.specs.declared.step.Step.{Step}

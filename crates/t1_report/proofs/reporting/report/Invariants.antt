@@ -5,12 +5,12 @@ use Rattle.t1_report.proofs.GivenFaults.{IsGiven}
 use Rattle.t1_report.proofs.HasReport.{has_report}
 use Rattle.t1_report.proofs.reporting.report.Given as goal
 
-abbrev pub invariant-loop-walk : goal.invariant-loop-walk
-invariant-loop-walk l = record {
-  font : l.walk.font ≡ checked l.font l.edition;
+abbrev pub invariant-loop-fault : goal.invariant-loop-fault
+invariant-loop-fault l = record {
+  font : l.walk.font ≡ checked l.font l.fn.edition;
   waivers : l.walk.waivers ≡ l.waivers;
-  given : IsGiven (checked l.font l.edition) l.waivers (faults_of l.faults.items) (length l.faults.items) l.walk.mark;
+  given : IsGiven (checked l.font l.fn.edition) l.waivers (faults_of l.faults.items) (length l.faults.items) l.walk.mark;
 }
 
-abbrev pub decreases-loop-walk : goal.decreases-loop-walk
-decreases-loop-walk l = length (has_report (checked l.font l.edition) l.waivers).0 - length l.faults.items
+abbrev pub decreases-loop-fault : goal.decreases-loop-fault
+decreases-loop-fault l = length (has_report (checked l.font l.fn.edition) l.waivers).0 - length l.faults.items

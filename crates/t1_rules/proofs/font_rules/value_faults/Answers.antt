@@ -81,3 +81,27 @@ returns-in-StemSnapV c =
     told_at (key_number c.args.key) (key_number keys.StemSnapV) (snap_tests c.args.font.now keys.StemSnapV keys.StdVw c.args.index)
     c.snap_faults-in-StemSnapV.result
     c.args.font.now c.args.index (ap key_number c.in-StemSnapV.is) c.snap_faults-in-StemSnapV.ensures (λ n. refl)
+
+pub returns-in-FontMatrix : goal.returns-in-FontMatrix
+unfolding font_rules
+returns-in-FontMatrix c =
+    told_at (key_number c.args.key) (key_number keys.FontMatrix) [] c.empty-in-FontMatrix.result c.args.font.now c.args.index
+    (ap key_number c.in-FontMatrix.is) c.empty-in-FontMatrix.ensures (λ n. refl)
+
+pub returns-in-FontBBox : goal.returns-in-FontBBox
+unfolding font_rules
+returns-in-FontBBox c =
+    told_at (key_number c.args.key) (key_number keys.FontBBox) [] c.empty-in-FontBBox.result c.args.font.now c.args.index
+    (ap key_number c.in-FontBBox.is) c.empty-in-FontBBox.ensures (λ n. refl)
+
+pub returns-in-Xuid : goal.returns-in-Xuid
+unfolding font_rules
+returns-in-Xuid c =
+    told_at (key_number c.args.key) (key_number keys.Xuid) [] c.empty-in-Xuid.result c.args.font.now c.args.index
+    (ap key_number c.in-Xuid.is) c.empty-in-Xuid.ensures (λ n. refl)
+
+pub returns-in-LanguageGroup : goal.returns-in-LanguageGroup
+unfolding font_rules
+returns-in-LanguageGroup c =
+    told_at (key_number c.args.key) (key_number keys.LanguageGroup) [] c.empty-in-LanguageGroup.result c.args.font.now c.args.index
+    (ap key_number c.in-LanguageGroup.is) c.empty-in-LanguageGroup.ensures (λ n. refl)
