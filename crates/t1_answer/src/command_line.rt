@@ -1,13 +1,13 @@
 //! The command line, by clap.
 
-ghost use Rattle.std.specs.Prelude.{◌≡◌, map, IfOk, IfErr};
-ghost use Rattle.clap.specs.Words.{app_of};
+ghost use Rattle.std.specs.Prelude.{◌≡◌, List, map, IfOk, IfErr};
+ghost use Rattle.clap.specs.Words.{Text, app_of};
 ghost use Rattle.t1_answer.specs.CommandLine.{t1check};
 ghost use Rattle.t1_answer.specs.Words.{AreTaken};
-ghost use Rattle.t1_run.specs.Words.{AreRefused};
+ghost use Rattle.t1_run.specs.Words.{AreRefused, IsParsedBy};
 
 use crate::asked::Options;
-use clap::Command;
+use clap::{ArgMatches, Command};
 use std::alloc::{AllocError, Global};
 use std::convert::AsStr;
 use t1_run::{Argument, ArgumentKind, UsageError, edition, number, owned, parse, with_arguments};
@@ -84,6 +84,14 @@ pub fn options<S: AsStr>(alloc: Global, words: &[S]) -> Result<Options, UsageErr
     ensures refused { IfErr result (AreRefused t1check (map S.text words.now)) }
 {
     let matches = parse(alloc, command(alloc)?, words)?;
+    Ok(options_in(alloc, &matches)?)
+}
+
+/// The options that are found in words.
+fn options_in(alloc: Global, matches: &ArgMatches<'_>) -> Result<Options, AllocError>
+    requires { (words : List Text) × IsParsedBy t1check words matches.now }
+    ensures { (words : List Text) → IsParsedBy t1check words matches.now → IfOk result (AreTaken words) }
+{
     let after = number(matches.get_str("after")).unwrap_or(0);
     let max = number(matches.get_str("max"));
     let trace = owned(alloc, matches.get_str("trace"))?;
