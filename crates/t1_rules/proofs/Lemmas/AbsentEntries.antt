@@ -5,7 +5,7 @@ use Rattle.std.proofs.lemmas.Bool.{ne_eqb}
 use Rattle.t1_font.specs.Fonts.{FontValue}
 use Rattle.t1_font.specs.Values.{absent}
 use Rattle.t1_font.specs.declared.key.Key.{Key}
-use Rattle.t1_font.specs.declared.key.Key.TheVariants.{FontType, PaintType, UniqueId, PrivateUniqueId, Password, MinFeature, LenIv, BlueValues, OtherBlues, FamilyBlues, FamilyOtherBlues, BlueScale, BlueShift, BlueFuzz, StdHw, StdVw, StemSnapH, StemSnapV}
+use Rattle.t1_font.specs.declared.key.Key.TheVariants.{FontType, PaintType, UniqueId, PrivateUniqueId, Password, MinFeature, LenIv, BlueValues, OtherBlues, FamilyBlues, FamilyOtherBlues, BlueScale, BlueShift, BlueFuzz, StdHw, StdVw, StemSnapH, StemSnapV, FontMatrix, FontBBox, Xuid, LanguageGroup}
 use Rattle.t1_rules.specs.Keys.{key_number, value_at}
 use Rattle.t1_rules.specs.FontRules.Values.{first_in}
 use Rattle.t1_rules.specs.FontRules.Hints.{numbers_at}
@@ -55,3 +55,7 @@ absent_is_fine font StemSnapH index n none past =
 absent_is_fine font StemSnapV index n none past =
     let among = not_among_none (first_in 1 (value_at font StdVw)) in
     rw (none, among, and-false (index == 0), and-false (index == 12), falls_past [] index (omega arith)) refl
+absent_is_fine font FontMatrix index n none past = refl
+absent_is_fine font FontBBox index n none past = refl
+absent_is_fine font Xuid index n none past = refl
+absent_is_fine font LanguageGroup index n none past = refl
