@@ -174,7 +174,6 @@ const NOTED: &[(&str, Fact)] = &[
         "/FontType /XUID 5 def",
         Fact::Value(Key::Xuid, Value::Absent),
     ),
-    ("//XUID [1] def", Fact::Value(Key::Xuid, Value::Absent)),
     (
         "/Encoding 256 array /XUID [1] def",
         Fact::Value(Key::Xuid, Value::Absent),
