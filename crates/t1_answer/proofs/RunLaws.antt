@@ -13,14 +13,14 @@ use Rattle.t1_answer.specs.Shows.{Shows}
 use Rattle.t1_answer.specs.Shows.Shows.{no_glyph, no_room, reported as was_reported, traced as was_traced}
 use Rattle.t1_answer.specs.Traces.{trace_of}
 use Rattle.t1_answer.specs.Words.{checking}
-use Rattle.t1_run.specs.Opening.{Sinks}
+use Rattle.t1_run.specs.Opening.{Sinks, Transition}
 use Rattle.t1_run.specs.Programs.{Ends, EndsWith}
 use Rattle.t1_run.specs.Programs.Ends.{font_read, font_refused, no_memory as was_no_memory, read_failed as was_read_failed}
 use Rattle.t1_run.specs.Programs.EndsWith.{no_room as no_waiver_room, shown, waivers_refused, waivers_unread}
 use Rattle.t1_run.specs.Telling.Gives.{given, ungiven}
 use Rattle.t1_run.specs.Telling.Tells.{told, untold}
 use Rattle.t1_run.specs.FontFiles.{font_of}
-use Rattle.t1_answer.specs.Laws.Runs.{Answered, RunsKeepPromises, WentOut, IfKnown, IsSpared}
+use Rattle.t1_answer.specs.Laws.Runs.{Answered, IfKnown, IsSpared, ReadFailed, RunsKeepPromises, WentOut}
 use Rattle.t1_answer.specs.Told.{program, told_of, unread_status}
 use Rattle.t1_report.specs.Waivers.{Waiver}
 use Rattle.std.specs.Option.{is_some}
@@ -36,31 +36,27 @@ use Rattle.t1_run.specs.Telling.{Gives, Tells}
 use Rattle.t1_run.specs.WaiverFiles.{AreWaived, IfWaived, IsHeard}
 
 -- The facts one by one, before they are grouped by the status.
-record Facts (options : Options) (left : Option (List ℕ)) (failed : Bool)
-    (waivers waivers' : SourceState) (out out' errors errors' : SinkState) (result : Status) : Type 0 where
-  answer : result ≢ Failed → IfKnown options left waivers.left
-      (Answered options result out out' errors errors')
-  flushed : (result ≡ Clean) ⊎ (result ≡ Faults) → (out'.flushed ≡ true)
-      × (out'.flushes ≡ one_more out.flushes)
-  untouched : result ≡ Refused → out' ≡ out
-  nothing_waits : result ≢ Failed → out.flushed ≡ true → out'.flushed ≡ true
-  broken :
-      ((failed ≡ true) ⊎ (waivers'.failed ≡ true)) ⊎ ((out'.failed ≡ true) ⊎ (errors'.failed ≡ true))
-      → result ≡ Failed
-  read_failed : (failed ≡ true) ⊎ (waivers'.failed ≡ true) → errors'.failed ≡ false
-      → Appends errors.written errors'.written (read_failed_line program)
-  write_failed : out'.failed ≡ true → errors'.failed ≡ false
-      → Appends errors.written errors'.written (write_failed_line program)
+record Facts (options : Options) (source waivers : Transition SourceState) (sinks : Transition Sinks) (result : Status) : Type 0 where
+  answer : result ≢ Failed → IfKnown options source.old.left waivers.old.left (Answered options result sinks)
+  flushed : (result ≡ Clean) ⊎ (result ≡ Faults)
+      → (sinks.new.out.flushed ≡ true) × (sinks.new.out.flushes ≡ one_more sinks.old.out.flushes)
+  untouched : result ≡ Refused → sinks.new.out ≡ sinks.old.out
+  nothing_waits : result ≢ Failed → sinks.old.out.flushed ≡ true → sinks.new.out.flushed ≡ true
+  broken : ReadFailed source waivers ⊎ ((sinks.new.out.failed ≡ true) ⊎ (sinks.new.errors.failed ≡ true)) → result ≡ Failed
+  read_failed : ReadFailed source waivers → sinks.new.errors.failed ≡ false
+      → Appends sinks.old.errors.written sinks.new.errors.written (read_failed_line program)
+  write_failed : sinks.new.out.failed ≡ true → sinks.new.errors.failed ≡ false
+      → Appends sinks.old.errors.written sinks.new.errors.written (write_failed_line program)
   no_memory :
-      result ≡ Failed → failed ≡ false → waivers'.failed ≡ false → out'.failed ≡ false
-      → errors'.failed ≡ false
-      → Appends errors.written errors'.written (out_of_memory_line program)
-      ⊎ IfKnown options left waivers.left (Answered options result out out' errors errors')
-  unwritten : result ≡ Failed → out'.failed ≡ false → Keeps out.written out'.written
-  unread : (failed ≡ true) ⊎ (waivers'.failed ≡ true) → out'.failed ≡ false
-  front : out'.failed ≡ true → IfKnown options left waivers.left (WentOut options out out')
-  unflushed : result ≡ Failed → out'.flushes ≡ out.flushes
-  spared : IsSpared options left failed waivers waivers'
+      result ≡ Failed → source.new.failed ≡ false → waivers.new.failed ≡ false → sinks.new.out.failed ≡ false
+      → sinks.new.errors.failed ≡ false
+      → Appends sinks.old.errors.written sinks.new.errors.written (out_of_memory_line program)
+      ⊎ IfKnown options source.old.left waivers.old.left (Answered options result sinks)
+  unwritten : result ≡ Failed → sinks.new.out.failed ≡ false → Keeps sinks.old.out.written sinks.new.out.written
+  unread : ReadFailed source waivers → sinks.new.out.failed ≡ false
+  front : sinks.new.out.failed ≡ true → IfKnown options source.old.left waivers.old.left (WentOut options sinks)
+  unflushed : result ≡ Failed → sinks.new.out.flushes ≡ sinks.old.out.flushes
+  spared : IsSpared options source waivers
 
 -- ---- statuses
 
@@ -155,25 +151,37 @@ untraced f (Some t) waive asked = absurd (true≢false (sym asked))
 
 -- ---- a report or a trace
 
-module _ (options : Options) (source source' waivers waivers' : SourceState) (sinks sinks' : Sinks) (result : Status)
-    (waivers_sound : waivers.failed ≡ false) (sound : sinks.out.failed ≡ false) (errors_sound : sinks.errors.failed ≡ false) where
+module _ (options : Options) (source texts : Transition SourceState) (sinks : Transition Sinks) (result : Status)
+    (waivers_sound : texts.old.failed ≡ false) (sound : sinks.old.out.failed ≡ false) (errors_sound : sinks.old.errors.failed ≡ false) where
   abbrev left : Option (List ℕ)
-  left = source.left
+  left = source.old.left
 
   abbrev failed : Bool
-  failed = source'.failed
+  failed = source.new.failed
+
+  abbrev waivers : SourceState
+  waivers = texts.old
+
+  abbrev waivers' : SourceState
+  waivers' = texts.new
 
   abbrev out : SinkState
-  out = sinks.out
+  out = sinks.old.out
 
   abbrev out' : SinkState
-  out' = sinks'.out
+  out' = sinks.new.out
 
   abbrev errors : SinkState
-  errors = sinks.errors
+  errors = sinks.old.errors
 
   abbrev errors' : SinkState
-  errors' = sinks'.errors
+  errors' = sinks.new.errors
+
+  abbrev KeepsFacts : Type 0
+  KeepsFacts = Facts options source texts sinks result
+
+  abbrev Spared : Type 0
+  Spared = IsSpared options source texts
 
   abbrev Answering : Answer → Type 0
   Answering answer = IfKnown options left waivers.left (λ read waived. IsAnswerTo options read waived answer)
@@ -203,19 +211,19 @@ module _ (options : Options) (source source' waivers waivers' : SourceState) (si
 
   answered : (answer : Answer) → Answering answer → result ≡ answer.status → Appends out.written out'.written answer.output
       → Appends errors.written errors'.written answer.told
-      → IfKnown options left waivers.left (Answered options result out out' errors errors')
+      → IfKnown options left waivers.left (Answered options result sinks)
   answered answer is status output line =
-      known-weaker answer (Answered options result out out' errors errors')
+      known-weaker answer (Answered options result sinks)
       (λ read waived so. (answer, (so, record { status = status; output = output; told = line }))) is
 
   -- ---- the source of waivers
 
   -- no read failed
-  fine : failed ≡ false → waivers'.failed ≡ waivers.failed → (failed ≡ true) ⊎ (waivers'.failed ≡ true) → ⊥
+  fine : failed ≡ false → waivers'.failed ≡ waivers.failed → ReadFailed source texts → ⊥
   fine unfailed kept (inl source) = true≢false (sym source ∙ unfailed)
   fine unfailed kept (inr other) = true≢false (sym other ∙ kept ∙ waivers_sound)
 
-  spared_whole : waivers' ≡ waivers → IsSpared options left failed waivers waivers'
+  spared_whole : waivers' ≡ waivers → Spared
   spared_whole same = record {
     unasked = λ unasked. same;
     unread = λ source. same;
@@ -227,7 +235,7 @@ module _ (options : Options) (source source' waivers waivers' : SourceState) (si
   never_refused font are = of-read (λ r. (reason : Reason) → r ≡ Err reason → waivers' ≡ waivers) left (Ok font) are (λ reason is. cc)
 
   spared_by : (font : FontValue) → AreRead left (Ok font) → failed ≡ false → (asks_waivers options ≡ false → waivers' ≡ waivers)
-      → IsSpared options left failed waivers waivers'
+      → Spared
   spared_by font are unfailed unasked =
       record { unasked = unasked; unread = λ source. absurd (true≢false (sym source ∙ unfailed)); refused = never_refused font are }
 
@@ -235,10 +243,10 @@ module _ (options : Options) (source source' waivers waivers' : SourceState) (si
   same_failed same = ap (λ (s : SourceState). s.failed) same
 
   -- an answer that was printed whole, with a status other than 2 and 3
-  after_given : (answer : Answer) → Answering answer → failed ≡ false → waivers'.failed ≡ waivers.failed → IsSpared options left failed waivers waivers'
+  after_given : (answer : Answer) → Answering answer → failed ≡ false → waivers'.failed ≡ waivers.failed → Spared
       → answer.told ≡ []
-      → (answer.status ≡ Refused → ⊥) → (answer.status ≡ Failed → ⊥) → Gives program answer.output answer.status out out' errors errors' result
-      → Facts options left failed waivers waivers' out out' errors errors' result
+      → (answer.status ≡ Refused → ⊥) → (answer.status ≡ Failed → ⊥) → Gives program answer.output answer.status sinks.old sinks.new result
+      → KeepsFacts
   after_given answer is_answer unfailed kept_source spared silent never_two never_three (given wrote kept is) =
       let out_sound : out'.failed ≡ false = wrote.failed ∙ sound in
       record {
@@ -274,7 +282,7 @@ module _ (options : Options) (source source' waivers waivers' : SourceState) (si
         no_memory = λ failure source other output. absurd (true≢false (sym broke.failed ∙ output));
         unwritten = λ failure output. absurd (true≢false (sym broke.failed ∙ output));
         unread = λ source. absurd (fine unfailed kept_source source);
-        front = λ output. known-weaker answer (WentOut options out out') (λ read waived so. (answer, (so, broke.front))) is_answer;
+        front = λ output. known-weaker answer (WentOut options sinks) (λ read waived so. (answer, (so, broke.front))) is_answer;
         unflushed = λ failure. broke.flushes;
         spared = spared;
       }
@@ -286,10 +294,10 @@ module _ (options : Options) (source source' waivers waivers' : SourceState) (si
   out_same same = ap (λ (s : SinkState). s.failed) same ∙ sound
 
   -- an answer with nothing on the output, status 2 or 3
-  after_told : (answer : Answer) → Answering answer → failed ≡ false → waivers'.failed ≡ waivers.failed → IsSpared options left failed waivers waivers'
+  after_told : (answer : Answer) → Answering answer → failed ≡ false → waivers'.failed ≡ waivers.failed → Spared
       → answer.output ≡ []
       → (answer.status ≡ Refused) ⊎ (answer.status ≡ Failed) → out' ≡ out → Tells answer.told answer.status errors errors' result
-      → Facts options left failed waivers waivers' out out' errors errors' result
+      → KeepsFacts
   after_told answer is_answer unfailed kept_source spared silent kind same tells =
       let two_or_three : (result ≡ Refused) ⊎ (result ≡ Failed) = elim (told-status answer.told answer.status errors errors' result tells) [
         | inl is ↦ elim kind [ inl two ↦ inl (is ∙ two) | inr three ↦ inr (is ∙ three) ]
@@ -324,9 +332,9 @@ module _ (options : Options) (source source' waivers waivers' : SourceState) (si
       status_where_whole whole (untold broke is) = absurd (true≢false (sym broke.failed ∙ whole))
 
   -- a read failed, of the font or of the waivers
-  after_failed_read : (failed ≡ true) ⊎ (waivers'.failed ≡ true) → IsSpared options left failed waivers waivers' → out' ≡ out
+  after_failed_read : ReadFailed source texts → Spared → out' ≡ out
       → Tells (read_failed_line program) Failed errors errors' result
-      → Facts options left failed waivers waivers' out out' errors errors' result
+      → KeepsFacts
   after_failed_read broken spared same tells =
       let three : result ≡ Failed = told-failed (read_failed_line program) errors errors' result tells in
       record {
@@ -345,9 +353,9 @@ module _ (options : Options) (source source' waivers waivers' : SourceState) (si
         spared = spared;
       }
 
-  after_no_memory : failed ≡ false → waivers'.failed ≡ waivers.failed → IsSpared options left failed waivers waivers' → out' ≡ out
+  after_no_memory : failed ≡ false → waivers'.failed ≡ waivers.failed → Spared → out' ≡ out
       → Tells (out_of_memory_line program) Failed errors errors' result
-      → Facts options left failed waivers waivers' out out' errors errors' result
+      → KeepsFacts
   after_no_memory unfailed kept_source spared same tells =
       let three : result ≡ Failed = told-failed (out_of_memory_line program) errors errors' result tells in
       record {
@@ -373,8 +381,8 @@ module _ (options : Options) (source source' waivers waivers' : SourceState) (si
 
   after_shown : (font : FontValue) → AreRead left (Ok font) → failed ≡ false → (waived : List Waiver)
       → AreWaived (asks_waivers options) waivers.left (Ok waived) → IsHeard (asks_waivers options) waivers waivers'
-      → Shows options font waived sinks sinks' result
-      → Facts options left failed waivers waivers' out out' errors errors' result
+      → Shows options font waived sinks.old sinks.new result
+      → KeepsFacts
   after_shown font are unfailed waived is heard (was_reported none faults report gives) =
       let answer = reported font waived (selection options faults) in
       after_given answer (of-both answer (Ok font) (Ok waived) are is
@@ -396,8 +404,8 @@ module _ (options : Options) (source source' waivers waivers' : SourceState) (si
   after_shown font are unfailed waived is heard (no_room none same tells) =
       after_no_memory unfailed heard.failed (spared_by font are unfailed heard.unasked) same tells
 
-  after_font : (font : FontValue) → AreRead left (Ok font) → failed ≡ false → EndsWith checking options font waivers waivers' sinks sinks' result
-      → Facts options left failed waivers waivers' out out' errors errors' result
+  after_font : (font : FontValue) → AreRead left (Ok font) → failed ≡ false → EndsWith checking options font texts sinks result
+      → KeepsFacts
   after_font font are unfailed (shown waived is heard shows) = after_shown font are unfailed waived is heard shows
   after_font font are unfailed (waivers_refused reason is heard same tells) =
       let answer = refused (told_of reason) in
@@ -412,7 +420,7 @@ module _ (options : Options) (source source' waivers waivers' : SourceState) (si
 
   after_refusal : (reason : Reason) → AreRead left (Err reason) → failed ≡ false → waivers' ≡ waivers → out' ≡ out
       → Tells (told_of reason) (unread_status reason) errors errors' result
-      → (unread_status reason ≡ Refused) ⊎ (failure_of reason ≡ failure.Memory) → Facts options left failed waivers waivers' out out' errors errors' result
+      → (unread_status reason ≡ Refused) ⊎ (failure_of reason ≡ failure.Memory) → KeepsFacts
   after_refusal reason are unfailed untouched same tells (inl two) =
       after_told (refused (told_of reason)) (of-font (refused (told_of reason)) (Err reason) are (λ waived. refl)) unfailed (same_failed untouched)
       (spared_whole untouched) refl (inl refl) same
@@ -426,24 +434,24 @@ kind_of : (code : Option RefusalCode) → (failure_status (refused_by code) ≡ 
 kind_of (Some code) = inl refl
 kind_of None = inr refl
 
-facts : (options : Options) (source source' v v' : SourceState) (sinks sinks' : Sinks) (result : Status)
-    → v.failed ≡ false → sinks.out.failed ≡ false → sinks.errors.failed ≡ false → Ends checking options source source' v v' sinks sinks' result
-    → Facts options source.left source'.failed v v' sinks.out sinks'.out sinks.errors sinks'.errors result
-facts options source source' v v' sinks sinks' result v_sound sound errors_sound (font_read font are unfailed ends) =
-    after_font options source source' v v' sinks sinks' result v_sound sound errors_sound font are unfailed ends
-facts options source source' v v' sinks sinks' result v_sound sound errors_sound (font_refused reason are unfailed untouched same tells) =
-    after_refusal options source source' v v' sinks sinks' result v_sound sound errors_sound reason are unfailed untouched
-    same tells (kind_of (refusal_code_of reason))
-facts options source source' v v' sinks sinks' result v_sound sound errors_sound (was_read_failed broken untouched same tells) =
-    after_failed_read options source source' v v' sinks sinks' result v_sound sound errors_sound (inl broken)
-    (spared_whole options source source' v v' sinks sinks' result v_sound sound errors_sound untouched) same tells
-facts options source source' v v' sinks sinks' result v_sound sound errors_sound (was_no_memory unfailed untouched same tells) =
-    after_no_memory options source source' v v' sinks sinks' result v_sound sound errors_sound unfailed (ap (λ (s : SourceState). s.failed) untouched)
-    (spared_whole options source source' v v' sinks sinks' result v_sound sound errors_sound untouched) same tells
+facts : (options : Options) (source texts : Transition SourceState) (sinks : Transition Sinks) (result : Status)
+    → texts.old.failed ≡ false → sinks.old.out.failed ≡ false → sinks.old.errors.failed ≡ false → Ends checking options source texts sinks result
+    → Facts options source texts sinks result
+facts options source texts sinks result texts_sound sound errors_sound (font_read font are unfailed ends) =
+    after_font options source texts sinks result texts_sound sound errors_sound font are unfailed ends
+facts options source texts sinks result texts_sound sound errors_sound (font_refused reason are unfailed untouched same tells) =
+    after_refusal options source texts sinks result texts_sound sound errors_sound reason are unfailed untouched same tells
+    (kind_of (refusal_code_of reason))
+facts options source texts sinks result texts_sound sound errors_sound (was_read_failed broken untouched same tells) =
+    after_failed_read options source texts sinks result texts_sound sound errors_sound (inl broken)
+    (spared_whole options source texts sinks result texts_sound sound errors_sound untouched) same tells
+facts options source texts sinks result texts_sound sound errors_sound (was_no_memory unfailed untouched same tells) =
+    after_no_memory options source texts sinks result texts_sound sound errors_sound unfailed (ap (λ (s : SourceState). s.failed) untouched)
+    (spared_whole options source texts sinks result texts_sound sound errors_sound untouched) same tells
 
 pub kept : RunsKeepPromises
-kept options source source' v v' sinks sinks' result v_sound sound errors_sound ends =
-    let f = facts options source source' v v' sinks sinks' result v_sound sound errors_sound ends in
+kept options source texts sinks result texts_sound sound errors_sound ends =
+    let f = facts options source texts sinks result texts_sound sound errors_sound ends in
     record {
       broken = f.broken;
       decided = λ went. record { answer = f.answer went; nothing_waits = f.nothing_waits went };

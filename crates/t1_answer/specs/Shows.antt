@@ -21,13 +21,12 @@ use Rattle.t1_run.specs.Telling.{Gives, Tells}
 pub data Shows (options : Options) (font : FontValue) (waivers : List Waiver) (sinks sinks' : Sinks) (result : Status) : Type 0 where
   reported :
       options.trace ≡ None → (faults : List FaultValue) → IsReport (checked font options.edition) waivers faults
-      → Gives program (lines_of font waivers (selection options faults))
-      (status_of (selection options faults)) sinks.out sinks'.out sinks.errors sinks'.errors result
+      → Gives program (lines_of font waivers (selection options faults)) (status_of (selection options faults)) sinks sinks' result
       → Shows options font waivers sinks sinks' result
   traced :
       (name : List ℕ) → option_map string_bytes options.trace ≡ Some name → (glyph : ℕ)
       → glyph_named font name ≡ Some glyph
-      → Gives program (trace_of options.edition font glyph) Clean sinks.out sinks'.out sinks.errors sinks'.errors result
+      → Gives program (trace_of options.edition font glyph) Clean sinks sinks' result
       → Shows options font waivers sinks sinks' result
   no_glyph :
       (name : List ℕ) → option_map string_bytes options.trace ≡ Some name → glyph_named font name ≡ None

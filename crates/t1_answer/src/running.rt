@@ -87,7 +87,8 @@ fn give_report<'a, W: Sink, E: Sink>(
     requires edition { sidebearings.now.edition ≡ options.now.edition }
     ensures { (faults : List FaultValue) → IsReport (checked font.now options.now.edition) waivers.now faults →
         Gives program (lines_of font.now waivers.now (selection options.now faults)) (status_of (selection options.now faults))
-        (W.state out.old) (W.state out.new) (E.state errors.old) (E.state errors.new) result }
+        (record { out = W.state out.old; errors = E.state errors.old })
+        (record { out = W.state out.new; errors = E.state errors.new }) result }
 {
     match write_report(out, font, sidebearings, waivers, options) {
         Ok(status) => status,
@@ -105,7 +106,8 @@ fn give_trace<'a, W: Sink, E: Sink>(
 ) -> Status
     requires { glyph < length font.now.glyphs }
     ensures { Gives program (trace_of edition font.now glyph) Status.Clean
-        (W.state out.old) (W.state out.new) (E.state errors.old) (E.state errors.new) result }
+        (record { out = W.state out.old; errors = E.state errors.old })
+        (record { out = W.state out.new; errors = E.state errors.new }) result }
 {
     match write_trace(out, font, glyph, edition) {
         Ok(()) => Status::Clean,

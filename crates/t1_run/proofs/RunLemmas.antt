@@ -13,7 +13,7 @@ use Rattle.t1_run.specs.Failures.{failure_line, failure_of, failure_status, out_
 use Rattle.t1_run.specs.Input.{AreAll, AreUnread, StopsAt}
 use Rattle.t1_run.specs.Input.AreUnread.{too_large, read_failed as broken, no_memory as unroomed}
 use Rattle.t1_run.specs.Input.StopsAt.{failure as fails, no_memory as runs_out, past_limit}
-use Rattle.t1_run.specs.Opening.{Sinks}
+use Rattle.t1_run.specs.Opening.{Sinks, Transition}
 use Rattle.t1_run.specs.Programs.{Ends, EndsWith, Meaning, asks_waivers}
 use Rattle.t1_run.specs.Programs.Ends.{font_refused, no_memory, read_failed}
 use Rattle.t1_run.specs.Programs.EndsWith.{no_room, shown, waivers_refused, waivers_unread}
@@ -27,17 +27,29 @@ use Rattle.t1_run.proofs.FilesRead.{are_read, font_past, not_asked}
 
 -- ---- the font
 
--- A file that isn't read to its end.
-pub ungathered_ends : {Options : Type 0} (program : Meaning Options) (options : Options) (old new v : SourceState) (sinks sinks' : Sinks)
-    (failure : Failure) (result : Status) → old.failed ≡ false → AreUnread 16777216 FontTooLarge old new failure → sinks'.out ≡ sinks.out
-    → Tells (failure_line program.name failure) (failure_status failure) sinks.errors sinks'.errors result
-    → Ends program options old new v v sinks sinks' result
-ungathered_ends program options old new v sinks sinks' failure result sound (too_large bytes consumed large kept is) same tells =
-    font_refused FontTooLarge (font_past old.left new.left bytes consumed large) (kept ∙ sound) refl same (rw is at tells)
-ungathered_ends program options old new v sinks sinks' failure result sound (broken failed is) same tells =
-    read_failed failed refl same (rw is at tells)
-ungathered_ends program options old new v sinks sinks' failure result sound (unroomed kept is) same tells =
-    no_memory (kept ∙ sound) refl same (rw is at tells)
+module _ {Options : Type 0} (program : Meaning Options) (options : Options) (font : Transition SourceState) (waivers : SourceState)
+    (sinks : Transition Sinks) (result : Status) (sound : font.old.failed ≡ false) (same : sinks.new.out ≡ sinks.old.out) where
+  abbrev Failing : Failure → Type 0
+  Failing failure = Tells (failure_line program.name failure) (failure_status failure) sinks.old.errors sinks.new.errors result
+
+  abbrev EndsUnread : Type 0
+  EndsUnread = Ends program options font (record { old = waivers; new = waivers }) sinks result
+
+  -- A file that isn't read to its end.
+  pub ungathered_ends : (failure : Failure) → AreUnread 16777216 FontTooLarge font.old font.new failure → Failing failure → EndsUnread
+  ungathered_ends failure (too_large bytes consumed large kept is) tells =
+      font_refused FontTooLarge (font_past font.old.left font.new.left bytes consumed large) (kept ∙ sound) refl same (rw is at tells)
+  ungathered_ends failure (broken failed is) tells = read_failed failed refl same (rw is at tells)
+  ungathered_ends failure (unroomed kept is) tells = no_memory (kept ∙ sound) refl same (rw is at tells)
+
+  -- Bytes that aren't read as a font, or memory ran out.
+  pub unread_ends : (bytes : List ℕ) (unread : Unread) → AreAll 16777216 font.old font.new bytes → IsUnread unread (font_in bytes)
+      → Failing (failure_of (Font unread)) → EndsUnread
+  unread_ends bytes unread all (inl memory) tells =
+      no_memory (all.kept ∙ sound) refl same (subst (λ (u : Unread). Failing (failure_of (Font u))) memory tells)
+  unread_ends bytes unread all (inr read) tells =
+      font_refused (Font unread) (are_read font.old.left font.new.left bytes (Err unread) all.consumed all.end all.few read) (all.kept ∙ sound) refl
+      same tells
 
 -- Where its reading stopped.
 pub ungathered_stops : (name : List ℕ) (old new : SourceState) (errors errors' : SinkState) (failure : Failure) (result : Status)
@@ -47,57 +59,49 @@ ungathered_stops name old new errors errors' failure result (too_large bytes con
 ungathered_stops name old new errors errors' failure result (broken failed is) tells = fails failed
 ungathered_stops name old new errors errors' failure result (unroomed kept is) tells = runs_out (rw is at tells)
 
--- Bytes that aren't read as a font, or memory ran out.
-pub unread_ends : {Options : Type 0} (program : Meaning Options) (options : Options) (old new v : SourceState) (sinks sinks' : Sinks)
-    (bytes : List ℕ) (unread : Unread) (result : Status) → old.failed ≡ false → AreAll 16777216 old new bytes → IsUnread unread (font_in bytes)
-    → sinks'.out ≡ sinks.out
-    → Tells (failure_line program.name (failure_of (Font unread))) (failure_status (failure_of (Font unread))) sinks.errors sinks'.errors result
-    → Ends program options old new v v sinks sinks' result
-unread_ends program options old new v sinks sinks' bytes unread result sound all (inl memory) same tells =
-    no_memory (all.kept ∙ sound) refl same
-    (subst (λ (u : Unread). Tells (failure_line program.name (failure_of (Font u))) (failure_status (failure_of (Font u))) sinks.errors sinks'.errors result)
-    memory tells)
-unread_ends program options old new v sinks sinks' bytes unread result sound all (inr read) same tells =
-    font_refused (Font unread) (are_read old.left new.left bytes (Err unread) all.consumed all.end all.few read) (all.kept ∙ sound) refl same tells
-
 -- ---- the waivers
 
-module _ {Options : Type 0} (program : Meaning Options) (options : Options) (font : FontValue) (v v' : SourceState) (sinks sinks' : Sinks) (result : Status) where
+module _ {Options : Type 0} (program : Meaning Options) (options : Options) (font : FontValue) (waivers : Transition SourceState)
+    (sinks : Transition Sinks) (result : Status) where
+  abbrev EndsSo : Type 0
+  EndsSo = EndsWith program options font waivers sinks result
+
   -- None are requested.
-  pub unasked_ends : asks_waivers program options ≡ false → v' ≡ v → program.Shows options font [] sinks sinks' result
-      → EndsWith program options font v v' sinks sinks' result
+  pub unasked_ends : asks_waivers program options ≡ false → waivers.new ≡ waivers.old → program.Shows options font [] sinks.old sinks.new result
+      → EndsSo
   unasked_ends unasked same shows =
-      shown [] (subst (λ (b : Bool). AreWaived b v.left (Ok [])) (sym unasked) refl)
-      (subst (λ (b : Bool). IsHeard b v v') (sym unasked) (subst (IsHeard false v) (sym same) (not_asked v))) shows
+      shown [] (subst (λ (b : Bool). AreWaived b waivers.old.left (Ok [])) (sym unasked) refl)
+      (subst (λ (b : Bool). IsHeard b waivers.old waivers.new) (sym unasked)
+      (subst (IsHeard false waivers.old) (sym same) (not_asked waivers.old))) shows
 
-  heard_as : asks_waivers program options ≡ true → IsHeard true v v' → IsHeard (asks_waivers program options) v v'
-  heard_as asked heard = subst (λ (b : Bool). IsHeard b v v') (sym asked) heard
+  module _ (asked : asks_waivers program options ≡ true) where
+    heard_as : IsHeard true waivers.old waivers.new → IsHeard (asks_waivers program options) waivers.old waivers.new
+    heard_as heard = subst (λ (b : Bool). IsHeard b waivers.old waivers.new) (sym asked) heard
 
-  -- Their text can't be had.
-  pub untold_ends : (failure : Failure) → asks_waivers program options ≡ true → IsNoWaiverText true v v' failure → sinks'.out ≡ sinks.out
-      → Tells (failure_line program.name failure) (failure_status failure) sinks.errors sinks'.errors result
-      → EndsWith program options font v v' sinks sinks' result
-  untold_ends failure asked (large_text waived heard is) same tells =
-      waivers_refused WaiversTooLarge (subst (λ (b : Bool). AreWaived b v.left (Err WaiversTooLarge)) (sym asked) waived) (heard_as asked heard) same
-      (rw is at tells)
-  untold_ends failure asked (unread_text was failed is) same tells = waivers_unread asked failed same (rw is at tells)
-  untold_ends failure asked (no_text kept is) same tells = no_room asked kept.failed same (rw is at tells)
+    waived_as : (waived : Result (List Waiver) Reason) → AreWaived true waivers.old.left waived
+        → AreWaived (asks_waivers program options) waivers.old.left waived
+    waived_as waived are = subst (λ (b : Bool). AreWaived b waivers.old.left waived) (sym asked) are
 
-  -- Their text is read as waivers.
-  pub waived_ends : (text : List ℕ) (waived : List Waiver) → asks_waivers program options ≡ true → IsWaiverText true v v' text
-      → waivers_of text ≡ Some waived → program.Shows options font waived sinks sinks' result
-      → EndsWith program options font v v' sinks sinks' result
-  waived_ends text waived asked had read shows =
-      shown waived (subst (λ (b : Bool). AreWaived b v.left (Ok waived)) (sym asked) (subst (AreWaived true v.left) (ap as_waivers read) had.read))
-      (heard_as asked had.heard) shows
+    -- Their text can't be had.
+    pub untold_ends : (failure : Failure) → IsNoWaiverText true waivers.old waivers.new failure → sinks.new.out ≡ sinks.old.out
+        → Tells (failure_line program.name failure) (failure_status failure) sinks.old.errors sinks.new.errors result → EndsSo
+    untold_ends failure (large_text waived heard is) same tells =
+        waivers_refused WaiversTooLarge (waived_as _ waived) (heard_as heard) same (rw is at tells)
+    untold_ends failure (unread_text was failed is) same tells = waivers_unread asked failed same (rw is at tells)
+    untold_ends failure (no_text kept is) same tells = no_room asked kept.failed same (rw is at tells)
 
-  -- It isn't, or memory ran out.
-  pub unwaived_ends : {W : Type 0} (value : W → List Waiver) (text : List ℕ) (error : WaiverError) → asks_waivers program options ≡ true
-      → IsWaiverText true v v' text → IsReadAs value (waivers_of text) (Err error) → sinks'.out ≡ sinks.out
-      → Tells (failure_line program.name (failure_of (Waivers error))) (failure_status (failure_of (Waivers error))) sinks.errors sinks'.errors result
-      → EndsWith program options font v v' sinks sinks' result
-  unwaived_ends value text Malformed asked had none same tells =
-      waivers_refused (Waivers Malformed)
-      (subst (λ (b : Bool). AreWaived b v.left (Err (Waivers Malformed))) (sym asked) (subst (AreWaived true v.left) (ap as_waivers none) had.read))
-      (heard_as asked had.heard) same tells
-  unwaived_ends value text Memory asked had any same tells = no_room asked had.heard.failed same tells
+    -- Their text is read as waivers.
+    pub waived_ends : (text : List ℕ) (waived : List Waiver) → IsWaiverText true waivers.old waivers.new text
+        → waivers_of text ≡ Some waived → program.Shows options font waived sinks.old sinks.new result → EndsSo
+    waived_ends text waived had read shows =
+        shown waived (waived_as _ (subst (AreWaived true waivers.old.left) (ap as_waivers read) had.read)) (heard_as had.heard) shows
+
+    -- It isn't, or memory ran out.
+    pub unwaived_ends : {W : Type 0} (value : W → List Waiver) (text : List ℕ) (error : WaiverError) → IsWaiverText true waivers.old waivers.new text
+        → IsReadAs value (waivers_of text) (Err error) → sinks.new.out ≡ sinks.old.out
+        → Tells (failure_line program.name (failure_of (Waivers error))) (failure_status (failure_of (Waivers error))) sinks.old.errors
+        sinks.new.errors result → EndsSo
+    unwaived_ends value text Malformed had none same tells =
+        waivers_refused (Waivers Malformed) (waived_as _ (subst (AreWaived true waivers.old.left) (ap as_waivers none) had.read)) (heard_as had.heard)
+        same tells
+    unwaived_ends value text Memory had any same tells = no_room asked had.heard.failed same tells

@@ -16,15 +16,25 @@ opening_by Returns left = record {
   CannotOpen = λ name. (error : _) × Returns name (Err error);
 }
 
+-- A file that words may name: the way to open it, and the file as it is left, if it was opened.
+pub record NamedFile : Type 1 where
+  pub opening : Opening
+  pub left : Option SourceState
+
+-- That of a font, and that of waivers.
+pub record Files : Type 1 where
+  pub font : NamedFile
+  pub waivers : NamedFile
+
+abbrev pub NoneIsOpened : Files → Type 0
+NoneIsOpened files = (files.font.left ≡ None) × (files.waivers.left ≡ None)
+
 -- The output and standard error.
 pub record Sinks : Type 0 where
   pub out : SinkState
   pub errors : SinkState
 
--- The files that were opened, as they are left.
-pub record Files : Type 0 where
-  pub font : Option SourceState
-  pub waivers : Option SourceState
-
-abbrev pub none_opened : Files
-none_opened = record { font = None; waivers = None }
+-- A state before a run and after it.
+pub record Transition (State : Type 0) : Type 0 where
+  pub old : State
+  pub new : State

@@ -8,7 +8,7 @@ use Rattle.t1_refusals.specs.declared.refusal.Reason.{Reason}
 use Rattle.t1_report.specs.Waivers.{Waiver}
 use Rattle.t1_run.specs.Failures.{failure_line, failure_of, failure_status, out_of_memory_line, read_failed_line}
 use Rattle.t1_run.specs.FontFiles.{AreRead}
-use Rattle.t1_run.specs.Opening.{Sinks}
+use Rattle.t1_run.specs.Opening.{Sinks, Transition}
 use Rattle.t1_run.specs.Telling.{Tells}
 use Rattle.t1_run.specs.WaiverFiles.{AreWaived, IsHeard}
 use Rattle.t1_run.specs.declared.status.Status.{Status}
@@ -32,50 +32,49 @@ pub record Meaning (Options : Type 0) : Type 1 where
 abbrev pub asks_waivers : {Options : Type 0} → Meaning Options → Options → Bool
 asks_waivers program options = is_some (program.waivers options)
 
--- How a run ends that read this font: the source of waivers before it and after it. The waivers are read first, if they
--- are requested.
-pub data EndsWith {Options : Type 0} (program : Meaning Options) (options : Options) (font : FontValue) (waivers waivers' : SourceState)
-    (sinks sinks' : Sinks) (result : Status) : Type 0 where
+-- How a run ends that read this font. The waivers are read first, if they are requested.
+pub data EndsWith {Options : Type 0} (program : Meaning Options) (options : Options) (font : FontValue) (waivers : Transition SourceState)
+    (sinks : Transition Sinks) (result : Status) : Type 0 where
   shown :
-      (waived : List Waiver) → AreWaived (asks_waivers program options) waivers.left (Ok waived)
-      → IsHeard (asks_waivers program options) waivers waivers' → program.Shows options font waived sinks sinks' result
-      → EndsWith program options font waivers waivers' sinks sinks' result
+      (waived : List Waiver) → AreWaived (asks_waivers program options) waivers.old.left (Ok waived)
+      → IsHeard (asks_waivers program options) waivers.old waivers.new → program.Shows options font waived sinks.old sinks.new result
+      → EndsWith program options font waivers sinks result
   -- status 2
   waivers_refused :
-      (reason : Reason) → AreWaived (asks_waivers program options) waivers.left (Err reason)
-      → IsHeard (asks_waivers program options) waivers waivers' → sinks'.out ≡ sinks.out
-      → Tells (failure_line program.name (failure_of reason)) Refused sinks.errors sinks'.errors result
-      → EndsWith program options font waivers waivers' sinks sinks' result
+      (reason : Reason) → AreWaived (asks_waivers program options) waivers.old.left (Err reason)
+      → IsHeard (asks_waivers program options) waivers.old waivers.new → sinks.new.out ≡ sinks.old.out
+      → Tells (failure_line program.name (failure_of reason)) Refused sinks.old.errors sinks.new.errors result
+      → EndsWith program options font waivers sinks result
   -- status 3
   waivers_unread :
-      asks_waivers program options ≡ true → waivers'.failed ≡ true → sinks'.out ≡ sinks.out
-      → Tells (read_failed_line program.name) Failed sinks.errors sinks'.errors result
-      → EndsWith program options font waivers waivers' sinks sinks' result
+      asks_waivers program options ≡ true → waivers.new.failed ≡ true → sinks.new.out ≡ sinks.old.out
+      → Tells (read_failed_line program.name) Failed sinks.old.errors sinks.new.errors result
+      → EndsWith program options font waivers sinks result
   -- status 3
   no_room :
-      asks_waivers program options ≡ true → waivers'.failed ≡ waivers.failed → sinks'.out ≡ sinks.out
-      → Tells (out_of_memory_line program.name) Failed sinks.errors sinks'.errors result
-      → EndsWith program options font waivers waivers' sinks sinks' result
+      asks_waivers program options ≡ true → waivers.new.failed ≡ waivers.old.failed → sinks.new.out ≡ sinks.old.out
+      → Tells (out_of_memory_line program.name) Failed sinks.old.errors sinks.new.errors result
+      → EndsWith program options font waivers sinks result
 
--- How a run ends: the source of the font before it and after it, and that of waivers.
-pub data Ends {Options : Type 0} (program : Meaning Options) (options : Options) (source source' waivers waivers' : SourceState)
-    (sinks sinks' : Sinks) (result : Status) : Type 0 where
+-- How a run ends on the sources of a font and of waivers.
+pub data Ends {Options : Type 0} (program : Meaning Options) (options : Options) (source waivers : Transition SourceState)
+    (sinks : Transition Sinks) (result : Status) : Type 0 where
   font_read :
-      (font : FontValue) → AreRead source.left (Ok font) → source'.failed ≡ false
-      → EndsWith program options font waivers waivers' sinks sinks' result
-      → Ends program options source source' waivers waivers' sinks sinks' result
+      (font : FontValue) → AreRead source.old.left (Ok font) → source.new.failed ≡ false
+      → EndsWith program options font waivers sinks result → Ends program options source waivers sinks result
   -- status 2
   font_refused :
-      (reason : Reason) → AreRead source.left (Err reason) → source'.failed ≡ false → waivers' ≡ waivers → sinks'.out ≡ sinks.out
-      → Tells (failure_line program.name (failure_of reason)) (failure_status (failure_of reason)) sinks.errors sinks'.errors result
-      → Ends program options source source' waivers waivers' sinks sinks' result
+      (reason : Reason) → AreRead source.old.left (Err reason) → source.new.failed ≡ false → waivers.new ≡ waivers.old
+      → sinks.new.out ≡ sinks.old.out
+      → Tells (failure_line program.name (failure_of reason)) (failure_status (failure_of reason)) sinks.old.errors sinks.new.errors result
+      → Ends program options source waivers sinks result
   -- status 3
   read_failed :
-      source'.failed ≡ true → waivers' ≡ waivers → sinks'.out ≡ sinks.out
-      → Tells (read_failed_line program.name) Failed sinks.errors sinks'.errors result
-      → Ends program options source source' waivers waivers' sinks sinks' result
+      source.new.failed ≡ true → waivers.new ≡ waivers.old → sinks.new.out ≡ sinks.old.out
+      → Tells (read_failed_line program.name) Failed sinks.old.errors sinks.new.errors result
+      → Ends program options source waivers sinks result
   -- status 3
   no_memory :
-      source'.failed ≡ false → waivers' ≡ waivers → sinks'.out ≡ sinks.out
-      → Tells (out_of_memory_line program.name) Failed sinks.errors sinks'.errors result
-      → Ends program options source source' waivers waivers' sinks sinks' result
+      source.new.failed ≡ false → waivers.new ≡ waivers.old → sinks.new.out ≡ sinks.old.out
+      → Tells (out_of_memory_line program.name) Failed sinks.old.errors sinks.new.errors result
+      → Ends program options source waivers sinks result

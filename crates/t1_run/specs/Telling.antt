@@ -2,6 +2,7 @@
 use Rattle.std.specs.Prelude.{◌≡◌, ℕ, List, string_bytes}
 use Rattle.t1_io.specs.Devices.{Delivered, DeliveryFailed, PutFailed, SinkState, Wrote}
 use Rattle.t1_run.specs.Failures.{out_of_memory_line, write_failed_line}
+use Rattle.t1_run.specs.Opening.{Sinks}
 use Rattle.t1_run.specs.declared.status.Status.{Status}
 use Rattle.t1_run.specs.declared.status.Status.TheVariants.{Clean, Failed}
 use Rattle.t1_run.specs.declared.usage.UsageError.{UsageError}
@@ -14,17 +15,18 @@ pub data Tells (text : List ℕ) (status : Status) (errors errors' : SinkState) 
 
 -- A text was to be printed on the output and flushed once, and then a status to be returned. If that fails, this is
 -- printed under the program's name.
-pub data Gives (program text : List ℕ) (status : Status) (out out' errors errors' : SinkState) (result : Status) : Type 0 where
-  given : Delivered out out' text → errors' ≡ errors → result ≡ status → Gives program text status out out' errors errors' result
+pub data Gives (program text : List ℕ) (status : Status) (sinks sinks' : Sinks) (result : Status) : Type 0 where
+  given :
+      Delivered sinks.out sinks'.out text → sinks'.errors ≡ sinks.errors → result ≡ status
+      → Gives program text status sinks sinks' result
   ungiven :
-      DeliveryFailed out out' text → Tells (write_failed_line program) Failed errors errors' result
-      → Gives program text status out out' errors errors' result
+      DeliveryFailed sinks.out sinks'.out text → Tells (write_failed_line program) Failed sinks.errors sinks'.errors result
+      → Gives program text status sinks sinks' result
 
 -- What is printed for words of the command line that yield no options: help on the output, all else on standard error.
-abbrev pub Explains : List ℕ → UsageError → SinkState → SinkState → SinkState → SinkState → Status → Type 0
-Explains program (Help text) out out' errors errors' result =
-    Gives program (string_bytes text) Clean out out' errors errors' result
-Explains program (Usage text) out out' errors errors' result =
-    (out' ≡ out) × Tells (string_bytes text) Failed errors errors' result
-Explains program Memory out out' errors errors' result =
-    (out' ≡ out) × Tells (out_of_memory_line program) Failed errors errors' result
+abbrev pub Explains : List ℕ → UsageError → Sinks → Sinks → Status → Type 0
+Explains program (Help text) sinks sinks' result = Gives program (string_bytes text) Clean sinks sinks' result
+Explains program (Usage text) sinks sinks' result =
+    (sinks'.out ≡ sinks.out) × Tells (string_bytes text) Failed sinks.errors sinks'.errors result
+Explains program Memory sinks sinks' result =
+    (sinks'.out ≡ sinks.out) × Tells (out_of_memory_line program) Failed sinks.errors sinks'.errors result

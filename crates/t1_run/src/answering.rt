@@ -44,15 +44,21 @@ where
     requires open_font { (name : _) → NamesFont P.meaning (map S.text words.now) name.now → O.pre open_font name }
     requires open_waivers { (name : _) → NamesWaivers P.meaning (map S.text words.now) name.now → Q.pre open_waivers name }
     ensures { Answers P.meaning (map S.text words.now)
-        (opening_by (FnOnceReturnsAt O.FnOnce open_font) F.remaining)
-        (opening_by (FnOnceReturnsAt Q.FnOnce open_waivers) F.remaining)
-        (I.state input.old) (I.state input.new)
         (record {
-          font = option_map (λ s. ⟦<In<F> as Source>⟧.state s) result.font;
-          waivers = option_map (λ s. ⟦<In<F> as Source>⟧.state s) result.waivers;
+          font = record {
+            opening = opening_by (FnOnceReturnsAt O.FnOnce open_font) F.remaining;
+            left = option_map (λ s. ⟦<In<F> as Source>⟧.state s) result.font;
+          };
+          waivers = record {
+            opening = opening_by (FnOnceReturnsAt Q.FnOnce open_waivers) F.remaining;
+            left = option_map (λ s. ⟦<In<F> as Source>⟧.state s) result.waivers;
+          };
         })
-        (record { out = W.state out.old; errors = E.state errors.old })
-        (record { out = W.state out.new; errors = E.state errors.new }) result.status }
+        (record { old = I.state input.old; new = I.state input.new })
+        (record {
+          old = record { out = W.state out.old; errors = E.state errors.old };
+          new = record { out = W.state out.new; errors = E.state errors.new };
+        }) result.status }
 {
     let options = match P::read_words(alloc, words) {
         Ok(options) => options,
@@ -108,11 +114,16 @@ where
     E: Sink,
     requires source { (R.state source.old).failed ≡ false }
     requires open_waivers { (name : _) → P.meaning.waivers options.now ≡ Some name.now → Q.pre open_waivers name }
-    ensures { RunsOn P.meaning options.now (opening_by (FnOnceReturnsAt Q.FnOnce open_waivers) F.remaining)
-        (R.state source.old) (R.state source.new)
-        (option_map (λ s. ⟦<In<F> as Source>⟧.state s) result.1)
-        (record { out = W.state out.old; errors = E.state errors.old })
-        (record { out = W.state out.new; errors = E.state errors.new }) result.0 }
+    ensures { RunsOn P.meaning options.now
+        (record {
+          opening = opening_by (FnOnceReturnsAt Q.FnOnce open_waivers) F.remaining;
+          left = option_map (λ s. ⟦<In<F> as Source>⟧.state s) result.1;
+        })
+        (record { old = R.state source.old; new = R.state source.new })
+        (record {
+          old = record { out = W.state out.old; errors = E.state errors.old };
+          new = record { out = W.state out.new; errors = E.state errors.new };
+        }) result.0 }
 {
     match options.waivers() {
         Some(name) => match open_waivers(name) {

@@ -7,6 +7,7 @@ ghost use Rattle.t1_report.specs.Waivers.{largest_waivers};
 ghost use Rattle.t1_run.specs.Failures.{out_of_memory_line};
 ghost use Rattle.t1_run.specs.FontFiles.{largest_file};
 ghost use Rattle.t1_run.specs.Input.{AreAll, ReadsAtMost, StopsAt};
+ghost use Rattle.t1_run.specs.Opening.{Transition};
 ghost use Rattle.t1_run.specs.Programs.{Ends, EndsWith};
 ghost use Rattle.t1_run.specs.Telling.{Tells};
 
@@ -31,9 +32,13 @@ pub fn run<P: Program, R: Source, V: Source, W: Sink, E: Sink>(
     errors: &mut E,
 ) -> Status
     requires font { (R.state font.old).failed ≡ false }
-    ensures ends { Ends P.meaning options.now (R.state font.old) (R.state font.new) (V.state waivers.old) (V.state waivers.new)
-        (record { out = W.state out.old; errors = E.state errors.old })
-        (record { out = W.state out.new; errors = E.state errors.new }) result }
+    ensures ends { Ends P.meaning options.now
+        (record { old = R.state font.old; new = R.state font.new })
+        (record { old = V.state waivers.old; new = V.state waivers.new })
+        (record {
+          old = record { out = W.state out.old; errors = E.state errors.old };
+          new = record { out = W.state out.new; errors = E.state errors.new };
+        }) result }
     ensures font { ReadsAtMost (largest_file + 1) (R.state font.old) (R.state font.new) }
     ensures whole { StopsAt largest_file (R.state font.old) (R.state font.new)
         (Tells (out_of_memory_line P.meaning.name) Status.Failed (E.state errors.old) (E.state errors.new) result) }
@@ -54,10 +59,13 @@ fn show_file<P: Program, V: Source, W: Sink, E: Sink>(
     out: &mut W,
     errors: &mut E,
 ) -> Status
-    ensures ends { (old new : SourceState) → old.failed ≡ false → AreAll largest_file old new bytes.items
-        → Ends P.meaning options.now old new (V.state waivers.old) (V.state waivers.new)
-        (record { out = W.state out.old; errors = E.state errors.old })
-        (record { out = W.state out.new; errors = E.state errors.new }) result }
+    ensures ends { (font : Transition SourceState) → font.old.failed ≡ false → AreAll largest_file font.old font.new bytes.items
+        → Ends P.meaning options.now font
+        (record { old = V.state waivers.old; new = V.state waivers.new })
+        (record {
+          old = record { out = W.state out.old; errors = E.state errors.old };
+          new = record { out = W.state out.new; errors = E.state errors.new };
+        }) result }
     ensures waivers { ReadsAtMost (largest_waivers + 1) (V.state waivers.old) (V.state waivers.new) }
 {
     let mut file = match OpenFont::open(alloc, bytes.as_slice()) {
@@ -84,9 +92,12 @@ fn show_font<P: Program, V: Source, W: Sink, E: Sink>(
     errors: &mut E,
 ) -> Status
     requires { length font.now.glyphs ≤ most_glyphs }
-    ensures ends { EndsWith P.meaning options.now font.now (V.state waivers.old) (V.state waivers.new)
-        (record { out = W.state out.old; errors = E.state errors.old })
-        (record { out = W.state out.new; errors = E.state errors.new }) result }
+    ensures ends { EndsWith P.meaning options.now font.now
+        (record { old = V.state waivers.old; new = V.state waivers.new })
+        (record {
+          old = record { out = W.state out.old; errors = E.state errors.old };
+          new = record { out = W.state out.new; errors = E.state errors.new };
+        }) result }
     ensures waivers { ReadsAtMost (largest_waivers + 1) (V.state waivers.old) (V.state waivers.new) }
 {
     let Some(_name) = options.waivers() else {

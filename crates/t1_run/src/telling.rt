@@ -73,8 +73,9 @@ fn tell_of<E: Sink>(program: &str, what: &[u8], errors: &mut E) -> Status
 
 /// Prints a text on the output and flushes it. If that fails, it is reported on standard error.
 pub fn give<W: Sink, E: Sink>(program: &str, text: &[u8], out: &mut W, errors: &mut E) -> Status
-    ensures { Gives program.now text.now Status.Clean (W.state out.old) (W.state out.new) (E.state errors.old)
-        (E.state errors.new) result }
+    ensures { Gives program.now text.now Status.Clean
+        (record { out = W.state out.old; errors = E.state errors.old })
+        (record { out = W.state out.new; errors = E.state errors.new }) result }
 {
     match deliver(out, text) {
         Ok(()) => Status::Clean,

@@ -41,8 +41,9 @@ pub fn explain<W: Sink, E: Sink>(
     out: &mut W,
     errors: &mut E,
 ) -> Status
-    ensures { Explains program.now error.now (W.state out.old) (W.state out.new) (E.state errors.old)
-        (E.state errors.new) result }
+    ensures { Explains program.now error.now
+        (record { out = W.state out.old; errors = E.state errors.old })
+        (record { out = W.state out.new; errors = E.state errors.new }) result }
 {
     match error {
         UsageError::Help(text) => give(program, text.as_bytes(), out, errors),

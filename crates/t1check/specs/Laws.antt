@@ -8,7 +8,7 @@ use Rattle.t1_answer.specs.Words.{AreTaken, checking}
 use Rattle.t1_answer.specs.declared.asked.Options.{Options}
 use Rattle.t1_io.specs.Devices.{Delivered, SourceState}
 use Rattle.t1_run.specs.Answering.{Answers}
-use Rattle.t1_run.specs.Opening.{Files, Opening, Sinks}
+use Rattle.t1_run.specs.Opening.{NamedFile, Opening, Sinks, Transition}
 use Rattle.t1_run.specs.Words.{AreRefused}
 use Rattle.t1_run.specs.declared.status.Status.{Status}
 use Rattle.t1_run.specs.declared.status.Status.TheVariants.{Failed}
@@ -34,21 +34,26 @@ AreWaiversOf waivers (Some name) source = waivers name ≡ Some source.left
 
 -- Help was requested, and printed. Or the words yield options, and the one answer was printed: that to them, to the
 -- bytes of the font that they name and to the waivers', where these bytes are known.
-pub data IsAnswered (words : List Text) (fonts waivers : Folder) (input : SourceState) (sinks sinks' : Sinks) (result : Status) : Type 0 where
+pub data IsAnswered (words : List Text) (fonts waivers : Folder) (input : SourceState) (sinks : Transition Sinks) (result : Status) : Type 0 where
   helped :
-      (text : _) → AreRefused t1check words (Help text) → Delivered sinks.out sinks'.out (string_bytes text)
-      → IsAnswered words fonts waivers input sinks sinks' result
+      (text : _) → AreRefused t1check words (Help text) → Delivered sinks.old.out sinks.new.out (string_bytes text)
+      → IsAnswered words fonts waivers input sinks result
   answered :
       (options : Options) → AreTaken words options
       → (source : SourceState) → IsFontOf fonts input (option_map string_bytes options.file) source
       → (text : SourceState) → AreWaiversOf waivers (waivers_named options) text
-      → IfKnown options source.left text.left (Answered options result sinks.out sinks'.out sinks.errors sinks'.errors)
-      → IsAnswered words fonts waivers input sinks sinks' result
+      → IfKnown options source.left text.left (Answered options result sinks)
+      → IsAnswered words fonts waivers input sinks result
+
+-- The file of a name in a folder, as it is left.
+abbrev pub file_in : Folder → Option SourceState → NamedFile
+file_in folder left = record { opening = opening_of folder; left = left }
 
 -- So it is of what `answer` ensures, unless the status is 3.
 abbrev pub WordsAndFilesAreAnswered : Type 0
 WordsAndFilesAreAnswered =
-    (words : List Text) (fonts waivers : Folder) (input input' : SourceState) (files : Files) (sinks sinks' : Sinks) (result : Status)
-    → input.failed ≡ false → sinks.out.failed ≡ false → sinks.errors.failed ≡ false
-    → Answers checking words (opening_of fonts) (opening_of waivers) input input' files sinks sinks' result → result ≢ Failed
-    → IsAnswered words fonts waivers input sinks sinks' result
+    (words : List Text) (fonts waivers : Folder) (font waived : Option SourceState) (input : Transition SourceState)
+    (sinks : Transition Sinks) (result : Status)
+    → input.old.failed ≡ false → sinks.old.out.failed ≡ false → sinks.old.errors.failed ≡ false
+    → Answers checking words (record { font = file_in fonts font; waivers = file_in waivers waived }) input sinks result → result ≢ Failed
+    → IsAnswered words fonts waivers input.old sinks result

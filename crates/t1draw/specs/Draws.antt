@@ -30,7 +30,7 @@ pub data Draws (options : Options) (font : FontValue) (waivers : List Waiver) (s
   -- of it went out, and that was reported: status 3.
   drawn :
       (picture : List ℕ) → IsPicture options font waivers picture
-      → Gives program picture Clean sinks.out sinks'.out sinks.errors sinks'.errors status
+      → Gives program picture Clean sinks sinks' status
       → Draws options font waivers sinks sinks' status
   -- The font has no glyph of the name, and nothing was put on the output: status 3.
   no_glyph :

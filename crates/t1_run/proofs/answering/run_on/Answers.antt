@@ -6,7 +6,7 @@ use Rattle.t1_run.proofs.answering.run_on.Goals as goal
 
 pub returns-in-Ok : goal.returns-in-Ok
 returns-in-Ok g c =
-    ran _ _
+    ran _
     (opened c.in-Some.name.now (sym c.waivers.ensures ∙ ap (option_map (λ s. s.now)) c.in-Some.is)
     (c.in-Ok.file, ((c.in-Some.name, c.in-Ok.ensures, refl), sym (ap (λ (s : SourceState). s.left) c.new-waivers.ensures)))
     (ap (λ (s : SourceState). s.failed) c.new-waivers.ensures) refl)
@@ -19,5 +19,5 @@ returns-in-Err g c =
 
 pub returns-in-None : goal.returns-in-None
 returns-in-None g c =
-    ran _ _ (none_named (sym c.waivers.ensures ∙ ap (option_map (λ s. s.now)) c.in-None.is) (ap (λ (s : SourceState). s.failed) c.new-none.ensures) refl)
+    ran _ (none_named (sym c.waivers.ensures ∙ ap (option_map (λ s. s.now)) c.in-None.is) (ap (λ (s : SourceState). s.failed) c.new-none.ensures) refl)
     c.run.ensures.ends
