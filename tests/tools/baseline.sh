@@ -127,6 +127,63 @@ wanted <<'END'
 END
 try 'ten faults where ten are known' 0 "$all" -q --baseline known 10.pfa
 
+# Rows of a font are replaced by what is found in it, at the place of its first row of a rule that is reported; those of a new font come last,
+# of a clean font none stays, and a comment goes. No number of 64 bits is as great as that of Z04.
+printf 'A 2\nB 9\n' | make_font nine.pfa
+echo 'A 1' | make_font new.pfa
+cat >rows <<'END'
+# A comment.
+3 P03 glyph A nine.pfa
+1 Z04 font BlueValues gone.pfb
+10 P03 glyph B nine.pfa
+1 H99 glyph A nine.pfa
+1 H02 glyph A clean.pfb
+99999999999999999999999 Z04 font BlueValues nine.pfa
+END
+cp rows known
+wanted <<'END'
+--
+nine.pfa: known faults: P03 glyph A: 3 known, 2 found
+nine.pfa: known faults: P03 glyph B: 10 known, 9 found
+nine.pfa: known faults: H99 glyph A: 1 known, 0 found
+clean.pfb: known faults: H02 glyph A: 1 known, 0 found
+nine.pfa: known faults: Z04 font BlueValues: 99999999999999999999999 known, 0 found
+END
+try 'rows of which fewer are found' 0 "$all" -q --baseline known nine.pfa clean.pfb
+wanted <<'END'
+--
+nine.pfa: known faults: Z04 font BlueValues: 99999999999999999999999 known, 0 found
+END
+try 'rows of which fewer are found, of some rules' 0 "$all" -q --baseline known --only Z nine.pfa clean.pfb
+wanted <<'END'
+--
+END
+try 'rows of all rules' 0 "$all" -q --baseline known --update-baseline nine.pfa new.pfa clean.pfb
+wanted <<'END'
+# Known faults: count, rule, unit, font.
+2 P03 glyph A nine.pfa
+9 P03 glyph B nine.pfa
+1 Z04 font BlueValues gone.pfb
+1 P03 glyph A new.pfa
+--
+END
+try 'rows that stay, go and come' 0 cat known
+cp rows known
+wanted <<'END'
+--
+END
+try 'rows of some rules' 0 "$all" -q --baseline known --update-baseline --except Z nine.pfa new.pfa clean.pfb
+wanted <<'END'
+# Known faults: count, rule, unit, font.
+2 P03 glyph A nine.pfa
+9 P03 glyph B nine.pfa
+1 Z04 font BlueValues gone.pfb
+99999999999999999999999 Z04 font BlueValues nine.pfa
+1 P03 glyph A new.pfa
+--
+END
+try 'rows that stay, go and come by rule' 0 cat known
+
 # Names of fonts as they are in rows, a row of a waiver, and known faults in a file -, which isn't standard input.
 cp "$fonts/H02.pfb" 'two words.pfb'
 cp "$fonts/H02.pfb" 'back\slash.pfb'

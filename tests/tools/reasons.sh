@@ -53,6 +53,13 @@ wanted <<'END'
 --
 END
 try 'reasons as github' 1 "$all" -q --reasons --format github --only P02 glyphs.pfb
+wanted <<'END'
+::warning file=glyphs.pfb,line=1,title=P02 path not closed::P02 path not closed × 1: A%0Afrom 50 0 to 150 0
+::notice file=glyphs.pfb,line=1,title=P03 closepath without a path::P03 closepath without a path × 1: A%0Anothing is drawn so far
+::warning file=edge.pfb,line=1,title=H02 stems overlap::H02 stems overlap × 1: A%0A15 to 35 and 0 to 20, set at step 6, share 5
+--
+END
+try 'reasons of two fonts as github' 1 "$all" -q --reasons --format github --only P,H glyphs.pfb edge.pfb
 limited "$all" -q --format sarif glyphs.pfb >"$scratch/sarif"
 limited "$all" -q --reasons --format sarif glyphs.pfb >"$scratch/told"
 wanted <<'END'

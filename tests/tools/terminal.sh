@@ -64,6 +64,35 @@ END
 try 'each line, whatever the columns' 0 cmp "$scratch/long" "$scratch/long.cut"
 try 'a form, whatever the columns' 0 cmp "$scratch/objects" "$scratch/objects.cut"
 
+# Names of glyphs are shown while they fit. Bytes that can't be shown are written by their numbers, which are four characters wide; a name
+# that is wider than the terminal isn't shown, and none after it.
+for glyph in A B C D Eacute F G H; do echo "$glyph 2"; done | make_font f.pfa
+for row in '40:… and 8 more' '60:A, B … and 6 more' '80:A, B, C, D, Eacute, F, G, H'; do
+    wanted <<END
+f.pfa: P03 closepath without a path × 16: ${row#*:}
+--
+END
+    try "names in ${row%%:*} columns" 1 "$all" -q --no-reasons --only P03 --columns "${row%%:*}" f.pfa
+done
+wide=$(printf 'a\tb.pfa')
+printf 'A 2\nxxxxxxxxxxxxxxxxxxxxxxxxxxxxxxxxxxxxxxxxxxxxxxxxxxxxxxxxxxxxxxxxxxxxxxxx 2\nB 2\n' | make_font "$wide"
+wanted <<'END'
+a\x09b.pfa: P03 closepath without a path × 6: A … and 2 more
+--
+END
+try 'a name that is wider' 1 "$all" -q --no-reasons --only P03 --columns 62 "$wide"
+printf '\0331 2\n\351 2\ncaf\303\251 2\na\\b 2\n\302\2331 2\n' | make_font f.pfa
+wanted <<'END'
+f.pfa: P03 closepath without a path × 10: \x1B1, \xE9 … and 3 more
+--
+END
+try 'names of odd bytes' 1 "$all" -q --no-reasons --only P03 --columns 66 f.pfa
+wanted <<'END'
+f.pfa: P03 closepath without a path × 10: \x1B1, \xE9, café, a\\b, \xC2\x9B1
+--
+END
+try 'all names of odd bytes' 1 "$all" -q --no-reasons --only P03 --columns 78 f.pfa
+
 # The summary counts lines of reports, and a refusal is coloured as what must be. ESC is written as ^.
 cp "$fonts/E03.bin" cut.pfa
 wanted <<'END'

@@ -1,17 +1,11 @@
 //! Fonts, lists of their names, and rules.
 
 use std::alloc::{AllocError, Global};
-use t1_rules::{Mask, Rule, all_rules};
+use t1_rules::{Mask, Rule};
 use t1_samples::Sample;
 
 /// The glyph of the number 32001, 0, hmoveto, closepath, endchar: a C05, a C07, a W01 and a P03 in this order.
 pub(crate) const FOUR_FAULTS: &[u8] = b"\xff\x00\x00\x7d\x01\x8b\x16\x09\x0e";
-
-/// The same with closepath twice: a P03 more.
-pub(crate) const FIVE_FAULTS: &[u8] = b"\xff\x00\x00\x7d\x01\x8b\x16\x09\x09\x0e";
-
-/// What is no font: it is refused by E04.
-pub(crate) const CUT: &[u8] = b"%!\n/FontType 1 def\n";
 
 /// The file of a font with this glyph A.
 pub(crate) fn font_with(alloc: Global, glyph: &[u8]) -> Result<Vec<u8>, AllocError> {
@@ -32,15 +26,6 @@ pub(crate) fn only(rules: &[Rule]) -> Mask {
     let mut mask = Mask::empty();
     for rule in rules {
         mask = mask.with(*rule, true);
-    }
-    mask
-}
-
-/// All rules but this one.
-pub(crate) fn all_but(left_out: Rule) -> Mask {
-    let mut mask = Mask::empty();
-    for rule in all_rules() {
-        mask = mask.with(*rule, *rule != left_out);
     }
     mask
 }
