@@ -59,36 +59,6 @@ given_by source source' asked waivers waivers' = record {
   BreaksWaivers = (asked ≡ true) × (waivers'.failed ≡ true);
 }
 
--- A font has no waivers: none are asked for, or there is no such file.
-abbrev pub HasNoWaivers : {F : Type 0} → Calls F → Bool → List ℕ → F → F → Type 0
-HasNoWaivers calls true name old new = calls.OpensWaivers old new name None
-HasNoWaivers calls false name old new = new ≡ old
-
--- The check of the font of a name, and all that it did to the files: it opened the font, and its waivers where they are asked for, both before it
--- read any, and left both. No read followed the end, the limit or a read that failed. A font whose name has a line end isn't opened.
-pub data ChecksIn {F : Type 0} (calls : Calls F) (beside : WaiverFiles) (edition : Edition) (name : List ℕ) (old new : F) (outcome : Outcome) : Type 0 where
-  no_line : has_line_end name ≡ true → new ≡ old → outcome ≡ failed (Unchecked LineEnd) → ChecksIn calls beside edition name old new outcome
-  cannot_open :
-      has_line_end name ≡ false → (cause : Cause) → calls.Opens old new name (Err cause) → outcome ≡ failed (unread cause)
-      → ChecksIn calls beside edition name old new outcome
-  cannot_open_waivers :
-      has_line_end name ≡ false → (opened asked : F) → (source : SourceState) → calls.Opens old opened name (Ok source) → asks beside name ≡ true
-      → (cause : Cause) → calls.OpensWaivers opened asked name (Some (Err cause)) → calls.Leaves asked new name source
-      → outcome ≡ failed (waivers_unread cause)
-      → ChecksIn calls beside edition name old new outcome
-  without_waivers :
-      has_line_end name ≡ false → (opened asked : F) → (source source' waivers waivers' : SourceState) → calls.Opens old opened name (Ok source)
-      → HasNoWaivers calls (asks beside name) name opened asked → calls.Leaves asked new name source'
-      → ReadsAtMost (largest_file + 1) source source' → IsFound edition (given_by source source' false waivers waivers') outcome
-      → ChecksIn calls beside edition name old new outcome
-  with_waivers :
-      has_line_end name ≡ false → (opened asked left : F) → (source source' waivers waivers' : SourceState)
-      → calls.Opens old opened name (Ok source) → asks beside name ≡ true → calls.OpensWaivers opened asked name (Some (Ok waivers))
-      → calls.Leaves asked left name source' → calls.LeavesWaivers left new name waivers'
-      → ReadsAtMost (largest_file + 1) source source' → ReadsAtMost (largest_waivers + 1) waivers waivers'
-      → IsFound edition (given_by source source' true waivers waivers') outcome
-      → ChecksIn calls beside edition name old new outcome
-
 -- The files of a run: the store that has them, its calls, what becomes of files of waivers, and the store before the run and after it.
 pub record Files : Type 1 where
   pub Store : Type 0
@@ -103,3 +73,34 @@ files_by {F} calls beside old new = record { Store = F; calls = calls; beside = 
 -- Nothing was done to the files.
 abbrev pub AreUntouched : Files → Type 0
 AreUntouched files = files.new ≡ files.old
+
+-- A font has no waivers: none are asked for, or there is no such file.
+abbrev pub HasNoWaivers : {F : Type 0} → Calls F → Bool → List ℕ → F → F → Type 0
+HasNoWaivers calls true name old new = calls.OpensWaivers old new name None
+HasNoWaivers calls false name old new = new ≡ old
+
+-- The check of the font of a name, and all that it did to the files: it opened the font, and its waivers where they are asked for, both before it
+-- read any, and left both. No read followed the end, the limit or a read that failed. A font whose name has a line end isn't opened.
+pub data ChecksIn (files : Files) (edition : Edition) (name : List ℕ) (outcome : Outcome) : Type 0 where
+  no_line : has_line_end name ≡ true → files.new ≡ files.old → outcome ≡ failed (Unchecked LineEnd) → ChecksIn files edition name outcome
+  cannot_open :
+      has_line_end name ≡ false → (cause : Cause) → files.calls.Opens files.old files.new name (Err cause) → outcome ≡ failed (unread cause)
+      → ChecksIn files edition name outcome
+  cannot_open_waivers :
+      has_line_end name ≡ false → (opened asked : files.Store) → (source : SourceState) → files.calls.Opens files.old opened name (Ok source)
+      → asks files.beside name ≡ true → (cause : Cause) → files.calls.OpensWaivers opened asked name (Some (Err cause))
+      → files.calls.Leaves asked files.new name source → outcome ≡ failed (waivers_unread cause) → ChecksIn files edition name outcome
+  without_waivers :
+      has_line_end name ≡ false → (opened asked : files.Store) → (source source' waivers waivers' : SourceState)
+      → files.calls.Opens files.old opened name (Ok source) → HasNoWaivers files.calls (asks files.beside name) name opened asked
+      → files.calls.Leaves asked files.new name source' → ReadsAtMost (largest_file + 1) source source'
+      → IsFound edition (given_by source source' false waivers waivers') outcome
+      → ChecksIn files edition name outcome
+  with_waivers :
+      has_line_end name ≡ false → (opened asked left : files.Store) → (source source' waivers waivers' : SourceState)
+      → files.calls.Opens files.old opened name (Ok source) → asks files.beside name ≡ true
+      → files.calls.OpensWaivers opened asked name (Some (Ok waivers))
+      → files.calls.Leaves asked left name source' → files.calls.LeavesWaivers left files.new name waivers'
+      → ReadsAtMost (largest_file + 1) source source' → ReadsAtMost (largest_waivers + 1) waivers waivers'
+      → IsFound edition (given_by source source' true waivers waivers') outcome
+      → ChecksIn files edition name outcome

@@ -1,6 +1,7 @@
 -- What is handed on of many fonts, and in which order.
 use Rattle.std.specs.Prelude.{◌≡◌, ◌⊎◌, ℕ, List, [], ◌∷◌, ◌++◌, filter, map, Bool, true, false, Option, None, Some, Result, Ok, Err, IfOk}
 use Rattle.t1_many.specs.Outcomes.{Entry, Outcome, Report, failed, found_of_error, reported}
+use Rattle.t1_many.specs.Recipients.{Recipient}
 use Rattle.t1_summary.specs.declared.found.FontClass.{FontClass}
 use Rattle.t1_summary.specs.declared.found.FontClass.TheVariants.{Clean, Faulty, Known, Refused, Unchecked}
 use Rattle.t1_many.specs.declared.font_error.FontError.{FontError}
@@ -69,22 +70,29 @@ found_of judges (reported report) = found_by (judges report) report.faults
 found_of judges (failed reason) = found_of_error reason
 
 -- All of a font was handed on, and it was found so; or it stopped there.
-abbrev pub HandsFont : {F : Type 0} → (F → F → Handed → Option Lost → Type 0) → (Report → FaultValue → Verdict) → F → F → Entry
-    → Result FontClass Lost → Type 0
-HandsFont takes judges old new entry taken =
-    HandsOn takes old new (handed_of judges entry.name entry.outcome) (lost_of taken)
+abbrev pub HandsFont : Recipient Handed (Option Lost) → (Report → FaultValue → Verdict) → Entry → Result FontClass Lost → Type 0
+HandsFont form judges entry taken =
+    HandsOn form.takes form.old form.new (handed_of judges entry.name entry.outcome) (lost_of taken)
     × IfOk taken (λ found. found ≡ found_of judges entry.outcome)
 
 -- The lines of a report that aren't omitted were handed on, and then how the font was found; or it stopped there.
-abbrev pub HandsReport : {F : Type 0} → (F → F → Handed → Option Lost → Type 0) → (FaultValue → Verdict) → List ℕ → CheckedFont → List Waiver
-    → F → F → Result FontClass Lost → Type 0
-HandsReport takes judges name font waivers old new taken =
+abbrev pub HandsReport : Recipient Handed (Option Lost) → (FaultValue → Verdict) → List ℕ → CheckedFont → List Waiver → Result FontClass Lost
+    → Type 0
+HandsReport form judges name font waivers taken =
     (faults : List FaultValue) × IsReport font waivers faults
-    × HandsOn takes old new (lines_by judges name font waivers faults ++ done name (found_by judges faults) ∷ []) (lost_of taken)
+    × HandsOn form.takes form.old form.new (lines_by judges name font waivers faults ++ done name (found_by judges faults) ∷ []) (lost_of taken)
     × IfOk taken (λ found. found ≡ found_by judges faults)
 
 -- Why there is no report was handed on, and then how the font was found; or it stopped there.
-abbrev pub HandsFailure : {F : Type 0} → (F → F → Handed → Option Lost → Type 0) → List ℕ → FontError → F → F → Result FontClass Lost → Type 0
-HandsFailure takes name reason old new taken =
-    HandsOn takes old new (failure name reason ∷ done name (found_of_error reason) ∷ []) (lost_of taken)
+abbrev pub HandsFailure : Recipient Handed (Option Lost) → List ℕ → FontError → Result FontClass Lost → Type 0
+HandsFailure form name reason taken =
+    HandsOn form.takes form.old form.new (failure name reason ∷ done name (found_of_error reason) ∷ []) (lost_of taken)
     × IfOk taken (λ found. found ≡ found_of_error reason)
+
+-- ---- fonts of which something is kept
+
+-- The form to which what is reported is handed on, and all that is kept, before and after.
+pub record Keeping (Kept : Type 0) : Type 1 where
+  pub form : Recipient Handed (Option Lost)
+  pub old : List Kept
+  pub new : List Kept

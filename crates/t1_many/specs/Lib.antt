@@ -17,6 +17,7 @@ pub mod Plain
 pub mod Private
 pub mod Readings
 pub mod Reasons
+pub mod Recipients
 pub mod RowValues
 pub mod Shards
 pub mod Statuses

@@ -8,6 +8,7 @@ use Rattle.t1_summary.specs.declared.found.FontClass.{FontClass}
 use Rattle.t1_summary.specs.declared.found.FontClass.TheVariants as founds
 use Rattle.t1_many.specs.declared.font_error.FontError.{FontError}
 use Rattle.t1_many.specs.declared.font_error.FontError.TheVariants.{Refused, Unchecked}
+use Rattle.t1_many.specs.Recipients.{Recipient}
 use Rattle.t1_many.specs.declared.policy.Lost.{Lost}
 use Rattle.t1_report.specs.Checked.{CheckedFont}
 use Rattle.t1_report.specs.Faults.{FaultValue}
@@ -56,10 +57,10 @@ found_of_error (Refused code) = founds.Refused
 found_of_error (Unchecked why) = founds.Unchecked
 
 -- The report of a font with these waivers was taken; or memory ran out, and nothing was done.
-abbrev pub TakesReport : {R E : Type 0} → (R → R → Entry → Result FontClass Lost → Type 0) → List ℕ → CheckedFont → List Waiver → R → R
+abbrev pub TakesReport : {E : Type 0} → Recipient Entry (Result FontClass Lost) → List ℕ → CheckedFont → List Waiver
     → Result (Result FontClass Lost) E → Type 0
-TakesReport takes name font waivers old new (Ok taken) =
+TakesReport recipient name font waivers (Ok taken) =
     (faults : List FaultValue) × IsReport font waivers faults
-    × takes old new
+    × recipient.takes recipient.old recipient.new
     (record { name = name; outcome = reported (record { font = font.value; edition = font.edition; waivers = waivers; faults = faults }) }) taken
-TakesReport takes name font waivers old new (Err error) = new ≡ old
+TakesReport recipient name font waivers (Err error) = recipient.new ≡ recipient.old

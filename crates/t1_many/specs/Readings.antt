@@ -1,9 +1,9 @@
 -- Fonts whose lines are reported by known faults, and what is found in them.
 use Rattle.std.specs.Global.{Global}
-use Rattle.std.specs.Prelude.{◌≡◌, ◌⊎◌, ℕ, List, [], ◌∷◌, ◌++◌, if◌then◌else◌, map, Option, None, Result, Ok, Err, string_bytes}
+use Rattle.std.specs.Prelude.{◌≡◌, ◌⊎◌, ℕ, List, [], ◌∷◌, ◌++◌, if◌then◌else◌, map, None, Result, Ok, Err, string_bytes}
 use Rattle.std.specs.declared.vec.Vec.{Vec}
 use Rattle.t1_font.specs.Fonts.{FontValue}
-use Rattle.t1_many.specs.Handing.{Handed, HandsFont, HandsOn, handed_of}
+use Rattle.t1_many.specs.Handing.{HandsFont, HandsOn, Keeping, handed_of}
 use Rattle.t1_many.specs.Known.{kind_in, verdict_known}
 use Rattle.t1_many.specs.KnownFaults.{Reading as FoundIn, counts_of}
 use Rattle.t1_many.specs.Outcomes.{Entry, Outcome, Report, failed, reported}
@@ -49,18 +49,17 @@ Keeps old new reading (Err before) (Ok kept) = ⊥
 Keeps old new reading (Err before) (Err lost) = (lost ≡ before) × (new ≡ old)
 
 -- A font is taken: what is reported of it is handed on, and what was found in it is kept where its report was made.
-abbrev pub TakesOutcome : {F : Type 0} → (F → F → Handed → Option Lost → Type 0) → (Report → FaultValue → Verdict) → Mask → F → F
-    → List Reading → List Reading → List ℕ → Outcome → Result FontClass Lost → Type 0
-TakesOutcome takes judges rules form form' old new name (reported report) (Ok found) =
-    HandsFont takes judges form form' (record { name = name; outcome = reported report }) (Ok found)
-    × (reading : Reading) × IsReading name report.font report.waivers (told_faults rules report.faults) reading × (new ≡ old ++ reading ∷ [])
-TakesOutcome takes judges rules form form' old new name (reported report) (Err lost) =
-    (HandsFont takes judges form form' (record { name = name; outcome = reported report }) (Err lost)
-    ⊎ ((lost ≡ Memory) × HandsOn takes form form' (handed_of judges name (reported report)) None))
-    × (new ≡ old)
-TakesOutcome takes judges rules form form' old new name (failed reason) taken =
-    HandsFont takes judges form form' (record { name = name; outcome = failed reason }) taken × (new ≡ old)
+abbrev pub TakesOutcome : Keeping Reading → (Report → FaultValue → Verdict) → Mask → List ℕ → Outcome → Result FontClass Lost → Type 0
+TakesOutcome keeping judges rules name (reported report) (Ok found) =
+    HandsFont keeping.form judges (record { name = name; outcome = reported report }) (Ok found)
+    × (reading : Reading) × IsReading name report.font report.waivers (told_faults rules report.faults) reading
+    × (keeping.new ≡ keeping.old ++ reading ∷ [])
+TakesOutcome keeping judges rules name (reported report) (Err lost) =
+    (HandsFont keeping.form judges (record { name = name; outcome = reported report }) (Err lost)
+    ⊎ ((lost ≡ Memory) × HandsOn keeping.form.takes keeping.form.old keeping.form.new (handed_of judges name (reported report)) None))
+    × (keeping.new ≡ keeping.old)
+TakesOutcome keeping judges rules name (failed reason) taken =
+    HandsFont keeping.form judges (record { name = name; outcome = failed reason }) taken × (keeping.new ≡ keeping.old)
 
-abbrev pub TakesKnown : {F : Type 0} → (F → F → Handed → Option Lost → Type 0) → (Report → FaultValue → Verdict) → Mask → F → F
-    → List Reading → List Reading → Entry → Result FontClass Lost → Type 0
-TakesKnown takes judges rules form form' old new entry taken = TakesOutcome takes judges rules form form' old new entry.name entry.outcome taken
+abbrev pub TakesKnown : Keeping Reading → (Report → FaultValue → Verdict) → Mask → Entry → Result FontClass Lost → Type 0
+TakesKnown keeping judges rules entry taken = TakesOutcome keeping judges rules entry.name entry.outcome taken

@@ -6,6 +6,7 @@ use Rattle.t1_many.specs.Ends.{AreEntries, status_of_all}
 use Rattle.t1_many.specs.Files.{Files}
 use Rattle.t1_many.specs.Handing.{Handed, HandsOn, found_of, handed_of}
 use Rattle.t1_many.specs.Outcomes.{Entry, Report}
+use Rattle.t1_many.specs.Recipients.{Recipient}
 use Rattle.t1_summary.specs.declared.found.FontClass.{FontClass}
 use Rattle.t1_many.specs.declared.policy.Lost.{Lost}
 use Rattle.t1_many.specs.declared.verdict.Verdict.{Verdict}
@@ -20,12 +21,13 @@ abbrev pub founds_of : (List ℕ → Report → FaultValue → Verdict) → List
 founds_of judges entries = map (λ entry. found_of (judges entry.name) entry.outcome) entries
 
 -- All of all fonts was handed on, and the status is the greatest of theirs; or it stopped at one of them.
-pub data TellsAll {F : Type 0} (takes : F → F → Handed → Option Lost → Type 0) (judges : List ℕ → Report → FaultValue → Verdict) (files : Files)
-    (edition : Edition) (names : List (List ℕ)) (old new : F) (result : Result Status Lost) : Type 0 where
+pub data TellsAll (form : Recipient Handed (Option Lost)) (judges : List ℕ → Report → FaultValue → Verdict) (files : Files) (edition : Edition)
+    (names : List (List ℕ)) (result : Result Status Lost) : Type 0 where
   whole :
-      (entries : List Entry) → AreEntries files edition names entries → HandsOn takes old new (all_handed judges entries) None
-      → result ≡ Ok (status_of_all (founds_of judges entries)) → TellsAll takes judges files edition names old new result
+      (entries : List Entry) → AreEntries files edition names entries
+      → HandsOn form.takes form.old form.new (all_handed judges entries) None
+      → result ≡ Ok (status_of_all (founds_of judges entries)) → TellsAll form judges files edition names result
   cut_short :
       (count : ℕ) → (entries : List Entry) → AreEntries files edition (take count names) entries → (lost : Lost)
-      → HandsOn takes old new (all_handed judges entries) (Some lost) → result ≡ Err lost
-      → TellsAll takes judges files edition names old new result
+      → HandsOn form.takes form.old form.new (all_handed judges entries) (Some lost) → result ≡ Err lost
+      → TellsAll form judges files edition names result

@@ -50,8 +50,14 @@ pub record HavePut (all : List Reading) (whole : List ℕ) (rest : List (List �
   pub wrote : Wrote old new so_far
   pub split : so_far ++ rest done ≡ whole
 
+-- How far the new file is written: the device, and what is left of fonts.
+pub record Progress : Type 0 where
+  pub sink : SinkState
+  pub left : FontsLeft
+
 -- All rows were put in their places, or a write failed.
-abbrev pub PutsRows : {E : Type 0} → Choice → List RowValue → SinkState → SinkState → FontsLeft → FontsLeft → Result (Unit {0}) E → Type 0
-PutsRows choice rows old new left left' (Ok put) = (all : List Reading) → IsLeft all [] left
-    → HavePut all (updated_text choice all [] rows) (λ done. behind_text all done all) old new left'
-PutsRows choice rows old new left left' (Err e) = (all : List Reading) → IsLeft all [] left → PutFailed old new (updated_text choice all [] rows)
+abbrev pub PutsRows : {E : Type 0} → Choice → List RowValue → Progress → Progress → Result (Unit {0}) E → Type 0
+PutsRows choice rows old new (Ok put) = (all : List Reading) → IsLeft all [] old.left
+    → HavePut all (updated_text choice all [] rows) (λ done. behind_text all done all) old.sink new.sink new.left
+PutsRows choice rows old new (Err e) =
+    (all : List Reading) → IsLeft all [] old.left → PutFailed old.sink new.sink (updated_text choice all [] rows)

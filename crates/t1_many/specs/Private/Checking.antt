@@ -11,11 +11,10 @@ use Rattle.t1_run.specs.declared.failure.Failure.{Failure}
 use Rattle.t1_many.specs.FontErrors.{error_of}
 use Rattle.t1_many.specs.declared.font_error.FontError.{FontError}
 use Rattle.t1_names.specs.declared.causes.Cause.{Cause}
-use Rattle.t1_many.specs.Calls.{Calls}
-use Rattle.t1_many.specs.Files.{ChecksIn, Given, IsFound}
+use Rattle.t1_many.specs.Files.{ChecksIn, Files, Given, IsFound}
 use Rattle.t1_many.specs.Outcomes.{Entry, Outcome, Report, failed, reported}
+use Rattle.t1_many.specs.Recipients.{Recipient}
 use Rattle.t1_summary.specs.declared.found.FontClass.{FontClass}
-use Rattle.t1_many.specs.declared.font_files.WaiverFiles.{WaiverFiles}
 use Rattle.t1_many.specs.declared.policy.Lost.{Lost}
 
 -- A font that was read of a file's bytes.
@@ -49,21 +48,18 @@ of_bytes bytes asked old new = record {
 }
 
 -- The report of a font was taken; or there is none, and nothing was done.
-abbrev pub Checks : {R : Type 0} → (R → R → Entry → Result FontClass Lost → Type 0) → Edition → List ℕ → Given → R → R
-    → Result (Result FontClass Lost) Failure → Type 0
-Checks takes edition name given old new (Ok taken) =
+abbrev pub Checks : Recipient Entry (Result FontClass Lost) → Edition → List ℕ → Given → Result (Result FontClass Lost) Failure → Type 0
+Checks recipient edition name given (Ok taken) =
     (report : Report) × IsFound edition given (reported report)
-    × takes old new (record { name = name; outcome = reported report }) taken
-Checks takes edition name given old new (Err failure) = IsFound edition given (failed (error_of failure)) × (new ≡ old)
+    × recipient.takes recipient.old recipient.new (record { name = name; outcome = reported report }) taken
+Checks recipient edition name given (Err failure) = IsFound edition given (failed (error_of failure)) × (recipient.new ≡ recipient.old)
 
 -- The same, with all that was done to the files.
-abbrev pub ChecksNamed : {R F : Type 0} → (R → R → Entry → Result FontClass Lost → Type 0) → Calls F → WaiverFiles → Edition → List ℕ → F → F → R → R
-    → Result (Result FontClass Lost) FontError → Type 0
-ChecksNamed takes calls beside edition name files files' old new (Ok taken) =
-    (report : Report) × ChecksIn calls beside edition name files files' (reported report)
-    × takes old new (record { name = name; outcome = reported report }) taken
-ChecksNamed takes calls beside edition name files files' old new (Err error) =
-    ChecksIn calls beside edition name files files' (failed error) × (new ≡ old)
+abbrev pub ChecksNamed : Recipient Entry (Result FontClass Lost) → Files → Edition → List ℕ → Result (Result FontClass Lost) FontError → Type 0
+ChecksNamed recipient files edition name (Ok taken) =
+    (report : Report) × ChecksIn files edition name (reported report)
+    × recipient.takes recipient.old recipient.new (record { name = name; outcome = reported report }) taken
+ChecksNamed recipient files edition name (Err error) = ChecksIn files edition name (failed error) × (recipient.new ≡ recipient.old)
 
 -- What a check gave, or why there is no report.
 abbrev pub or_error : {T : Type 0} → Result T Failure → Result T FontError
@@ -71,12 +67,12 @@ or_error (Ok taken) = Ok taken
 or_error (Err failure) = Err (error_of failure)
 
 -- How the check of a font ended was taken.
-abbrev pub TakesOne : {R F : Type 0} → (R → R → Entry → Result FontClass Lost → Type 0) → Calls F → WaiverFiles → Edition → List ℕ → F → F → R → R
-    → Result FontClass Lost → Type 0
-TakesOne takes calls beside edition name files files' old new taken =
-    (outcome : Outcome) × ChecksIn calls beside edition name files files' outcome × takes old new (record { name = name; outcome = outcome }) taken
+abbrev pub TakesOne : Recipient Entry (Result FontClass Lost) → Files → Edition → List ℕ → Result FontClass Lost → Type 0
+TakesOne recipient files edition name taken =
+    (outcome : Outcome) × ChecksIn files edition name outcome
+    × recipient.takes recipient.old recipient.new (record { name = name; outcome = outcome }) taken
 
--- A font's waivers were asked for, if they are to be: they have a file that could be opened or not, or none.
-abbrev pub AsksWaivers : {F : Type 0} → Calls F → Bool → List ℕ → F → F → Option (Result SourceState Cause) → Type 0
-AsksWaivers calls true name old new opened = calls.OpensWaivers old new name opened
-AsksWaivers calls false name old new opened = (new ≡ old) × (opened ≡ None)
+-- A font's waivers were asked for, if they are to be: they have a file that could be opened or not, or none. The store of files takes the name.
+abbrev pub AsksWaivers : Recipient (List ℕ) (Option (Result SourceState Cause)) → Bool → List ℕ → Option (Result SourceState Cause) → Type 0
+AsksWaivers files true name opened = files.takes files.old files.new name opened
+AsksWaivers files false name opened = (files.new ≡ files.old) × (opened ≡ None)

@@ -1,6 +1,7 @@
 -- How what is handed on of one font ends.
 use Rattle.std.specs.Prelude.{◌≡◌, ℕ, List, Option, Result, IfOk}
 use Rattle.t1_many.specs.Handing.{Handed, HandsOn, found_by, lines_by, lost_of}
+use Rattle.t1_many.specs.Recipients.{Recipient}
 use Rattle.t1_summary.specs.declared.found.FontClass.{FontClass}
 use Rattle.t1_many.specs.declared.policy.Lost.{Lost}
 use Rattle.t1_many.specs.declared.verdict.Verdict.{Verdict}
@@ -10,9 +11,9 @@ use Rattle.t1_report.specs.Reports.{IsReport}
 use Rattle.t1_report.specs.Waivers.{Waiver}
 
 -- The lines of a report that aren't omitted.
-abbrev pub HandsLines : {F : Type 0} → (F → F → Handed → Option Lost → Type 0) → (FaultValue → Verdict) → List ℕ → CheckedFont → List Waiver
-    → F → F → Result FontClass Lost → Type 0
-HandsLines takes judges name font waivers old new taken =
+abbrev pub HandsLines : Recipient Handed (Option Lost) → (FaultValue → Verdict) → List ℕ → CheckedFont → List Waiver → Result FontClass Lost
+    → Type 0
+HandsLines form judges name font waivers taken =
     (faults : List FaultValue) × IsReport font waivers faults
-    × HandsOn takes old new (lines_by judges name font waivers faults) (lost_of taken)
+    × HandsOn form.takes form.old form.new (lines_by judges name font waivers faults) (lost_of taken)
     × IfOk taken (λ found. found ≡ found_by judges faults)
