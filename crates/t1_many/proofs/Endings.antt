@@ -11,6 +11,7 @@ use Rattle.t1_many.specs.Files.{Given, IsFound, given_by}
 use Rattle.t1_many.specs.Files.IsFound.{breaks, breaks_waivers, no_memory, refused, reports, waivers_refused}
 use Rattle.t1_many.specs.Outcomes.{Entry, Outcome, failed, reported}
 use Rattle.t1_many.specs.Private.Checking.{Checks, of_bytes, of_font, of_text}
+use Rattle.t1_many.specs.Recipients.{recipient_by}
 use Rattle.t1_summary.specs.declared.found.FontClass.{FontClass}
 use Rattle.t1_many.specs.declared.policy.Lost.{Lost}
 use Rattle.t1_report.specs.Checked.{checked}
@@ -58,13 +59,14 @@ found_by edition given wider outcome on (no_memory same) = no_memory same
 
 module _ {R : Type 0} (takes : R → R → Entry → Result FontClass Lost → Type 0) (edition : Edition) (name : List ℕ) where
   pub checks_by : (given wider : Given) (a b : R) (result : Result (Result FontClass Lost) Failure) → Widens given wider
-      → Checks takes edition name given a b result → Checks takes edition name wider a b result
+      → Checks (recipient_by takes a b) edition name given result → Checks (recipient_by takes a b) edition name wider result
   checks_by given wider a b (Ok taken) on (report, found, took) = (report, found_by edition given wider (reported report) on found, took)
   checks_by given wider a b (Err failure) on (found, same) = (found_by edition given wider (ended failure) on found, same)
 
   -- the exit of a `?` at which nothing was done
   pub not_found : (given : Given) (a b : R) (result : Result (Result FontClass Lost) Failure) (failure : Failure)
-      → IsErrAnd result (λ f. f ≡ failure) → b ≡ a → IsFound edition given (ended failure) → Checks takes edition name given a b result
+      → IsErrAnd result (λ f. f ≡ failure) → b ≡ a → IsFound edition given (ended failure)
+      → Checks (recipient_by takes a b) edition name given result
   not_found given a b (Ok taken) failure is same found = absurd is
   not_found given a b (Err f) failure is same found =
       (subst (λ (f : Failure). IsFound edition given (ended f)) (sym is) found, same)
@@ -73,7 +75,7 @@ module _ {R : Type 0} (takes : R → R → Entry → Result FontClass Lost → T
   pub text_taken : (font : FontValue) (text : List ℕ) (waivers : List Waiver) (of : Edition) (a b : R) (taken : Result FontClass Lost)
       → of ≡ edition → waivers_of text ≡ Some waivers → (faults : List FaultValue) × IsReport (checked font of) waivers faults
       × takes a b (record { name = name; outcome = reported (record { font = font; edition = of; waivers = waivers; faults = faults }) }) taken
-      → Checks takes edition name (of_text font text) a b (Ok taken)
+      → Checks (recipient_by takes a b) edition name (of_text font text) (Ok taken)
   text_taken font text waivers of a b taken same read (faults, is, took) = (
     record { font = font; edition = of; waivers = waivers; faults = faults },
     reports (record { font = font; edition = of; waivers = waivers; faults = faults }) refl (ap as_waivers read) same

@@ -11,6 +11,7 @@ use Rattle.t1_many.specs.Ends.Ends.{all, stopped}
 use Rattle.t1_many.specs.Files.{ChecksIn, files_by}
 use Rattle.t1_many.specs.Outcomes.{Entry, Outcome, status_of_found}
 use Rattle.t1_many.specs.Private.Checking.{TakesOne}
+use Rattle.t1_many.specs.Recipients.{recipient_by}
 use Rattle.t1_many.specs.Statuses.{worse, worst_of}
 use Rattle.t1_summary.specs.declared.found.FontClass.{FontClass}
 use Rattle.t1_many.specs.declared.font_files.WaiverFiles.{WaiverFiles}
@@ -49,10 +50,10 @@ module _ {R : Type 0} (takes : R → R → Entry → Result FontClass Lost → T
   )
 
   module _ {F : Type 0} (calls : Calls F) (beside : WaiverFiles) (edition : Edition) where
-    checked-push : (a b c : F) (entries : List Entry) (name : List ℕ) (outcome : Outcome) → AreChecked calls beside edition a b entries
-        → ChecksIn calls beside edition name b c outcome
-        → AreChecked calls beside edition a c (entries ++ record { name = name; outcome = outcome } ∷ [])
-    checked-push a b c [] name outcome same is = (c, subst (λ (s : F). ChecksIn calls beside edition name s c outcome) same is, refl)
+    checked-push : (a b c : F) (entries : List Entry) (name : List ℕ) (outcome : Outcome) → AreChecked (files_by calls beside a b) edition entries
+        → ChecksIn (files_by calls beside b c) edition name outcome
+        → AreChecked (files_by calls beside a c) edition (entries ++ record { name = name; outcome = outcome } ∷ [])
+    checked-push a b c [] name outcome same is = (c, subst (λ (s : F). ChecksIn (files_by calls beside s c) edition name outcome) same is, refl)
     checked-push a b c (first ∷ entries) name outcome (next, one, rest) is = (next, one, checked-push next b c entries name outcome rest is)
 
     -- The fonts of these names so far, by the files at first and now.
@@ -73,7 +74,8 @@ module _ {R : Type 0} (takes : R → R → Entry → Result FontClass Lost → T
     }
 
     and_one : (names : List (List ℕ)) (files between files' : F) (entries : List Entry) (name : List ℕ) (outcome : Outcome)
-        → AreEntries (files_by calls beside files between) edition names entries → ChecksIn calls beside edition name between files' outcome
+        → AreEntries (files_by calls beside files between) edition names entries
+        → ChecksIn (files_by calls beside between files') edition name outcome
         → AreEntries (files_by calls beside files files') edition (names ++ name ∷ []) (entries ++ record { name = name; outcome = outcome } ∷ [])
     and_one names files between files' entries name outcome are is = record {
       names_are = map-append (λ (e : Entry). e.name) entries (record { name = name; outcome = outcome } ∷ [])
@@ -83,7 +85,7 @@ module _ {R : Type 0} (takes : R → R → Entry → Result FontClass Lost → T
 
     module _ (names : List (List ℕ)) (name : List ℕ) (files between files' : F) (a b c : R) (worst : Status)
         (gone : HaveGone names files between a b worst) where
-      pub one_gone : (found : FontClass) → TakesOne takes calls beside edition name between files' b c (Ok found)
+      pub one_gone : (found : FontClass) → TakesOne (recipient_by takes b c) (files_by calls beside between files') edition name (Ok found)
           → HaveGone (names ++ name ∷ []) files files' a c (worse worst (status_of_found found))
       one_gone found (outcome, is, took) = record {
         entries = gone.entries ++ record { name = name; outcome = outcome } ∷ [];
@@ -95,13 +97,14 @@ module _ {R : Type 0} (takes : R → R → Entry → Result FontClass Lost → T
 
       -- a font at which it stopped
       pub one_lost : (lost : Lost) (all_names : List (List ℕ)) (count : ℕ) → take count all_names ≡ names ++ name ∷ []
-          → TakesOne takes calls beside edition name between files' b c (Err lost) → (result : Result Status Lost) → result ≡ Err lost
-          → Ends takes (files_by calls beside files files') edition all_names a c result
+          → TakesOne (recipient_by takes b c) (files_by calls beside between files') edition name (Err lost)
+          → (result : Result Status Lost) → result ≡ Err lost
+          → Ends (recipient_by takes a c) (files_by calls beside files files') edition all_names result
       one_lost lost all_names count front (outcome, is, took) result result_is =
           stopped count gone.entries (record { name = name; outcome = outcome }) gone.founds
           (subst (λ ns. AreEntries (files_by calls beside files files') edition ns (gone.entries ++ record { name = name; outcome = outcome } ∷ []))
           (sym front) (and_one names files between files' gone.entries name outcome gone.are is)) b gone.taken lost took result_is
 
     pub all_gone : (names : List (List ℕ)) (files files' : F) (a b : R) (worst : Status) → HaveGone names files files' a b worst
-        → Ends takes (files_by calls beside files files') edition names a b (Ok worst)
+        → Ends (recipient_by takes a b) (files_by calls beside files files') edition names (Ok worst)
     all_gone names files files' a b worst gone = all gone.entries gone.founds gone.are gone.taken (ap Ok gone.worst_is)

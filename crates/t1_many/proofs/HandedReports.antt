@@ -5,6 +5,7 @@ use Rattle.t1_many.proofs.Handed.{handed-append, handed-one, handed-stopped}
 use Rattle.t1_many.proofs.ReportLines.{lost_same, no_ok}
 use Rattle.t1_many.specs.Handing.{Handed, HandsOn, HandsReport, done, found_by, lines_by}
 use Rattle.t1_many.specs.Private.Handing.{HandsLines}
+use Rattle.t1_many.specs.Recipients.{recipient_by}
 use Rattle.t1_summary.specs.declared.found.FontClass.{FontClass}
 use Rattle.t1_many.specs.declared.policy.Lost.{Lost}
 use Rattle.t1_many.specs.declared.verdict.Verdict.{Verdict}
@@ -15,8 +16,8 @@ use Rattle.t1_report.specs.Waivers.{Waiver}
 module _ {F : Type 0} (takes : F → F → Handed → Option Lost → Type 0) (name : List ℕ) where
   module _ (judges : FaultValue → Verdict) (font : CheckedFont) (waivers : List Waiver) (a b : F) where
     -- it stopped in a line
-    pub stopped_early : (lost : Lost) → HandsLines takes judges name font waivers a b (Err lost) → (r : Result FontClass Lost)
-        → IsErrAnd r (λ l. l ≡ lost) → HandsReport takes judges name font waivers a b r
+    pub stopped_early : (lost : Lost) → HandsLines (recipient_by takes a b) judges name font waivers (Err lost) → (r : Result FontClass Lost)
+        → IsErrAnd r (λ l. l ≡ lost) → HandsReport (recipient_by takes a b) judges name font waivers r
     stopped_early lost (faults, is, handed, none) r at = (
       faults,
       is,
@@ -34,9 +35,9 @@ module _ {F : Type 0} (takes : F → F → Handed → Option Lost → Type 0) (n
         (subst (λ (f : FontClass). HandsOn takes b c (done name f ∷ []) lost) same (handed-one takes b c (done name found) lost took))
 
     -- or after all of them
-    pub stopped_late : (c : F) (found : FontClass) (lost : Lost) → HandsLines takes judges name font waivers a b (Ok found)
+    pub stopped_late : (c : F) (found : FontClass) (lost : Lost) → HandsLines (recipient_by takes a b) judges name font waivers (Ok found)
         → takes b c (done name found) (Some lost) → (r : Result FontClass Lost) → IsErrAnd r (λ l. l ≡ lost)
-        → HandsReport takes judges name font waivers a c r
+        → HandsReport (recipient_by takes a c) judges name font waivers r
     stopped_late c found lost (faults, is, handed, same) took r at = (
       faults,
       is,
@@ -45,6 +46,6 @@ module _ {F : Type 0} (takes : F → F → Handed → Option Lost → Type 0) (n
       no_ok r (λ l. l ≡ lost) (λ f. f ≡ found_by judges faults) at,
     )
 
-    pub all_done : (c : F) (found : FontClass) → HandsLines takes judges name font waivers a b (Ok found) → takes b c (done name found) None
-        → HandsReport takes judges name font waivers a c (Ok found)
+    pub all_done : (c : F) (found : FontClass) → HandsLines (recipient_by takes a b) judges name font waivers (Ok found)
+        → takes b c (done name found) None → HandsReport (recipient_by takes a c) judges name font waivers (Ok found)
     all_done c found (faults, is, handed, same) took = (faults, is, behind_lines c found None faults handed same took, same)

@@ -18,6 +18,7 @@ use Rattle.t1_many.specs.KnownFaults.{counts_of, is_among}
 use Rattle.t1_many.specs.Outcomes.{Entry, IsRead, Report, reported}
 use Rattle.t1_many.specs.Private.Counts.{AreCounts, AreKnown, CountsReport}
 use Rattle.t1_many.specs.Readings.{IsReading, IsReadingOf, Keeps, TakesOutcome, as_known, by_known}
+use Rattle.t1_many.specs.Recipients.{recipient_by}
 use Rattle.t1_many.specs.Verdicts.{told_faults}
 use Rattle.t1_many.specs.declared.readings.Reading.{Reading}
 use Rattle.t1_many.specs.declared.policy.Lost.{Lost}
@@ -125,11 +126,12 @@ module _ {F : Type 0} (takes : F → F → Handed → Option Lost → Type 0) (r
 
   kept : (judges : Report → FaultValue → Verdict) (a b : F) (old new : List Reading) (reading : Reading) (font : CheckedFont)
       (waivers : List Waiver) (faults : List FaultValue) (taken result : Result FontClass Lost)
-      → HandsFont takes judges a b (entry font waivers faults) taken → IsReading name font.value waivers (told_faults rules faults) reading
-      → Keeps old new reading taken result
-      → TakesOutcome takes judges rules a b old new name (reported (record { font = font.value; edition = font.edition; waivers = waivers; faults = faults })) result
+      → HandsFont (recipient_by takes a b) judges (entry font waivers faults) taken
+      → IsReading name font.value waivers (told_faults rules faults) reading → Keeps old new reading taken result
+      → TakesOutcome (record { form = recipient_by takes a b; old = old; new = new }) judges rules name
+      (reported (record { font = font.value; edition = font.edition; waivers = waivers; faults = faults })) result
   kept judges a b old new reading font waivers faults (Ok found) (Ok other) hands is (same, keeps) = (
-    subst (λ (f : FontClass). HandsFont takes judges a b (entry font waivers faults) (Ok f)) (sym same) hands,
+    subst (λ (f : FontClass). HandsFont (recipient_by takes a b) judges (entry font waivers faults) (Ok f)) (sym same) hands,
     reading,
     is,
     keeps,
@@ -137,7 +139,7 @@ module _ {F : Type 0} (takes : F → F → Handed → Option Lost → Type 0) (r
   kept judges a b old new reading font waivers faults (Ok found) (Err lost) hands is (memory, keeps) = (inr (memory, hands.0), keeps)
   kept judges a b old new reading font waivers faults (Err before) (Ok other) hands is never = absurd never
   kept judges a b old new reading font waivers faults (Err before) (Err lost) hands is (same, keeps) = (
-    inl (subst (λ (l : Lost). HandsFont takes judges a b (entry font waivers faults) (Err l)) (sym same) hands),
+    inl (subst (λ (l : Lost). HandsFont (recipient_by takes a b) judges (entry font waivers faults) (Err l)) (sym same) hands),
     keeps,
   )
 
@@ -146,10 +148,11 @@ module _ {F : Type 0} (takes : F → F → Handed → Option Lost → Type 0) (r
       → CountsReport rules font waivers found → (reading : Reading)
       → ((kinds : List (List ℕ)) → text_counts found ≡ counts_of kinds → IsReadingOf reading (record { font = name; kinds = kinds }))
       → (a b : F) (taken : Result FontClass Lost)
-      → HandsReport takes (as_known rules (record { font = font.value; edition = font.edition; waivers = waivers; faults = [] })) name font waivers a b taken
+      → HandsReport (recipient_by takes a b) (as_known rules (record { font = font.value; edition = font.edition; waivers = waivers; faults = [] }))
+      name font waivers taken
       → (old new : List Reading) (result : Result FontClass Lost) → Keeps old new reading taken result
       → (faults : List FaultValue) × IsReport font waivers faults
-      × TakesOutcome takes (as_known rules) rules a b old new name
+      × TakesOutcome (record { form = recipient_by takes a b; old = old; new = new }) (as_known rules) rules name
       (reported (record { font = font.value; edition = font.edition; waivers = waivers; faults = faults })) result
   report_anew no_other font waivers found (counted, is, there, are) reading is_reading a b taken (faults, report, handed, found_is) old new result
       keeps =
@@ -166,10 +169,11 @@ module _ {F : Type 0} (takes : F → F → Handed → Option Lost → Type 0) (r
       → (found known : List (KindValue × ℕ)) → CountsReport rules font waivers found → AreKnown counts name found known → (reading : Reading)
       → ((kinds : List (List ℕ)) → text_counts found ≡ counts_of kinds → IsReadingOf reading (record { font = name; kinds = kinds }))
       → (a b : F) (taken : Result FontClass Lost)
-      → HandsReport takes (λ fault. verdict_beyond rules known found (counted_in font.value waivers fault)) name font waivers a b taken
+      → HandsReport (recipient_by takes a b) (λ fault. verdict_beyond rules known found (counted_in font.value waivers fault)) name font waivers
+      taken
       → (old new : List Reading) (result : Result FontClass Lost) → Keeps old new reading taken result
       → (faults : List FaultValue) × IsReport font waivers faults
-      × TakesOutcome takes (by_known counts rules name) rules a b old new name
+      × TakesOutcome (record { form = recipient_by takes a b; old = old; new = new }) (by_known counts rules name) rules name
       (reported (record { font = font.value; edition = font.edition; waivers = waivers; faults = faults })) result
   report_kept no_other font waivers read found known (counted, is, there, are) are_known reading is_reading a b taken
       (faults, report, handed, found_is) old new result keeps =

@@ -8,6 +8,7 @@ use Rattle.t1_many.specs.Ends.Ends.{all, stopped}
 use Rattle.t1_many.specs.Files.{Files}
 use Rattle.t1_many.specs.Handing.{Handed, HandsFont, HandsOn, handed_of}
 use Rattle.t1_many.specs.Outcomes.{Entry, Report}
+use Rattle.t1_many.specs.Recipients.{recipient_by}
 use Rattle.t1_many.specs.Told.{TellsAll, all_handed, founds_of}
 use Rattle.t1_many.specs.Told.TellsAll.{cut_short, whole}
 use Rattle.t1_many.specs.Verdicts.{of_rules}
@@ -21,7 +22,7 @@ use Rattle.t1_run.specs.declared.status.Status.{Status}
 module _ {T F : Type 0} (takes : F → F → Handed → Option Lost → Type 0) (rules : T → Mask) (form : T → F) where
   -- A font is taken by rules that stay.
   abbrev Takes : T → T → Entry → Result FontClass Lost → Type 0
-  Takes old new entry taken = (rules new ≡ rules old) × HandsFont takes (of_rules (rules old)) (form old) (form new) entry taken
+  Takes old new entry taken = (rules new ≡ rules old) × HandsFont (recipient_by takes (form old) (form new)) (of_rules (rules old)) entry taken
 
   -- Fonts that were taken.
   record HaveTold (old new : T) (entries : List Entry) (founds : List FontClass) : Type 0 where
@@ -52,7 +53,8 @@ module _ {T F : Type 0} (takes : F → F → Handed → Option Lost → Type 0) 
       ∙ ap (λ hs. all_handed judges entries ++ hs) (append-nil (handed_of (judges last.name) last.name last.outcome))
 
   pub tells_all : (files : Files) (edition : Edition) (names : List (List ℕ)) (old new : T) (result : Result Status Lost)
-      → Ends Takes files edition names old new result → TellsAll takes (λ name. of_rules (rules old)) files edition names (form old) (form new) result
+      → Ends (recipient_by Takes old new) files edition names result
+      → TellsAll (recipient_by takes (form old) (form new)) (λ name. of_rules (rules old)) files edition names result
   tells_all files edition names old new result (all entries founds are taken is) =
       let so = told old new entries founds taken in
       whole entries are so.handed (is ∙ ap (λ fs. Ok (status_of_all fs)) so.founds_are)

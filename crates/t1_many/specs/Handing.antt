@@ -91,7 +91,7 @@ HandsFailure form name reason taken =
 
 -- ---- fonts of which something is kept
 
--- The form to which what is reported is handed on, and all that is kept, before and after.
+-- A form, to which what is reported of fonts is handed on; and what is kept of them, before and after.
 pub record Keeping (Kept : Type 0) : Type 1 where
   pub form : Recipient Handed (Option Lost)
   pub old : List Kept

@@ -1,6 +1,6 @@
--- What takes things one after another.
+-- What takes things one after another, as a policy takes fonts and a printer takes their lines.
 
--- How it takes each thing, and how that ends, by its states; and its state before the first one and after the last one.
+-- How it takes a thing, from one state to the next, and how that ends; and its states before the first thing and after the last one.
 pub record Recipient (Thing End : Type 0) : Type 1 where
   pub State : Type 0
   pub takes : State → State → Thing → End → Type 0

@@ -6,6 +6,7 @@ ghost use Rattle.t1_many.specs.Ends.{Ends};
 ghost use Rattle.t1_many.specs.Files.{files_by};
 ghost use Rattle.t1_many.specs.FontFiles.{asks};
 ghost use Rattle.t1_many.specs.Private.Checking.{AsksWaivers, ChecksNamed, TakesOne, or_error};
+ghost use Rattle.t1_many.specs.Recipients.{recipient_by};
 
 use crate::font_error::{FontError, Obstacle};
 use crate::font_files::{FontFiles, WaiverFiles};
@@ -31,8 +32,8 @@ pub fn check_all<F: FontFiles, T: Policy>(
     edition: Edition,
     recipient: &mut T,
 ) -> Result<Status, Lost>
-    ensures { Ends T.takes (files_by F.calls beside files.old files.new) edition (map string_bytes names.now)
-        recipient.old recipient.new result }
+    ensures { Ends (recipient_by T.takes recipient.old recipient.new) (files_by F.calls beside files.old files.new) edition
+        (map string_bytes names.now) result }
 {
     let mut worst = Status::Clean;
     for name in names {
@@ -51,7 +52,8 @@ fn check_one<F: FontFiles, T: Policy>(
     edition: Edition,
     recipient: &mut T,
 ) -> Taken
-    ensures { TakesOne T.takes F.calls beside edition name.now files.old files.new recipient.old recipient.new result }
+    ensures { TakesOne (recipient_by T.takes recipient.old recipient.new) (files_by F.calls beside files.old files.new) edition name.now
+        result }
 {
     match check_named(alloc, name, beside, files, edition, recipient) {
         Ok(taken) => taken,
@@ -68,7 +70,8 @@ fn check_named<F: FontFiles, T: Policy>(
     edition: Edition,
     recipient: &mut T,
 ) -> Result<Taken, FontError>
-    ensures { ChecksNamed T.takes F.calls beside edition name.now files.old files.new recipient.old recipient.new result }
+    ensures { ChecksNamed (recipient_by T.takes recipient.old recipient.new) (files_by F.calls beside files.old files.new) edition
+        name.now result }
 {
     if has_line_end(name) {
         return Err(FontError::Unchecked(Obstacle::LineEnd));
@@ -121,7 +124,8 @@ fn open_asked<F: FontFiles>(
     are_asked: bool,
     files: &mut F,
 ) -> Option<io::Result<F::Waivers>>
-    ensures { AsksWaivers F.calls are_asked name.now files.old files.new (option_map (opened_in F.Waivers.state) result) }
+    ensures { AsksWaivers (recipient_by F.calls.OpensWaivers files.old files.new) are_asked name.now
+        (option_map (opened_in F.Waivers.state) result) }
 {
     if are_asked {
         files.open_waivers(name)

@@ -4,6 +4,7 @@ ghost use Rattle.std.specs.Prelude.{◌≡◌, ◌≤◌, length};
 ghost use Rattle.t1_font.specs.Bounds.{most_glyphs};
 ghost use Rattle.t1_many.specs.Handing.{HandsFailure, HandsReport};
 ghost use Rattle.t1_many.specs.Private.Handing.{HandsLines};
+ghost use Rattle.t1_many.specs.Recipients.{recipient_by};
 ghost use Rattle.t1_report.specs.Checked.{checked};
 ghost use Rattle.t1_report.specs.Waivers.{largest_waivers};
 ghost use Rattle.t1_rules.specs.Components.{AreOf};
@@ -34,8 +35,8 @@ pub fn hand_report<'a, F: Printer, J: Judge>(
     requires few { length font.now.glyphs ≤ most_glyphs }
     requires few_waivers { length waivers.now ≤ largest_waivers }
     requires sidebearings { AreOf font.now sidebearings.now }
-    ensures { HandsReport F.takes (J.judges judge.now font.now waivers.now) name.now (checked font.now sidebearings.now.edition) waivers.now
-        form.old form.new result }
+    ensures { HandsReport (recipient_by F.takes form.old form.new) (J.judges judge.now font.now waivers.now) name.now
+        (checked font.now sidebearings.now.edition) waivers.now result }
 {
     let found = hand_lines(form, name, font, sidebearings, waivers, judge)?;
     form.done(name, found)?;
@@ -54,8 +55,8 @@ fn hand_lines<'a, F: Printer, J: Judge>(
     requires few { length font.now.glyphs ≤ most_glyphs }
     requires few_waivers { length waivers.now ≤ largest_waivers }
     requires sidebearings { AreOf font.now sidebearings.now }
-    ensures { HandsLines F.takes (J.judges judge.now font.now waivers.now) name.now (checked font.now sidebearings.now.edition) waivers.now
-        form.old form.new result }
+    ensures { HandsLines (recipient_by F.takes form.old form.new) (J.judges judge.now font.now waivers.now) name.now
+        (checked font.now sidebearings.now.edition) waivers.now result }
 {
     // The calls of laws do nothing: the proof cites what they ensure.
     each_font_has_a_report();
@@ -79,7 +80,7 @@ fn hand_lines<'a, F: Printer, J: Judge>(
 
 /// Hands on why there is no report of a font.
 pub fn hand_failure<F: Printer>(form: &mut F, name: &str, reason: FontError) -> Taken
-    ensures { HandsFailure F.takes name.now reason form.old form.new result }
+    ensures { HandsFailure (recipient_by F.takes form.old form.new) name.now reason result }
 {
     form.failure(name, reason)?;
     let found = found_of(reason);

@@ -4,6 +4,7 @@ ghost use Rattle.std.specs.Prelude.{◌≡◌, ◌≤◌, ◌+◌, false, length
 ghost use Rattle.t1_font.specs.Bounds.{most_glyphs};
 ghost use Rattle.t1_many.specs.Files.{given_by};
 ghost use Rattle.t1_many.specs.Private.Checking.{Checks, IsFont, of_bytes, of_font, of_text};
+ghost use Rattle.t1_many.specs.Recipients.{recipient_by};
 ghost use Rattle.t1_report.specs.Waivers.{largest_waivers};
 ghost use Rattle.t1_run.specs.FontFiles.{largest_file};
 ghost use Rattle.t1_run.specs.Input.{ReadsAtMost};
@@ -29,9 +30,8 @@ pub(crate) fn check_opened<R: Source, V: Source, T: Policy>(
     recipient: &mut T,
 ) -> Result<Taken, Failure>
     requires { (R.state source.old).failed ≡ false }
-    ensures checks { Checks T.takes edition name.now
-        (given_by (R.state source.old) (R.state source.new) has_waivers (V.state waivers.old) (V.state waivers.new))
-        recipient.old recipient.new result }
+    ensures checks { Checks (recipient_by T.takes recipient.old recipient.new) edition name.now
+        (given_by (R.state source.old) (R.state source.new) has_waivers (V.state waivers.old) (V.state waivers.new)) result }
     ensures font { ReadsAtMost (largest_file + 1) (R.state source.old) (R.state source.new) }
     ensures waivers { ReadsAtMost (largest_waivers + 1) (V.state waivers.old) (V.state waivers.new) }
 {
@@ -49,8 +49,8 @@ fn check_bytes<V: Source, T: Policy>(
     edition: Edition,
     recipient: &mut T,
 ) -> Result<Taken, Failure>
-    ensures checks { Checks T.takes edition name.now (of_bytes bytes.items has_waivers (V.state waivers.old) (V.state waivers.new))
-        recipient.old recipient.new result }
+    ensures checks { Checks (recipient_by T.takes recipient.old recipient.new) edition name.now
+        (of_bytes bytes.items has_waivers (V.state waivers.old) (V.state waivers.new)) result }
     ensures waivers { ReadsAtMost (largest_waivers + 1) (V.state waivers.old) (V.state waivers.new) }
 {
     let mut file = OpenFont::open(alloc, bytes.as_slice())?;
@@ -73,8 +73,8 @@ fn check_font<V: Source, T: Policy>(
 ) -> Result<Taken, Failure>
     requires few { length font.now.glyphs ≤ most_glyphs }
     requires read { IsFont font.now }
-    ensures checks { Checks T.takes edition name.now (of_font font.now has_waivers (V.state waivers.old) (V.state waivers.new))
-        recipient.old recipient.new result }
+    ensures checks { Checks (recipient_by T.takes recipient.old recipient.new) edition name.now
+        (of_font font.now has_waivers (V.state waivers.old) (V.state waivers.new)) result }
     ensures waivers { ReadsAtMost (largest_waivers + 1) (V.state waivers.old) (V.state waivers.new) }
 {
     let text = read_waivers(alloc, waivers, has_waivers)?;
@@ -93,7 +93,7 @@ fn check_waived<T: Policy>(
     requires few { length font.now.glyphs ≤ most_glyphs }
     requires read { IsFont font.now }
     requires text { length text.now ≤ largest_waivers }
-    ensures { Checks T.takes edition name.now (of_text font.now text.now) recipient.old recipient.new result }
+    ensures { Checks (recipient_by T.takes recipient.old recipient.new) edition name.now (of_text font.now text.now) result }
 {
     let waivers = Waivers::read(alloc, text)?;
     let sidebearings = Sidebearings::prepare(alloc, font, edition)?;

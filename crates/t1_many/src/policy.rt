@@ -2,6 +2,7 @@
 
 ghost use Rattle.std.specs.Prelude.{◌≡◌, Result};
 ghost use Rattle.t1_many.specs.Outcomes.{Entry, IsRead, TakesReport, failed};
+ghost use Rattle.t1_many.specs.Recipients.{recipient_by};
 ghost use Rattle.t1_many.specs.declared.policy.Lost.TheVariants.{Device};
 ghost use Rattle.t1_report.specs.Checked.{checked};
 ghost use Rattle.t1_rules.specs.Components.{AreOf};
@@ -53,7 +54,7 @@ pub trait Policy {
     ) -> Result<Taken, AllocError>
         requires read { IsRead font.now waivers.now }
         requires sidebearings { AreOf font.now sidebearings.now }
-        ensures { TakesReport takes name.now (checked font.now sidebearings.now.edition) waivers.now self.old self.new result };
+        ensures { TakesReport (recipient_by takes self.old self.new) name.now (checked font.now sidebearings.now.edition) waivers.now result };
 
     /// Takes why there is none.
     fn failure(&mut self, name: &str, error: FontError) -> Taken

@@ -5,6 +5,7 @@ ghost use Rattle.t1_many.specs.Beyond.{verdict_of};
 ghost use Rattle.t1_many.specs.Counts.{kind_counts, text_counts};
 ghost use Rattle.t1_many.specs.KnownFaults.{counts_of};
 ghost use Rattle.t1_many.specs.Readings.{IsReadingOf, Keeps, TakesKnown, as_known, by_known};
+ghost use Rattle.t1_many.specs.Recipients.{recipient_by};
 ghost use Rattle.t1_rules.specs.Book.{number_of};
 ghost use Rattle.t1_rules.specs.Mask.{has};
 
@@ -45,8 +46,8 @@ pub struct ReportNew<K: Known + Drop, F: Printer + Drop> {
 
 impl<K: Known + Drop, F: Printer + Drop> Policy for ReportNew<K, F> {
     ghost takes = { λ old new entry taken. (new.rules ≡ old.rules) × (new.known ≡ old.known)
-        × TakesKnown F.takes (by_known (K.counts old.known) old.rules entry.name) old.rules old.form new.form old.readings.items new.readings.items
-        entry taken };
+        × TakesKnown (record { form = recipient_by F.takes old.form new.form; old = old.readings.items; new = new.readings.items })
+        (by_known (K.counts old.known) old.rules entry.name) old.rules entry taken };
 
     fn report<'a>(
         &mut self,
@@ -88,7 +89,8 @@ pub struct UpdateBaseline<F: Printer + Drop> {
 
 impl<F: Printer + Drop> Policy for UpdateBaseline<F> {
     ghost takes = { λ old new entry taken. (new.rules ≡ old.rules)
-        × TakesKnown F.takes (as_known old.rules) old.rules old.form new.form old.readings.items new.readings.items entry taken };
+        × TakesKnown (record { form = recipient_by F.takes old.form new.form; old = old.readings.items; new = new.readings.items })
+        (as_known old.rules) old.rules entry taken };
 
     fn report<'a>(
         &mut self,

@@ -3,6 +3,7 @@
 ghost use Rattle.std.specs.Prelude.{◌≡◌, map, string_bytes};
 ghost use Rattle.t1_many.specs.Files.{files_by};
 ghost use Rattle.t1_many.specs.Handing.{HandsFont};
+ghost use Rattle.t1_many.specs.Recipients.{recipient_by};
 ghost use Rattle.t1_many.specs.Told.{TellsAll};
 ghost use Rattle.t1_many.specs.Verdicts.{of_rules};
 
@@ -29,7 +30,8 @@ pub struct ReportAll<F: Printer> {
 }
 
 impl<F: Printer> Policy for ReportAll<F> {
-    ghost takes = { λ old new entry taken. (new.rules ≡ old.rules) × HandsFont F.takes (of_rules old.rules) old.form new.form entry taken };
+    ghost takes = { λ old new entry taken. (new.rules ≡ old.rules)
+        × HandsFont (recipient_by F.takes old.form new.form) (of_rules old.rules) entry taken };
 
     fn report<'a>(
         &mut self,
@@ -64,8 +66,8 @@ pub fn tell_all<S: FontFiles, F: Printer>(
     edition: Edition,
     telling: &mut ReportAll<F>,
 ) -> Result<Status, Lost>
-    ensures { TellsAll F.takes (λ _. of_rules telling.old.rules) (files_by S.calls beside files.old files.new) edition (map string_bytes names.now)
-        telling.old.form telling.new.form result }
+    ensures { TellsAll (recipient_by F.takes telling.old.form telling.new.form) (λ _. of_rules telling.old.rules)
+        (files_by S.calls beside files.old files.new) edition (map string_bytes names.now) result }
 {
     check_all(alloc, names, beside, files, edition, telling)
 }
