@@ -295,6 +295,6 @@ module _ (choice : Choice) (texts : List Kept) (readings : List Reading) (are : 
 -- the exit of a `?` at a row that failed
 pub rows_failed : {E : Type 0} (P : E → Type 0) (choice : Choice) (rows : List RowValue) (old new : SinkState) (left left' : FontsLeft)
     (result : Result (Unit {0}) E) → IsErrAnd result P → ((all : List Kept) → IsLeft all [] left → PutFailed old new (updated_text choice all [] rows))
-    → PutsRows choice rows old new left left' result
+    → PutsRows choice rows (record { sink = old; left = left }) (record { sink = new; left = left' }) result
 rows_failed P choice rows old new left left' (Ok put) is failed = absurd is
 rows_failed P choice rows old new left left' (Err e) is failed = failed

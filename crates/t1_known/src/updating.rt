@@ -55,8 +55,9 @@ fn put_rows<'a, W: Sink>(
     choice: Choice<'_>,
 ) -> Result<(), Broken>
     requires { ∥ AreKept rows.now.entries ∥₁ }
-    ensures { PutsRows (choice_of choice.entry) (rows_now rows.now.entries) (W.state sink.old) (W.state sink.new)
-        left.old.entries left.new.entries result }
+    ensures { PutsRows (choice_of choice.entry) (rows_now rows.now.entries)
+        (record { sink = W.state sink.old; left = left.old.entries })
+        (record { sink = W.state sink.new; left = left.new.entries }) result }
 {
     for (key, row) in rows.iter() {
         put_row(sink, key, row, left, choice)?;
