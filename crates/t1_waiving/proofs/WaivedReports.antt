@@ -1,7 +1,8 @@
 -- What is done with a font's report: of standard input all is reported, of other fonts the waivers are kept.
 use Rattle.std.proofs.Common.{◌≡◌, ◌++◌, ◌∙◌, Bool, true, false, ℕ, List, [], if◌then◌else◌, Option, Result, append-nil, ap, subst, sym}
-use Rattle.t1_many.specs.Handing.{Handed, HandsFont}
-use Rattle.t1_many.specs.Outcomes.{Report, reported}
+use Rattle.t1_many.specs.Handing.{Handed, HandsFont, Keeping}
+use Rattle.t1_many.specs.Outcomes.{Entry, Report, reported}
+use Rattle.t1_many.specs.Recipients.{recipient_by}
 use Rattle.t1_many.specs.Verdicts.{of_rules}
 use Rattle.t1_many.specs.declared.policy.Lost.{Lost}
 use Rattle.t1_names.specs.Words.{is_input}
@@ -14,23 +15,26 @@ use Rattle.t1_waiving.specs.Waived.{WaivesFont}
 
 module _ {F : Type 0} (takes : F → F → Handed → Option Lost → Type 0) (rules : Mask) (old new : F) (kept kept' : List FontText)
     (name : List ℕ) (report : Report) (taken : Result FontClass Lost) where
+  abbrev keeping : Keeping FontText
+  keeping = record { form = recipient_by takes old new; old = kept; new = kept' }
+
+  abbrev entry : Entry
+  entry = record { name = name; outcome = reported report }
+
   abbrev kept_of : List FontText
   kept_of = texts_of name (report_text rules report.font report.waivers report.faults)
 
   by_name : (is : Bool) → is_input name ≡ is
-      → HandsFont takes (if is then of_rules rules else outside_glyphs rules) old new (record { name = name; outcome = reported report }) taken
-      → kept' ≡ kept ++ (if is then [] else kept_of)
-      → WaivesFont takes rules old new kept kept' (record { name = name; outcome = reported report }) taken
+      → HandsFont keeping.form (if is then of_rules rules else outside_glyphs rules) entry taken
+      → kept' ≡ kept ++ (if is then [] else kept_of) → WaivesFont keeping rules entry taken
   by_name is name_is hands keeps = record {
-    hands = subst (λ (b : Bool). HandsFont takes (if b then of_rules rules else outside_glyphs rules) old new
-        (record { name = name; outcome = reported report }) taken) (sym name_is) hands;
+    hands = subst (λ (b : Bool). HandsFont keeping.form (if b then of_rules rules else outside_glyphs rules) entry taken) (sym name_is) hands;
     keeps = keeps ∙ ap (λ (b : Bool). kept ++ (if b then [] else kept_of)) (sym name_is);
   }
 
-  pub input_told : is_input name ≡ true → HandsFont takes (of_rules rules) old new (record { name = name; outcome = reported report }) taken
-      → kept' ≡ kept → WaivesFont takes rules old new kept kept' (record { name = name; outcome = reported report }) taken
+  pub input_told : is_input name ≡ true → HandsFont keeping.form (of_rules rules) entry taken → kept' ≡ kept → WaivesFont keeping rules entry taken
   input_told is hands same = by_name true is hands (same ∙ sym (append-nil kept))
 
-  pub font_waived : is_input name ≡ false → HandsFont takes (outside_glyphs rules) old new (record { name = name; outcome = reported report }) taken
-      → kept' ≡ kept ++ kept_of → WaivesFont takes rules old new kept kept' (record { name = name; outcome = reported report }) taken
+  pub font_waived : is_input name ≡ false → HandsFont keeping.form (outside_glyphs rules) entry taken → kept' ≡ kept ++ kept_of
+      → WaivesFont keeping rules entry taken
   font_waived = by_name false

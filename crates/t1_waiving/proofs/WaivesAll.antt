@@ -6,8 +6,9 @@ use Rattle.t1_many.proofs.Handed.{handed-append}
 use Rattle.t1_many.specs.Ends.{AreTaken, Ends, status_of_all}
 use Rattle.t1_many.specs.Ends.Ends.{all, stopped}
 use Rattle.t1_many.specs.Files.{Files}
-use Rattle.t1_many.specs.Handing.{Handed, HandsOn, handed_of}
+use Rattle.t1_many.specs.Handing.{Handed, HandsOn, Keeping, handed_of}
 use Rattle.t1_many.specs.Outcomes.{Entry, Report}
+use Rattle.t1_many.specs.Recipients.{recipient_by}
 use Rattle.t1_many.specs.Told.{all_handed, founds_of}
 use Rattle.t1_many.specs.declared.policy.Lost.{Lost}
 use Rattle.t1_many.specs.declared.verdict.Verdict.{Verdict}
@@ -21,9 +22,12 @@ use Rattle.t1_waiving.specs.Waived.{WaivesAll, WaivesFont}
 use Rattle.t1_waiving.specs.Waived.WaivesAll.{cut_short, whole}
 
 module _ {T F : Type 0} (takes : F → F → Handed → Option Lost → Type 0) (rules : T → Mask) (form : T → F) (kept : T → List FontText) where
+  abbrev keeping : T → T → Keeping FontText
+  keeping old new = record { form = recipient_by takes (form old) (form new); old = kept old; new = kept new }
+
   -- A font is taken by rules that stay.
   abbrev Takes : T → T → Entry → Result FontClass Lost → Type 0
-  Takes old new entry taken = (rules new ≡ rules old) × WaivesFont takes (rules old) (form old) (form new) (kept old) (kept new) entry taken
+  Takes old new entry taken = (rules new ≡ rules old) × WaivesFont (keeping old new) (rules old) entry taken
 
   -- Fonts that were taken.
   record HaveWaived (old new : T) (entries : List Entry) (founds : List FontClass) : Type 0 where
@@ -65,8 +69,7 @@ module _ {T F : Type 0} (takes : F → F → Handed → Option Lost → Type 0) 
       ∙ ap (λ ts. all_texts mask entries ++ ts) (append-nil (entry_texts mask last))
 
   pub waives_all : (files : Files) (edition : Edition) (names : List (List ℕ)) (old new : T) (result : Result Status Lost)
-      → Ends Takes files edition names old new result
-      → WaivesAll takes (rules old) files edition names (form old) (form new) (kept old) (kept new) result
+      → Ends (recipient_by Takes old new) files edition names result → WaivesAll (keeping old new) (rules old) files edition names result
   waives_all files edition names old new result (all entries founds are taken is) =
       let so = waived old new entries founds taken in
       whole entries are so.handed so.kept_is (is ∙ ap (λ fs. Ok (status_of_all fs)) so.founds_are)

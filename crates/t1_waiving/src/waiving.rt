@@ -2,6 +2,7 @@
 
 ghost use Rattle.std.specs.Prelude.{◌≡◌, map, string_bytes};
 ghost use Rattle.t1_many.specs.Files.{files_by};
+ghost use Rattle.t1_many.specs.Recipients.{recipient_by};
 ghost use Rattle.t1_waiving.specs.Waived.{WaivesAll, WaivesFont};
 
 use crate::glyph_lines::OutsideGlyphs;
@@ -33,7 +34,8 @@ pub struct WriteWaivers<F: Printer> {
 
 impl<F: Printer> Policy for WriteWaivers<F> {
     ghost takes = { λ old new entry taken.
-        (new.rules ≡ old.rules) × WaivesFont F.takes old.rules old.form new.form old.kept new.kept entry taken };
+        (new.rules ≡ old.rules) × WaivesFont (record { form = recipient_by F.takes old.form new.form; old = old.kept; new = new.kept })
+        old.rules entry taken };
 
     fn report<'a>(
         &mut self,
@@ -78,8 +80,9 @@ pub fn waive_all<S: FontFiles, F: Printer>(
     edition: Edition,
     waiving: &mut WriteWaivers<F>,
 ) -> Result<Status, Lost>
-    ensures { WaivesAll F.takes waiving.old.rules (files_by S.calls beside files.old files.new) edition (map string_bytes names.now)
-        waiving.old.form waiving.new.form waiving.old.kept waiving.new.kept result }
+    ensures { WaivesAll
+        (record { form = recipient_by F.takes waiving.old.form waiving.new.form; old = waiving.old.kept; new = waiving.new.kept })
+        waiving.old.rules (files_by S.calls beside files.old files.new) edition (map string_bytes names.now) result }
 {
     check_all(alloc, names, beside, files, edition, waiving)
 }
