@@ -15,7 +15,7 @@ use Rattle.t1_outline.specs.Private.Outlining.{steps_in}
 use Rattle.t1_picture.specs.declared.parts.Stop.{Stop}
 use Rattle.t1_picture.specs.declared.parts.Stop.TheVariants.{Reached, Ended, Limit}
 use Rattle.t1_picture.specs.Layers.{LayersView}
-use Rattle.t1_picture.specs.Private.PartViews.{DrawsSteps, IsRunOf, stop_of}
+use Rattle.t1_picture.specs.Private.PartViews.{DrawingSoFar, DrawsSteps, IsRunOf, stop_of}
 use Rattle.t1_picture.specs.Parts.{PartView, drawn_steps, flex_note, flex_notes, last_step_of, limited_steps, line_of_step, with_step, with_steps}
 use Rattle.t1_picture.specs.Private.Runs.{AreAllSeen, IsDrawnNext, IsInHand, IsOfSameGlyph, seen_steps}
 use Rattle.t1_picture.specs.Texts.{legible_line}
@@ -27,19 +27,20 @@ use Rattle.t1_rules.specs.StepRules.Paths.{leaves_open}
 abbrev pub left_behind : PartView → ℕ → List StepView
 left_behind part n = take (part.last - n) (drop n (limited_steps part))
 
-pub record HasDrawn (part : PartView) (old new : LayersView) (before behind : List (List ℕ)) (known : Composition) (n : ℕ) : Type 0 where
+pub record HasDrawn (part : PartView) (old new : DrawingSoFar) (known : Composition) (n : ℕ) : Type 0 where
   pub within : n ≤ length (limited_steps part)
-  pub layers : with_steps part new (take n (limited_steps part)) (left_behind part n) ≡ with_steps part old [] (drawn_steps part)
-  pub notes : behind ++ flex_notes part.label (take n (limited_steps part)) (left_behind part n) ≡ before ++ flex_notes part.label [] (drawn_steps part)
+  pub layers : with_steps part new.layers (take n (limited_steps part)) (left_behind part n) ≡ with_steps part old.layers [] (drawn_steps part)
+  pub notes : new.notes ++ flex_notes part.label (take n (limited_steps part)) (left_behind part n)
+      ≡ old.notes ++ flex_notes part.label [] (drawn_steps part)
   pub composition : known ≡ composition_of (take n (limited_steps part))
 
-pub none_drawn : (part : PartView) (l : LayersView) (ns : List (List ℕ)) (known : Composition) → known ≡ composition_of [] → HasDrawn part l l ns ns known 0
-none_drawn part l ns known is =
+pub none_drawn : (part : PartView) (old : DrawingSoFar) (known : Composition) → known ≡ composition_of [] → HasDrawn part old old known 0
+none_drawn part old known is =
     let whole : part.last - 0 ≡ part.last = omega arith in
     record {
       within = omega arith;
-      layers = ap (λ (k : ℕ). with_steps part l [] (take k (limited_steps part))) whole;
-      notes = ap (λ (k : ℕ). ns ++ flex_notes part.label [] (take k (limited_steps part))) whole;
+      layers = ap (λ (k : ℕ). with_steps part old.layers [] (take k (limited_steps part))) whole;
+      notes = ap (λ (k : ℕ). old.notes ++ flex_notes part.label [] (take k (limited_steps part))) whole;
       composition = is;
     }
 
@@ -50,15 +51,15 @@ one_left part n step less ahead =
     let more : part.last - n ≡ suc (part.last - (n + 1)) = omega (arith, less) in
     ap (λ (k : ℕ). take k (drop n (limited_steps part))) more ∙ ap (take (suc (part.last - (n + 1)))) ahead
 
-pub one_drawn : (part : PartView) (old l l' : LayersView) (before ns ns' : List (List ℕ)) (known known' : Composition) (n : ℕ) (step : StepView)
-    → HasDrawn part old l before ns known n → n < part.last → n < length (limited_steps part)
+pub one_drawn : (part : PartView) (old new new' : DrawingSoFar) (known known' : Composition) (n : ℕ) (step : StepView)
+    → HasDrawn part old new known n → n < part.last → n < length (limited_steps part)
     → drop n (limited_steps part) ≡ step ∷ drop (n + 1) (limited_steps part)
     → take (n + 1) (limited_steps part) ≡ take n (limited_steps part) ++ step ∷ []
-    → l' ≡ with_step part (n + 1) (leaves_open (take n (limited_steps part)) step) (drawn (take n (limited_steps part)) step) l
-    → ns' ≡ ns ++ flex_note part.label (n + 1) step (drawn (take n (limited_steps part)) step)
+    → new'.layers ≡ with_step part (n + 1) (leaves_open (take n (limited_steps part)) step) (drawn (take n (limited_steps part)) step) new.layers
+    → new'.notes ≡ new.notes ++ flex_note part.label (n + 1) step (drawn (take n (limited_steps part)) step)
     → known' ≡ composition_of (take n (limited_steps part) ++ step ∷ [])
-    → HasDrawn part old l' before ns' known' (n + 1)
-one_drawn part old l l' before ns ns' known known' n step has less within ahead seen drawn_is noted composed =
+    → HasDrawn part old new' known' (n + 1)
+one_drawn part old new new' known known' n step has less within ahead seen drawn_is noted composed =
     let all = limited_steps part in
     let number : length (take n all) ≡ n = omega (arith, within, length-take n all) in
     let left = one_left part n step less ahead in
@@ -67,31 +68,31 @@ one_drawn part old l l' before ns ns' known known' n step has less within ahead 
     record {
       within = omega (arith, within);
       layers =
-          ap (λ (ss : List StepView). with_steps part l' ss (left_behind part (n + 1))) seen
+          ap (λ (ss : List StepView). with_steps part new'.layers ss (left_behind part (n + 1))) seen
           ∙ ap (λ (x : LayersView). with_steps part x (take n all ++ step ∷ []) (left_behind part (n + 1)))
-          (drawn_is ∙ ap (λ (k : ℕ). with_step part (k + 1) (leaves_open (take n all) step) (drawn (take n all) step) l) (sym number))
-          ∙ ap (with_steps part l (take n all)) (sym left)
+          (drawn_is ∙ ap (λ (k : ℕ). with_step part (k + 1) (leaves_open (take n all) step) (drawn (take n all) step) new.layers) (sym number))
+          ∙ ap (with_steps part new.layers (take n all)) (sym left)
           ∙ has.layers;
       notes =
-          ap (λ (ss : List StepView). ns' ++ flex_notes part.label ss (left_behind part (n + 1))) seen
+          ap (λ (ss : List StepView). new'.notes ++ flex_notes part.label ss (left_behind part (n + 1))) seen
           ∙ ap (λ (x : List (List ℕ)). x ++ rest) noted
-          ∙ append_assoc ns note rest
-          ∙ ap (λ (k : ℕ). ns ++ (flex_note part.label (k + 1) step (drawn (take n all) step) ++ rest)) (sym number)
-          ∙ ap (λ (ss : List StepView). ns ++ flex_notes part.label (take n all) ss) (sym left)
+          ∙ append_assoc new.notes note rest
+          ∙ ap (λ (k : ℕ). new.notes ++ (flex_note part.label (k + 1) step (drawn (take n all) step) ++ rest)) (sym number)
+          ∙ ap (λ (ss : List StepView). new.notes ++ flex_notes part.label (take n all) ss) (sym left)
           ∙ has.notes;
       composition = composed ∙ ap composition_of (sym seen);
     }
 
 -- So many are drawn as were requested.
-pub all_drawn : (part : PartView) (old l : LayersView) (before ns : List (List ℕ)) (known : Composition) (m : MachineView) (n : ℕ)
-    → HasDrawn part old l before ns known n → IsRunOf part m → steps_in m ≡ limited_steps part → m.counted ≡ n → n ≡ part.last
-    → DrawsSteps part old l before ns known m Reached
-all_drawn part old l before ns known m n has run steps counted end =
+pub all_drawn : (part : PartView) (old new : DrawingSoFar) (known : Composition) (m : MachineView) (n : ℕ)
+    → HasDrawn part old new known n → IsRunOf part m → steps_in m ≡ limited_steps part → m.counted ≡ n → n ≡ part.last
+    → DrawsSteps part old new known m Reached
+all_drawn part old new known m n has run steps counted end =
     let none : part.last - n ≡ 0 = omega (arith, end) in
     let nothing : left_behind part n ≡ [] = ap (λ (k : ℕ). take k (drop n (limited_steps part))) none in
     record {
-      layers = ap (with_steps part l (take n (limited_steps part))) (sym nothing) ∙ has.layers;
-      notes = sym (append-nil ns) ∙ ap (λ (ss : List StepView). ns ++ flex_notes part.label (take n (limited_steps part)) ss) (sym nothing) ∙ has.notes;
+      layers = ap (with_steps part new.layers (take n (limited_steps part))) (sym nothing) ∙ has.layers;
+      notes = sym (append-nil new.notes) ∙ ap (λ (ss : List StepView). new.notes ++ flex_notes part.label (take n (limited_steps part)) ss) (sym nothing) ∙ has.notes;
       composition = has.composition ∙ ap (λ (k : ℕ). composition_of (take k (limited_steps part))) end;
       run = run;
       seen = ap (λ (ss : List StepView). take m.counted ss) steps ∙ ap (λ (k : ℕ). take k (limited_steps part)) (counted ∙ end);
@@ -112,18 +113,18 @@ not_reached part n all less = by_test (nat_le part.last (length (limited_steps p
     by_test true is = absurd (omega (arith, leb-true part.last (length (limited_steps part)) is, all, less))
     by_test false is = refl
 
-pub none_left_to_draw : (part : PartView) (old l : LayersView) (before ns : List (List ℕ)) (known : Composition) (m : MachineView) (n : ℕ) (stop : Stop)
-    → HasDrawn part old l before ns known n → IsRunOf part m → steps_in m ≡ limited_steps part → n ≤ m.counted
+pub none_left_to_draw : (part : PartView) (old new : DrawingSoFar) (known : Composition) (m : MachineView) (n : ℕ) (stop : Stop)
+    → HasDrawn part old new known n → IsRunOf part m → steps_in m ≡ limited_steps part → n ≤ m.counted
     → length (limited_steps part) ≤ n → n < part.last
     → cond (nat_lt (limit_of part.edition) (length (steps_of part.font part.glyph))) Limit Ended ≡ stop → (stop ≡ Reached → ⊥)
-    → DrawsSteps part old l before ns known m stop
-none_left_to_draw part old l before ns known m n stop has run steps more all less why other =
+    → DrawsSteps part old new known m stop
+none_left_to_draw part old new known m n stop has run steps more all less why other =
     let nothing : left_behind part n ≡ [] = ap (take (part.last - n)) (drop_all n (limited_steps part) all) ∙ none_taken (part.last - n) in
     let whole : take n (limited_steps part) ≡ drawn_steps part =
     take_all n (limited_steps part) all ∙ sym (take_all part.last (limited_steps part) (omega (arith, all, less))) in
     record {
-      layers = ap (with_steps part l (take n (limited_steps part))) (sym nothing) ∙ has.layers;
-      notes = sym (append-nil ns) ∙ ap (λ (ss : List StepView). ns ++ flex_notes part.label (take n (limited_steps part)) ss) (sym nothing) ∙ has.notes;
+      layers = ap (with_steps part new.layers (take n (limited_steps part))) (sym nothing) ∙ has.layers;
+      notes = sym (append-nil new.notes) ∙ ap (λ (ss : List StepView). new.notes ++ flex_notes part.label (take n (limited_steps part)) ss) (sym nothing) ∙ has.notes;
       composition = has.composition ∙ ap composition_of whole;
       run = run;
       seen = ap (λ (ss : List StepView). take m.counted ss) steps ∙ take_all m.counted (limited_steps part) (omega (arith, all, more))
@@ -199,14 +200,14 @@ still_of part m m' run same = record {
   edition = same.edition ∙ run.edition;
 }
 
-pub one_executed : (part : PartView) (m m' : MachineView) (next : DrawnStep) (old l l' : LayersView) (before ns ns' : List (List ℕ))
-    (known known' : Composition) (n : ℕ) → IsRunOf part m → IsOfSameGlyph m m' → m.counted ≡ n → HasDrawn part old l before ns known n → n < part.last
+pub one_executed : (part : PartView) (m m' : MachineView) (next : DrawnStep) (old new new' : DrawingSoFar)
+    (known known' : Composition) (n : ℕ) → IsRunOf part m → IsOfSameGlyph m m' → m.counted ≡ n → HasDrawn part old new known n → n < part.last
     → IsDrawnNext m m' next
-    → l' ≡ with_step part m'.step.number next.leaves_open next.segments.items l
-    → ns' ≡ ns ++ flex_note part.label m'.step.number m'.step.step next.segments.items
+    → new'.layers ≡ with_step part m'.step.number next.leaves_open next.segments.items new.layers
+    → new'.notes ≡ new.notes ++ flex_note part.label m'.step.number m'.step.step next.segments.items
     → ((seen : List StepView) → known ≡ composition_of seen → known' ≡ composition_of (seen ++ m'.step.step ∷ []))
-    → HasDrawn part old l' before ns' known' (n + 1)
-one_executed part m m' next old l l' before ns ns' known known' n run same counted has less is drawn_is noted composed =
+    → HasDrawn part old new' known' (n + 1)
+one_executed part m m' next old new new' known known' n run same counted has less is drawn_is noted composed =
     let all = limited_steps part in
     let steps = steps_of_run part m run in
     let steps' = steps_of_run part m' (still_of part m m' run same) in
@@ -216,22 +217,22 @@ one_executed part m m' next old l l' before ns ns' known known' n run same count
     let seen' : seen_steps m' ≡ take (n + 1) all = ap (λ (ss : List StepView). take m'.counted ss) steps' ∙ ap (λ (k : ℕ). take k all) counted' in
     let ahead : drop n all ≡ drop m.counted (steps_in m) = ap (λ (k : ℕ). drop k all) (sym counted) ∙ ap (λ (ss : List StepView). drop m.counted ss) (sym steps) in
     let behind : drop m'.counted (steps_in m') ≡ drop (n + 1) all = ap (λ (ss : List StepView). drop m'.counted ss) steps' ∙ ap (λ (k : ℕ). drop k all) counted' in
-    one_drawn part old l l' before ns ns' known known' n m'.step.step has less (omega (arith, is.within, counted, ap length steps))
+    one_drawn part old new new' known known' n m'.step.step has less (omega (arith, is.within, counted, ap length steps))
     (ahead ∙ is.ahead ∙ ap (λ (ss : List StepView). m'.step.step ∷ ss) behind)
     (sym seen' ∙ is.seen ∙ ap (λ (ss : List StepView). ss ++ m'.step.step ∷ []) seen)
-    (drawn_is ∙ ap (λ (k : ℕ). with_step part k next.leaves_open next.segments.items l) number
-    ∙ ap (λ (b : Bool). with_step part (n + 1) b next.segments.items l) (is.leaves_open ∙ ap (λ (ss : List StepView). leaves_open ss m'.step.step) seen)
-    ∙ ap (λ (xs : List Segment). with_step part (n + 1) (leaves_open (take n all) m'.step.step) xs l)
+    (drawn_is ∙ ap (λ (k : ℕ). with_step part k next.leaves_open next.segments.items new.layers) number
+    ∙ ap (λ (b : Bool). with_step part (n + 1) b next.segments.items new.layers) (is.leaves_open ∙ ap (λ (ss : List StepView). leaves_open ss m'.step.step) seen)
+    ∙ ap (λ (xs : List Segment). with_step part (n + 1) (leaves_open (take n all) m'.step.step) xs new.layers)
     (is.segments ∙ ap (λ (ss : List StepView). drawn ss m'.step.step) seen))
-    (noted ∙ ap (λ (k : ℕ). ns ++ flex_note part.label k m'.step.step next.segments.items) number
-    ∙ ap (λ (xs : List Segment). ns ++ flex_note part.label (n + 1) m'.step.step xs) (is.segments ∙ ap (λ (ss : List StepView). drawn ss m'.step.step) seen))
+    (noted ∙ ap (λ (k : ℕ). new.notes ++ flex_note part.label k m'.step.step next.segments.items) number
+    ∙ ap (λ (xs : List Segment). new.notes ++ flex_note part.label (n + 1) m'.step.step xs) (is.segments ∙ ap (λ (ss : List StepView). drawn ss m'.step.step) seen))
     (composed (take n all) has.composition)
 
-pub all_executed : (part : PartView) (m m' : MachineView) (old l : LayersView) (before ns : List (List ℕ)) (known : Composition) (n : ℕ) (stop : Stop)
-    → IsRunOf part m → IsOfSameGlyph m m' → m.counted ≡ n → HasDrawn part old l before ns known n → n < part.last → AreAllSeen m m'
+pub all_executed : (part : PartView) (m m' : MachineView) (old new : DrawingSoFar) (known : Composition) (n : ℕ) (stop : Stop)
+    → IsRunOf part m → IsOfSameGlyph m m' → m.counted ≡ n → HasDrawn part old new known n → n < part.last → AreAllSeen m m'
     → cond (nat_lt (limit_of part.edition) (length (steps_of part.font part.glyph))) Limit Ended ≡ stop → (stop ≡ Reached → ⊥)
-    → DrawsSteps part old l before ns known m' stop
-all_executed part m m' old l before ns known n stop run same counted has less all why other =
+    → DrawsSteps part old new known m' stop
+all_executed part m m' old new known n stop run same counted has less all why other =
     let run' = still_of part m m' run same in
-    none_left_to_draw part old l before ns known m' n stop has run' (steps_of_run part m' run') (omega (arith, all.more, counted))
+    none_left_to_draw part old new known m' n stop has run' (steps_of_run part m' run') (omega (arith, all.more, counted))
     (omega (arith, all.all, counted, ap length (steps_of_run part m run))) less why other

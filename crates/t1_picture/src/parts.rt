@@ -7,7 +7,7 @@ ghost use Rattle.t1_outline.specs.Outlines.{drawn};
 ghost use Rattle.t1_outline.specs.Parts.{composition_of, sidebearing_by};
 ghost use Rattle.t1_picture.specs.Drawings.{texts_of};
 ghost use Rattle.t1_picture.specs.Layers.{begun, layers_view, with_bands};
-ghost use Rattle.t1_picture.specs.Private.PartViews.{DrawsSteps, IsRunOf, is_limit, is_reached, part_view, stop_of};
+ghost use Rattle.t1_picture.specs.Private.PartViews.{DrawsSteps, IsRunOf, is_limit, is_reached, part_view, so_far, stop_of};
 ghost use Rattle.t1_picture.specs.Parts.{drawn_steps, end_notes, flex_note, is_step, last_step_of, limit_note, note_if, part_notes, unended_note, with_part, with_stems, with_step};
 ghost use Rattle.t1_picture.specs.Private.Runs.{seen_steps};
 ghost use Rattle.t1_picture.specs.Subpaths.{behind};
@@ -101,8 +101,8 @@ impl<'a> DrawnPart<'a> {
         requires run { IsRunOf (part_view self.now) run.old }
         requires first { run.old.counted ≡ 0 }
         requires composition { composition.old ≡ composition_of [] }
-        ensures { IfOk result (DrawsSteps (part_view self.now) (layers_view layers.old) (layers_view layers.new)
-            (texts_of notes.old.items) (texts_of notes.new.items) composition.new run.new) }
+        ensures { IfOk result (DrawsSteps (part_view self.now) (so_far layers.old notes.old.items)
+            (so_far layers.new notes.new.items) composition.new run.new) }
     {
         for _step in 0..self.last {
             match run.next() {
