@@ -41,10 +41,14 @@ pub data PutsFile {F : Type 0} (store : Replacing F) (name text : List ℕ) (p :
       (cause : Cause) → store.Puts p.files p.files' name text (Some cause) → TellsFailure (unwritten_line name cause) p.errors p.errors' → done ≡ false
       → PutsFile store name text p done
 
+-- A text is put so, if there is one.
+abbrev pub PutsIfAny : {F : Type 0} → (List ℕ → Putting F → Bool → Type 0) → Option (List ℕ) → Putting F → Bool → Type 0
+PutsIfAny Puts None p done = IsNothing p × (done ≡ true)
+PutsIfAny Puts (Some text) p done = Puts text p done
+
 -- The file of known faults, if it is made anew and there is a text for it.
 abbrev pub PutsKnownFaults : {F : Type 0} → Replacing F → Baseline → Option (List ℕ) → Putting F → Bool → Type 0
-PutsKnownFaults store (Updated file) (Some text) p done = PutsFile store (string_bytes file) text p done
-PutsKnownFaults store (Updated file) None p done = IsNothing p × (done ≡ true)
+PutsKnownFaults store (Updated file) text p done = PutsIfAny (PutsFile store (string_bytes file)) text p done
 PutsKnownFaults store (Compared file) text p done = IsNothing p × (done ≡ true)
 PutsKnownFaults store Unnamed text p done = IsNothing p × (done ≡ true)
 
@@ -79,12 +83,8 @@ pub data TriesToPut {F : Type 0} (store : Replacing F) (overwrites : Bool) (font
       → TriesToPut store overwrites font text p done
 
 -- Of a font with too many waivers none is written.
-abbrev pub PutsText : {F : Type 0} → Replacing F → Bool → List ℕ → Option (List ℕ) → Putting F → Bool → Type 0
-PutsText store overwrites font None p done = IsNothing p × (done ≡ true)
-PutsText store overwrites font (Some text) p done = TriesToPut store overwrites font text p done
-
 abbrev pub PutsWaiversOf : {F : Type 0} → Replacing F → Bool → FontText → Putting F → Bool → Type 0
-PutsWaiversOf store overwrites font p done = PutsText store overwrites font.name font.text p done
+PutsWaiversOf store overwrites font p done = PutsIfAny (TriesToPut store overwrites font.name) font.text p done
 
 -- Those of fonts, one after another, whatever failed before.
 abbrev pub PutsEach : {F : Type 0} → Replacing F → Bool → List FontText → Putting F → Bool → Type 0
