@@ -5,11 +5,10 @@ use Rattle.std.proofs.lemmas.Option.{none-some}
 use Rattle.t1_answer_all.specs.Checks.{ChecksFonts, IsFound, IsKept}
 use Rattle.t1_many.specs.Told.{all_handed, founds_of}
 use Rattle.t1_answer_all.specs.Checks.ChecksFonts.{cut_short, whole}
-use Rattle.t1_answer_all.specs.Plans.{PlanValue, judges_in}
+use Rattle.t1_answer_all.specs.Plans.{Run, judges_in}
 use Rattle.t1_answer_all.specs.declared.findings.Findings.{Findings}
 use Rattle.t1_report.specs.Checked.{CheckedFont, checked}
 use Rattle.t1_many.specs.Counting.{Counts, all_fonts, all_lines, fonts_of, lines_of}
-use Rattle.t1_many.specs.Files.{Files}
 use Rattle.t1_many.specs.Handing.{Handed, HandsOn, found_of, handed_of, is_told, line}
 use Rattle.t1_many.specs.Outcomes.{Entry, Outcome, Report, failed, reported}
 use Rattle.t1_many.specs.declared.policy.Lost.{Lost}
@@ -63,16 +62,16 @@ module _ {T F : Type 0} (takes : F → F → Handed → Option Lost → Type 0) 
       ∙ ap₂ tally_of (append_assoc founds (fonts_of x) (all_fonts xs)) (append_assoc lines (lines_of x) (all_lines xs))
   counted old new (x ∷ xs) founds lines (inr (reason, (took, count), none)) is = absurd (none-some reason none)
 
-  pub fonts_counted : (plan : PlanValue) (files : Files) (old new : T) (found : Findings) (result : Result Status Lost) → tally old ≡ tally_of [] []
-      → found.tally ≡ tally new → ChecksFonts Takes plan files old new (IsKept plan found.readings.items found.kept) result
-      → ChecksFonts takes plan files (form old) (form new) (IsFound plan found) result
-  fonts_counted plan files old new found result none tally_is (whole entries are handed kept is) =
-      let handed_are = all_handed (judges_in plan) entries in
+  pub fonts_counted : (run : Run) (old new : T) (found : Findings) (result : Result Status Lost) → tally old ≡ tally_of [] []
+      → found.tally ≡ tally new → ChecksFonts Takes run old new (IsKept run.plan found.readings.items found.kept) result
+      → ChecksFonts takes run (form old) (form new) (IsFound run.plan found) result
+  fonts_counted run old new found result none tally_is (whole entries are handed kept is) =
+      let handed_are = all_handed (judges_in run.plan) entries in
       whole entries are (handed_on old new handed_are None handed)
       (record {
         counted = tally_is ∙ counted old new handed_are [] [] handed none
-            ∙ ap (λ (fs : List FontClass). tally_of fs (all_lines handed_are)) (fonts_are (judges_in plan) entries);
+            ∙ ap (λ (fs : List FontClass). tally_of fs (all_lines handed_are)) (fonts_are (judges_in run.plan) entries);
         kept = kept;
       }) is
-  fonts_counted plan files old new found result none tally_is (cut_short count entries are lost stop handed why is) =
-      cut_short count entries are lost stop (handed_on old new (all_handed (judges_in plan) entries) stop handed) why is
+  fonts_counted run old new found result none tally_is (cut_short count entries are lost stop handed why is) =
+      cut_short count entries are lost stop (handed_on old new (all_handed (judges_in run.plan) entries) stop handed) why is

@@ -6,11 +6,10 @@ use Rattle.t1_answer_all.specs.Checks.{ChecksFonts}
 use Rattle.t1_many.specs.Told.{all_handed, founds_of}
 use Rattle.t1_answer_all.specs.Checks.ChecksFonts.{cut_short, whole}
 use Rattle.t1_answer_all.specs.Modes.{entry_readings, outcome_readings}
-use Rattle.t1_answer_all.specs.Plans.{PlanValue, judges_in}
+use Rattle.t1_answer_all.specs.Plans.{Run, judges_in}
 use Rattle.t1_many.proofs.Handed.{handed-append}
 use Rattle.t1_many.specs.Ends.{AreTaken, Ends, status_of_all}
 use Rattle.t1_many.specs.Ends.Ends.{all, stopped}
-use Rattle.t1_many.specs.Files.{Files}
 use Rattle.t1_many.specs.Handing.{Handed, HandsOn, found_of, handed_of}
 use Rattle.t1_many.specs.Outcomes.{Entry, Outcome, Report, failed, reported}
 use Rattle.t1_many.specs.Readings.{IsReadingOf, TakesOutcome}
@@ -123,11 +122,11 @@ module _ {T F : Type 0} (takes : F → F → Handed → Option Lost → Type 0) 
       flat_map-append (λ (entry : Entry). handed_of (judge entry.name) entry.name entry.outcome) entries (last ∷ [])
       ∙ ap (λ hs. all_handed judge entries ++ hs) (append-nil (handed_of (judge last.name) last.name last.outcome))
 
-  pub checks_fonts : (plan : PlanValue) (files : Files) (old new : T) (result : Result Status Lost) (Keeps : List Entry → Type 0)
-      → judges old ≡ judges_in plan → rules old ≡ plan.rules → kept old ≡ []
-      → ((entries : List Entry) → AllZip IsReadingOf (kept new) (flat_map (entry_readings plan.rules) entries) → Keeps entries)
-      → Ends TakesFont files plan.edition plan.names old new result → ChecksFonts takes plan files (form old) (form new) Keeps result
-  checks_fonts plan files old new result Keeps judge_is mask_is none keeps (all entries founds are taken is) =
+  pub checks_fonts : (run : Run) (old new : T) (result : Result Status Lost) (Keeps : List Entry → Type 0)
+      → judges old ≡ judges_in run.plan → rules old ≡ run.plan.rules → kept old ≡ []
+      → ((entries : List Entry) → AllZip IsReadingOf (kept new) (flat_map (entry_readings run.plan.rules) entries) → Keeps entries)
+      → Ends TakesFont run.files run.plan.edition run.plan.names old new result → ChecksFonts takes run (form old) (form new) Keeps result
+  checks_fonts run old new result Keeps judge_is mask_is none keeps (all entries founds are taken is) =
       let so = have_taken old new entries founds taken in
       whole entries are
       (subst (λ (j : List ℕ → Report → FaultValue → Verdict). HandsOn takes (form old) (form new) (all_handed j entries) None) judge_is so.handed)
@@ -136,7 +135,7 @@ module _ {T F : Type 0} (takes : F → F → Handed → Option Lost → Type 0) 
       (sym (so.kept_is ∙ ap (λ ks. ks ++ so.added) none)) so.texts)))
       (is ∙ ap (λ fs. Ok (status_of_all fs))
       (so.founds_are ∙ ap (λ (j : List ℕ → Report → FaultValue → Verdict). founds_of j entries) judge_is))
-  checks_fonts plan files old new result Keeps judge_is mask_is none keeps
+  checks_fonts run old new result Keeps judge_is mask_is none keeps
       (stopped count entries last founds are next taken lost took is) =
       let so = have_taken old next entries founds taken in
       let end = has_stopped (judges next last.name) (rules next) (form next) (form new) (kept next) (kept new) last.name last.outcome lost

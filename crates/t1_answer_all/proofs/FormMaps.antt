@@ -2,8 +2,7 @@
 use Rattle.std.proofs.Common.{◌≡◌, List, [], ◌∷◌, Option, Result, inl, inr, ap, subst}
 use Rattle.t1_answer_all.specs.Checks.{ChecksFonts}
 use Rattle.t1_answer_all.specs.Checks.ChecksFonts.{cut_short, whole}
-use Rattle.t1_answer_all.specs.Plans.{PlanValue}
-use Rattle.t1_many.specs.Files.{Files}
+use Rattle.t1_answer_all.specs.Plans.{Run}
 use Rattle.t1_many.specs.Handing.{Handed, HandsOn}
 use Rattle.t1_many.specs.Outcomes.{Entry}
 use Rattle.t1_many.specs.declared.policy.Lost.{Lost}
@@ -20,8 +19,8 @@ module _ {A B X : Type 0} (takes : X → B → B → Handed → Option Lost → 
       inl (view next, took, subst (λ (k : X). HandsOn (takes k) (view next) (view new) xs lost) same (handed-kept next new xs lost rest))
   handed-kept old new (x ∷ xs) lost (inr (reason, (same, took), is)) = inr (reason, took, is)
 
-  pub fonts-kept : (plan : PlanValue) (files : Files) (old new : A) (Keeps : List Entry → Type 0) (result : Result Status Lost)
-      → ChecksFonts takes_on plan files old new Keeps result → ChecksFonts (takes (kept old)) plan files (view old) (view new) Keeps result
-  fonts-kept plan files old new Keeps result (whole entries are handed keeps is) = whole entries are (handed-kept old new _ _ handed) keeps is
-  fonts-kept plan files old new Keeps result (cut_short count entries are lost stop handed why is) =
+  pub fonts-kept : (run : Run) (old new : A) (Keeps : List Entry → Type 0) (result : Result Status Lost)
+      → ChecksFonts takes_on run old new Keeps result → ChecksFonts (takes (kept old)) run (view old) (view new) Keeps result
+  fonts-kept run old new Keeps result (whole entries are handed keeps is) = whole entries are (handed-kept old new _ _ handed) keeps is
+  fonts-kept run old new Keeps result (cut_short count entries are lost stop handed why is) =
       cut_short count entries are lost stop (handed-kept old new _ stop handed) why is

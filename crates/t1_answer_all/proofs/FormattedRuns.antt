@@ -1,24 +1,24 @@
 -- How the lines of a form end.
-use Rattle.std.proofs.Common.{◌≡◌, None, Result, Ok, Err, refl, ap, ap₂}
+use Rattle.std.proofs.Common.{◌≡◌, None, Option, Result, Ok, Err, refl, ap, ap₂}
 use Rattle.t1_answer_all.specs.Checks.{ChecksFonts, IsFound}
-use Rattle.t1_answer_all.specs.Plans.{PlanValue}
+use Rattle.t1_answer_all.specs.Plans.{Run}
 use Rattle.t1_answer_all.specs.Unlisted.{GivesEach}
-use Rattle.t1_answer_all.specs.Writing.{FinishesChecked, FormatterForm, WritesFormatted}
+use Rattle.t1_answer_all.specs.Writing.{FinishesChecked, WritesFormatted}
 use Rattle.t1_answer_all.specs.Writing.WritesFormatted.{stopped, unfinished, written}
 use Rattle.t1_answer_all.specs.declared.findings.Findings.{Findings}
 use Rattle.t1_io.specs.Devices.{SinkState}
-use Rattle.t1_many.specs.Files.{Files}
 use Rattle.t1_many.specs.Plain.{Devices}
 use Rattle.t1_many.specs.declared.policy.Lost.{Lost}
-use Rattle.t1_printers.specs.Formatting.{FormattedTakes, Formatting}
+use Rattle.t1_printers.specs.Formatting.{Form, FormattedTakes, Formatting, output_of}
 use Rattle.t1_run.specs.declared.status.Status.{Status}
 
-module _ {T : Type 0} (form : FormatterForm T) (plan : PlanValue) (files : Files) (old new : Devices) (found : Findings) (begun ended : Formatting T)
-    (given : GivesEach form.Writes form.begun begun.formatter old.out begun.out plan.unlisted None) (errors_are : begun.errors ≡ old.errors)
+module _ {T : Type 0} (form : Form T) (Finishes : T → SinkState → SinkState → Option Lost → Type 0) (run : Run) (old : Formatting T) (new : Devices)
+    (found : Findings) (begun ended : Formatting T)
+    (given : GivesEach form.writes (output_of old) (output_of begun) run.plan.unlisted None) (errors_are : begun.errors ≡ old.errors)
     (left_are : new.errors ≡ ended.errors) where
-  pub formatted_ends : (status result : Result Status Lost)
-      → ChecksFonts (FormattedTakes form.reasons form.Writes) plan files begun ended (IsFound plan found) status
-      → FinishesChecked (form.Finishes ended.formatter) ended.out new.out status result → WritesFormatted form plan files old new found result
+  pub formatted_ends : (status result : Result Status Lost) → ChecksFonts (FormattedTakes form) run begun ended (IsFound run.plan found) status
+      → FinishesChecked (Finishes ended.formatter) ended.out new.out status result
+      → WritesFormatted form Finishes run old new (record { found = found; status = result })
   formatted_ends (Ok status) (Ok s) checked (finished, is) = written begun ended given errors_are status checked finished left_are (ap Ok is)
   formatted_ends (Ok status) (Err lost) checked (finished, is) = unfinished begun ended given errors_are status checked lost finished left_are refl
   formatted_ends (Err lost) result checked (same, is) =

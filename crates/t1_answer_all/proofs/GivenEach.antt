@@ -4,30 +4,43 @@ use Rattle.std.proofs.lemmas.List.{map-append, take-append-drop, take_more}
 use Rattle.std.proofs.lemmas.Option.{none-some}
 use Rattle.t1_answer_all.specs.Unlisted.{GivesEach}
 use Rattle.t1_forms.specs.Tellings.{ToldValue}
-use Rattle.t1_io.specs.Devices.{SinkState}
 use Rattle.t1_many.specs.declared.policy.Lost.{Lost}
+use Rattle.t1_printers.specs.Formatting.{Output}
 
-module _ {T : Type 0} (writes : T → T → SinkState → SinkState → ToldValue → Option Lost → Type 0) where
+module _ {T : Type 0} (writes : Output T → Output T → ToldValue → Option Lost → Type 0) where
   -- all of some, and then others
-  pub given-append : (f g h : T) (a b c : SinkState) (xs ys : List ToldValue) (lost : Option Lost) → GivesEach writes f g a b xs None
-      → GivesEach writes g h b c ys lost → GivesEach writes f h a c (xs ++ ys) lost
-  given-append f g h a b c [] ys lost (same, same_out, none) more =
-      subst (λ (s : T). GivesEach writes s h a c ys lost) same (subst (λ (s : SinkState). GivesEach writes g h s c ys lost) same_out more)
-  given-append f g h a b c (x ∷ xs) ys lost (inl (next, behind, wrote, rest)) more =
-      inl (next, behind, wrote, given-append next g h behind b c xs ys lost rest more)
-  given-append f g h a b c (x ∷ xs) ys lost (inr (reason, wrote, none)) more = absurd (none-some reason none)
+  pub given-append : (a b c : Output T) (xs ys : List ToldValue) (lost : Option Lost) → GivesEach writes a b xs None → GivesEach writes b c ys lost
+      → GivesEach writes a c (xs ++ ys) lost
+  given-append a b c [] ys lost (same, none) more = subst (λ (s : Output T). GivesEach writes s c ys lost) same more
+  given-append a b c (x ∷ xs) ys lost (inl (next, wrote, rest)) more = inl (next, wrote, given-append next b c xs ys lost rest more)
+  given-append a b c (x ∷ xs) ys lost (inr (reason, wrote, none)) more = absurd (none-some reason none)
 
   -- one alone
-  pub given-one : (f g : T) (a b : SinkState) (x : ToldValue) (lost : Option Lost) → writes f g a b x lost → GivesEach writes f g a b (x ∷ []) lost
-  given-one f g a b x None wrote = inl (g, b, wrote, (refl, refl, refl))
-  given-one f g a b x (Some reason) wrote = inr (reason, wrote, refl)
+  pub given-one : (a b : Output T) (x : ToldValue) (lost : Option Lost) → writes a b x lost → GivesEach writes a b (x ∷ []) lost
+  given-one a b x None wrote = inl (b, wrote, (refl, refl))
+  given-one a b x (Some reason) wrote = inr (reason, wrote, refl)
 
   -- where it stopped, nothing more counts
-  pub given-stopped : (f g : T) (a b : SinkState) (xs ys : List ToldValue) (reason : Lost) → GivesEach writes f g a b xs (Some reason)
-      → GivesEach writes f g a b (xs ++ ys) (Some reason)
-  given-stopped f g a b [] ys reason (same, same_out, none) = absurd (none-some reason (sym none))
-  given-stopped f g a b (x ∷ xs) ys reason (inl (next, behind, wrote, rest)) = inl (next, behind, wrote, given-stopped next g behind b xs ys reason rest)
-  given-stopped f g a b (x ∷ xs) ys reason (inr (other, wrote, is)) = inr (other, wrote, is)
+  pub given-stopped : (a b : Output T) (xs ys : List ToldValue) (reason : Lost) → GivesEach writes a b xs (Some reason)
+      → GivesEach writes a b (xs ++ ys) (Some reason)
+  given-stopped a b [] ys reason (same, none) = absurd (none-some reason (sym none))
+  given-stopped a b (x ∷ xs) ys reason (inl (next, wrote, rest)) = inl (next, wrote, given-stopped next b xs ys reason rest)
+  given-stopped a b (x ∷ xs) ys reason (inr (other, wrote, is)) = inr (other, wrote, is)
+
+  -- one more
+  pub given-more : (a b c : Output T) (xs all : List ToldValue) (x : ToldValue) → all ≡ xs ++ x ∷ [] → GivesEach writes a b xs None
+      → writes b c x None → GivesEach writes a c all None
+  given-more a b c xs all x is before wrote =
+      subst (λ (ts : List ToldValue). GivesEach writes a c ts None) (sym is)
+      (given-append a b c xs (x ∷ []) None before (given-one b c x None wrote))
+
+  -- one more, at which it stopped
+  pub given-up-to : (a b c : Output T) (xs ys all : List ToldValue) (x : ToldValue) (reason : Lost) (lost : Option Lost)
+      → all ≡ (xs ++ x ∷ []) ++ ys → lost ≡ Some reason → GivesEach writes a b xs None → writes b c x (Some reason) → GivesEach writes a c all lost
+  given-up-to a b c xs ys all x reason lost is stopped before wrote =
+      subst (λ (l : Option Lost). GivesEach writes a c all l) (sym stopped)
+      (subst (λ (ts : List ToldValue). GivesEach writes a c ts (Some reason)) (sym is)
+      (given-stopped a c (xs ++ x ∷ []) ys reason (given-append a b c xs (x ∷ []) (Some reason) before (given-one b c x (Some reason) wrote))))
 
 -- ---- one more of a list
 

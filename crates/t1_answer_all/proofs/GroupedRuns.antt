@@ -2,21 +2,20 @@
 use Rattle.std.proofs.Common.{◌≡◌, List, Result}
 use Rattle.t1_answer_all.specs.Checks.{ChecksFonts}
 use Rattle.t1_answer_all.specs.Checks.ChecksFonts.{cut_short, whole}
-use Rattle.t1_answer_all.specs.Plans.{PlanValue}
+use Rattle.t1_answer_all.specs.Plans.{Run}
 use Rattle.t1_printers.proofs.Written.{seen}
 use Rattle.t1_printers.specs.GroupLines.{Writing}
 use Rattle.t1_printers.specs.Grouping.{GroupedTakes, Grouping}
-use Rattle.t1_many.specs.Files.{Files}
 use Rattle.t1_many.specs.Outcomes.{Entry}
 use Rattle.t1_many.specs.declared.policy.Lost.{Lost}
 use Rattle.t1_run.specs.declared.status.Status.{Status}
 
 module _ {F T : Type 0} (form : F → T) (writes : T → Writing) (view : Writing → F → Grouping) where
-  pub fonts-seen : (plan : PlanValue) (files : Files) (old new : F) (Keeps : List Entry → Type 0) (result : Result Status Lost)
+  pub fonts-seen : (run : Run) (old new : F) (Keeps : List Entry → Type 0) (result : Result Status Lost)
       → ChecksFonts (λ old new handed lost. (form new ≡ form old)
-      × GroupedTakes (writes (form old)) (view (writes (form old)) old) (view (writes (form old)) new) handed lost) plan files old new Keeps result
-      → ChecksFonts (GroupedTakes (writes (form old))) plan files (view (writes (form old)) old) (view (writes (form old)) new) Keeps result
-  fonts-seen plan files old new Keeps result (whole entries are handed keeps is) =
+      × GroupedTakes (writes (form old)) (view (writes (form old)) old) (view (writes (form old)) new) handed lost) run old new Keeps result
+      → ChecksFonts (GroupedTakes (writes (form old))) run (view (writes (form old)) old) (view (writes (form old)) new) Keeps result
+  fonts-seen run old new Keeps result (whole entries are handed keeps is) =
       whole entries are (seen form writes view old new _ _ handed) keeps is
-  fonts-seen plan files old new Keeps result (cut_short count entries are lost stop handed why is) =
+  fonts-seen run old new Keeps result (cut_short count entries are lost stop handed why is) =
       cut_short count entries are lost stop (seen form writes view old new _ stop handed) why is

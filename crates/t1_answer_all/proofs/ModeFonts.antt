@@ -5,7 +5,7 @@ use Rattle.t1_answer_all.proofs.FontsTaken.{TakesFont, checks_fonts}
 use Rattle.t1_answer_all.specs.Checks.{ChecksFonts, IsKept}
 use Rattle.t1_answer_all.specs.Checks.ChecksFonts.{cut_short as cut_short', whole as whole'}
 use Rattle.t1_answer_all.specs.Modes.{ModeValue, anew, beyond, counts_in, judges_of, readings_of, told, waived, waivers_of}
-use Rattle.t1_answer_all.specs.Plans.{PlanValue}
+use Rattle.t1_answer_all.specs.Plans.{Run}
 use Rattle.t1_char.specs.declared.edition.Edition.{Edition}
 use Rattle.t1_many.specs.Ends.{AreEntries, AreTaken, Ends, status_of_all}
 use Rattle.t1_many.specs.Ends.Ends.{all, stopped}
@@ -31,41 +31,41 @@ use Rattle.t1_waiving.specs.Waived.WaivesAll.{cut_short as waived_short, whole a
 none_kept : (readings : List Kept) → readings ≡ [] → AllZip IsReadingOf readings []
 none_kept readings none = subst (λ (rs : List Kept). AllZip IsReadingOf rs []) (sym none) tt
 
-module _ {F : Type 0} (takes : F → F → Handed → Option Lost → Type 0) (plan : PlanValue) (files : Files) (old new : F)
+module _ {F : Type 0} (takes : F → F → Handed → Option Lost → Type 0) (run : Run) (old new : F)
     (result : Result Status Lost) (readings : List Kept) (waivers : List FontText) where
   -- Fonts were checked in this mode.
   abbrev AreChecked : List Entry → ModeValue → Type 0
-  AreChecked entries mode = HandsOn takes old new (all_handed (judges_of mode plan.rules) entries) None
-      × AllZip IsReadingOf readings (readings_of mode plan.rules entries) × (waivers ≡ waivers_of mode plan.rules entries)
-      × (result ≡ Ok (status_of_all (founds_of (judges_of mode plan.rules) entries)))
+  AreChecked entries mode = HandsOn takes old new (all_handed (judges_of mode run.plan.rules) entries) None
+      × AllZip IsReadingOf readings (readings_of mode run.plan.rules entries) × (waivers ≡ waivers_of mode run.plan.rules entries)
+      × (result ≡ Ok (status_of_all (founds_of (judges_of mode run.plan.rules) entries)))
 
-  checked_whole : (entries : List Entry) (mode : ModeValue) → plan.mode ≡ mode → AreEntries files plan.edition plan.names entries
-      → AreChecked entries mode → ChecksFonts takes plan files old new (IsKept plan readings waivers) result
+  checked_whole : (entries : List Entry) (mode : ModeValue) → run.plan.mode ≡ mode → AreEntries run.files run.plan.edition run.plan.names entries
+      → AreChecked entries mode → ChecksFonts takes run old new (IsKept run.plan readings waivers) result
   checked_whole entries mode mode_is are checked =
       let so = subst (AreChecked entries) (sym mode_is) checked in
       whole' entries are so.0 (record { readings_are = so.1; waivers_are = so.2 }) so.3
 
-  checked_in_part : (count : ℕ) (entries : List Entry) (mode : ModeValue) → plan.mode ≡ mode
-      → AreEntries files plan.edition (take count plan.names) entries → (lost : Lost)
-      → HandsOn takes old new (all_handed (judges_of mode plan.rules) entries) (Some lost) → result ≡ Err lost
-      → ChecksFonts takes plan files old new (IsKept plan readings waivers) result
+  checked_in_part : (count : ℕ) (entries : List Entry) (mode : ModeValue) → run.plan.mode ≡ mode
+      → AreEntries run.files run.plan.edition (take count run.plan.names) entries → (lost : Lost)
+      → HandsOn takes old new (all_handed (judges_of mode run.plan.rules) entries) (Some lost) → result ≡ Err lost
+      → ChecksFonts takes run old new (IsKept run.plan readings waivers) result
   checked_in_part count entries mode mode_is are lost handed is =
       cut_short' count entries are lost (Some lost)
-      (subst (λ (m : ModeValue). HandsOn takes old new (all_handed (judges_of m plan.rules) entries) (Some lost)) (sym mode_is) handed) (inl refl) is
+      (subst (λ (m : ModeValue). HandsOn takes old new (all_handed (judges_of m run.plan.rules) entries) (Some lost)) (sym mode_is) handed) (inl refl) is
 
-  pub told_fonts : plan.mode ≡ told → readings ≡ [] → waivers ≡ []
-      → TellsAll takes (λ name. of_rules plan.rules) files plan.edition plan.names old new result
-      → ChecksFonts takes plan files old new (IsKept plan readings waivers) result
+  pub told_fonts : run.plan.mode ≡ told → readings ≡ [] → waivers ≡ []
+      → TellsAll takes (λ name. of_rules run.plan.rules) run.files run.plan.edition run.plan.names old new result
+      → ChecksFonts takes run old new (IsKept run.plan readings waivers) result
   told_fonts mode_is none none_waived (whole entries are handed is) =
       checked_whole entries told mode_is are (handed, none_kept readings none, none_waived, is)
   told_fonts mode_is none none_waived (cut_short count entries are lost handed is) = checked_in_part count entries told mode_is are lost handed is
 
-  pub waived_fonts : (before : List FontText) → plan.mode ≡ waived → readings ≡ [] → before ≡ []
-      → WaivesAll takes plan.rules files plan.edition plan.names old new before waivers result
-      → ChecksFonts takes plan files old new (IsKept plan readings waivers) result
+  pub waived_fonts : (before : List FontText) → run.plan.mode ≡ waived → readings ≡ [] → before ≡ []
+      → WaivesAll takes run.plan.rules run.files run.plan.edition run.plan.names old new before waivers result
+      → ChecksFonts takes run old new (IsKept run.plan readings waivers) result
   waived_fonts before mode_is none begun (waived_whole entries are handed kept is) =
       checked_whole entries waived mode_is are
-      (handed, none_kept readings none, kept ∙ ap (λ (ts : List FontText). ts ++ all_texts plan.rules entries) begun, is)
+      (handed, none_kept readings none, kept ∙ ap (λ (ts : List FontText). ts ++ all_texts run.plan.rules entries) begun, is)
   waived_fonts before mode_is none begun (waived_short count entries are lost handed kept is) =
       checked_in_part count entries waived mode_is are lost handed is
 
@@ -85,46 +85,46 @@ module _ {T : Type 0} (A B : T → T → Entry → Result FontClass Lost → Typ
       stopped count entries last founds are next (taken-map old next entries founds taken) lost (each next new last _ took) is
 
 module _ {T F K : Type 0} (takes : F → F → Handed → Option Lost → Type 0) (form : T → F) (kept : T → List Kept) (rules : T → Mask)
-    (known : T → K) (counts : K → List ℕ → ℕ) (plan : PlanValue) (files : Files) (old new : T) (result : Result Status Lost)
+    (known : T → K) (counts : K → List ℕ → ℕ) (run : Run) (old new : T) (result : Result Status Lost)
     (waivers : List FontText) where
-  pub beyond_fonts : (rows : List RowValue) → plan.mode ≡ beyond rows → counts (known old) ≡ counts_in rows → rules old ≡ plan.rules → kept old ≡ []
+  pub beyond_fonts : (rows : List RowValue) → run.plan.mode ≡ beyond rows → counts (known old) ≡ counts_in rows → rules old ≡ run.plan.rules → kept old ≡ []
       → waivers ≡ []
       → Ends (λ a b entry taken. (rules b ≡ rules a) × (known b ≡ known a)
       × TakesKnown takes (by_known (counts (known a)) (rules a) entry.name) (rules a) (form a) (form b) (kept a) (kept b) entry taken)
-      files plan.edition plan.names old new result
-      → ChecksFonts takes plan files (form old) (form new) (IsKept plan (kept new) waivers) result
+      run.files run.plan.edition run.plan.names old new result
+      → ChecksFonts takes run (form old) (form new) (IsKept run.plan (kept new) waivers) result
   beyond_fonts rows mode_is counts_are mask_is none none_waived ends =
       let judges : T → List ℕ → Report → FaultValue → Verdict = λ t name. by_known (counts (known t)) (rules t) name in
-      checks_fonts takes form kept rules judges plan files old new result (IsKept plan (kept new) waivers)
+      checks_fonts takes form kept rules judges run old new result (IsKept run.plan (kept new) waivers)
       (ap₂ (λ (c : List ℕ → ℕ) (m : Mask). λ (name : List ℕ). by_known c m name) counts_are mask_is
-      ∙ ap (λ (mode : ModeValue). judges_of mode plan.rules) (sym mode_is)) mask_is none
+      ∙ ap (λ (mode : ModeValue). judges_of mode run.plan.rules) (sym mode_is)) mask_is none
       (λ entries texts. record {
-        readings_are = subst (λ (m : ModeValue). AllZip IsReadingOf (kept new) (readings_of m plan.rules entries)) (sym mode_is) texts;
-        waivers_are = subst (λ (m : ModeValue). waivers ≡ waivers_of m plan.rules entries) (sym mode_is) none_waived;
+        readings_are = subst (λ (m : ModeValue). AllZip IsReadingOf (kept new) (readings_of m run.plan.rules entries)) (sym mode_is) texts;
+        waivers_are = subst (λ (m : ModeValue). waivers ≡ waivers_of m run.plan.rules entries) (sym mode_is) none_waived;
       })
       (ends-map _ (TakesFont takes form kept rules judges) (λ a b entry taken took. record {
         rules_stay = took.0;
         judges_stay = ap₂ (λ (k : K) (m : Mask). λ (name : List ℕ). by_known (counts k) m name) took.1 took.0;
         outcome = took.2;
-      }) files plan.edition plan.names old new result ends)
+      }) run.files run.plan.edition run.plan.names old new result ends)
 
-module _ {T F : Type 0} (takes : F → F → Handed → Option Lost → Type 0) (form : T → F) (kept : T → List Kept) (rules : T → Mask) (plan : PlanValue)
-    (files : Files) (old new : T) (result : Result Status Lost) (waivers : List FontText) where
-  pub anew_fonts : (rows : List RowValue) → plan.mode ≡ anew rows → rules old ≡ plan.rules → kept old ≡ [] → waivers ≡ []
+module _ {T F : Type 0} (takes : F → F → Handed → Option Lost → Type 0) (form : T → F) (kept : T → List Kept) (rules : T → Mask) (run : Run)
+    (old new : T) (result : Result Status Lost) (waivers : List FontText) where
+  pub anew_fonts : (rows : List RowValue) → run.plan.mode ≡ anew rows → rules old ≡ run.plan.rules → kept old ≡ [] → waivers ≡ []
       → Ends (λ a b entry taken. (rules b ≡ rules a)
       × TakesKnown takes (as_known (rules a)) (rules a) (form a) (form b) (kept a) (kept b) entry taken)
-      files plan.edition plan.names old new result
-      → ChecksFonts takes plan files (form old) (form new) (IsKept plan (kept new) waivers) result
+      run.files run.plan.edition run.plan.names old new result
+      → ChecksFonts takes run (form old) (form new) (IsKept run.plan (kept new) waivers) result
   anew_fonts rows mode_is mask_is none none_waived ends =
       let judges : T → List ℕ → Report → FaultValue → Verdict = λ t name. as_known (rules t) in
-      checks_fonts takes form kept rules judges plan files old new result (IsKept plan (kept new) waivers)
-      (ap (λ (m : Mask). λ (name : List ℕ). as_known m) mask_is ∙ ap (λ (mode : ModeValue). judges_of mode plan.rules) (sym mode_is)) mask_is none
+      checks_fonts takes form kept rules judges run old new result (IsKept run.plan (kept new) waivers)
+      (ap (λ (m : Mask). λ (name : List ℕ). as_known m) mask_is ∙ ap (λ (mode : ModeValue). judges_of mode run.plan.rules) (sym mode_is)) mask_is none
       (λ entries texts. record {
-        readings_are = subst (λ (m : ModeValue). AllZip IsReadingOf (kept new) (readings_of m plan.rules entries)) (sym mode_is) texts;
-        waivers_are = subst (λ (m : ModeValue). waivers ≡ waivers_of m plan.rules entries) (sym mode_is) none_waived;
+        readings_are = subst (λ (m : ModeValue). AllZip IsReadingOf (kept new) (readings_of m run.plan.rules entries)) (sym mode_is) texts;
+        waivers_are = subst (λ (m : ModeValue). waivers ≡ waivers_of m run.plan.rules entries) (sym mode_is) none_waived;
       })
       (ends-map _ (TakesFont takes form kept rules judges) (λ a b entry taken took. record {
         rules_stay = took.0;
         judges_stay = ap (λ (m : Mask). λ (name : List ℕ). as_known m) took.0;
         outcome = took.1;
-      }) files plan.edition plan.names old new result ends)
+      }) run.files run.plan.edition run.plan.names old new result ends)

@@ -2,6 +2,7 @@
 use Rattle.std.specs.Prelude.{◌≡◌, ℕ, Bool, true, false, not, List, Ok, length}
 use Rattle.t1_io.specs.Devices.{SinkState}
 use Rattle.t1_known.specs.Reads.{IsReadAs}
+use Rattle.t1_many.specs.Calls.{Calls}
 use Rattle.t1_many.specs.Files.{files_by}
 use Rattle.t1_many.specs.KnownFaults.{RowValue}
 use Rattle.t1_many.specs.Plain.{Devices}
@@ -11,7 +12,7 @@ use Rattle.t1_run.specs.declared.usage.UsageError.{UsageError}
 use Rattle.t1_answer_all.specs.Known.{IsKnownText, IsNotKnownText, IsWrong, file_of}
 use Rattle.t1_answer_all.specs.Listing.{AreFonts, FontsValue, HasNoFonts}
 use Rattle.t1_answer_all.specs.Places.{ListsGiven, Texts}
-use Rattle.t1_answer_all.specs.Plans.{AskedValue, beside_of, is_quiet, plan_by}
+use Rattle.t1_answer_all.specs.Plans.{AskedValue, Run, beside_of, is_quiet, plan_by}
 use Rattle.t1_answer_all.specs.Runs.{LeftValue, Runs, nothing_left, program}
 use Rattle.t1_answer_all.specs.Stores.{Change, Fonts}
 use Rattle.t1_answer_all.specs.Telling.{IsTold, unlisted_text}
@@ -28,13 +29,25 @@ abbrev pub ExpectsIf : {F : Type 0} → (F → F → ℕ → Type 0) → Bool �
 ExpectsIf Expects true count old new = Expects old new count
 ExpectsIf Expects false count old new = new ≡ old
 
+-- The fonts of a check that were listed, what is requested of them, and the rows of the file of known faults.
+pub record Listed : Type 0 where
+  pub asked : AskedValue
+  pub rows : List RowValue
+  pub fonts : FontsValue
+
+-- The run of these, over files that are changed so.
+abbrev pub run_by : {F : Type 0} → Listed → Calls F → F → F → Run
+run_by listed calls old new = record {
+  plan = plan_by listed.asked listed.rows listed.fonts;
+  files = files_by calls (beside_of listed.asked.options.waivers) old new;
+}
+
 -- What couldn't be listed is printed first. Then the files are told, unless it is a quiet run, how many fonts there are.
-abbrev pub TellsAndChecks : {F : Type 0} → Fonts F → AskedValue → List RowValue → FontsValue → Change F → LeftValue → Type 0
-TellsAndChecks {F} store asked rows fonts c left =
-    (behind : SinkState) × IsTold (unlisted_text fonts.undecoded fonts.unsearched) c.old.errors behind
-    × (begun : F) × ExpectsIf store.Expects (not (is_quiet asked.options fonts)) (length fonts.names) c.files begun
-    × Runs (plan_by asked rows fonts) (files_by store.calls (beside_of asked.options.waivers) begun c.files') (record { out = c.old.out; errors = behind })
-    c.new left
+abbrev pub TellsAndChecks : {F : Type 0} → Fonts F → Listed → Change F → LeftValue → Type 0
+TellsAndChecks {F} store listed c left =
+    (behind : SinkState) × IsTold (unlisted_text listed.fonts.undecoded listed.fonts.unsearched) c.old.errors behind
+    × (begun : F) × ExpectsIf store.Expects (not (is_quiet listed.asked.options listed.fonts)) (length listed.fonts.names) c.files begun
+    × Runs (run_by listed store.calls begun c.files') (record { out = c.old.out; errors = behind }) c.new left
 
 -- Given the text of the file of known faults: its rows are read, and fonts are listed and checked; or one of these can't be done, and no file is
 -- opened.
@@ -42,7 +55,7 @@ pub data ChecksKnown {F : Type 0} (lists : ListsGiven) (store : Fonts F) (asked 
     : Type 0 where
   checked :
       (rows : List RowValue) → IsReadAs text (Ok rows) → (fonts : FontsValue) → AreFonts lists asked.options fonts
-      → TellsAndChecks store asked rows fonts c left → ChecksKnown lists store asked text c left
+      → TellsAndChecks store (record { asked = asked; rows = rows; fonts = fonts }) c left → ChecksKnown lists store asked text c left
   no_rows :
       (error : UsageError) → IsToldSo (IsWrong (file_of asked.options.known_faults) text) error → Stops error c.old c.new left → c.files' ≡ c.files
       → ChecksKnown lists store asked text c left

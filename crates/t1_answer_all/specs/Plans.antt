@@ -9,7 +9,9 @@ use Rattle.t1_answer_all.specs.declared.plan.Plan.{Plan}
 use Rattle.t1_char.specs.declared.edition.Edition.{Edition}
 use Rattle.t1_forms.specs.PageValues.{PageValue, page_value}
 use Rattle.t1_forms.specs.Tellings.{ToldValue}
+use Rattle.t1_many.specs.Calls.{Calls}
 use Rattle.t1_many.specs.Choice.{Choice, choice_of}
+use Rattle.t1_many.specs.Files.{Files, files_by}
 use Rattle.t1_many.specs.KnownFaults.{RowValue}
 use Rattle.t1_many.specs.Outcomes.{Report}
 use Rattle.t1_many.specs.declared.font_files.WaiverFiles.{WaiverFiles}
@@ -48,6 +50,15 @@ plan_value plan = record {
   unlisted = unlisted_in plan.unlisted;
   quiet = plan.quiet;
 }
+
+-- A run: what it is to do, and the files that it reads.
+pub record Run : Type 1 where
+  pub plan : PlanValue
+  pub files : Files
+
+-- The run of a plan of the program, over files that calls change.
+abbrev pub run_of : {F : Type 0} → Plan → Calls F → F → F → Run
+run_of plan calls old new = record { plan = plan_value plan; files = files_by calls plan.beside old new }
 
 -- How the faults of the report of a font of this name are judged.
 abbrev pub judges_in : PlanValue → List ℕ → Report → FaultValue → Verdict

@@ -1,14 +1,13 @@
 -- How a run over many fonts ends, and what is left to do.
 use Rattle.std.specs.Prelude.{◌≡◌, ℕ, List, codes, Option, None, Some, option_map, Result, Ok, Err, if◌then◌else◌}
 use Rattle.t1_answer_all.specs.Endings.{AreFoundBy, Ends, text_of}
-use Rattle.t1_answer_all.specs.Plans.{PlanValue}
+use Rattle.t1_answer_all.specs.Plans.{PlanValue, Run}
 use Rattle.t1_answer_all.specs.Unlisted.{is_whole}
 use Rattle.t1_answer_all.specs.Writing.{WritesIn}
 use Rattle.t1_answer_all.specs.declared.findings.Findings.{Findings}
 use Rattle.t1_answer_all.specs.declared.ending.Ended.{Ended}
 use Rattle.t1_answer_all.specs.declared.running.Left.{Left}
 use Rattle.t1_io.specs.Devices.{SinkState}
-use Rattle.t1_many.specs.Files.{Files}
 use Rattle.t1_many.specs.KnownFaults.{Reading}
 use Rattle.t1_many.specs.Plain.{Devices}
 use Rattle.t1_many.specs.declared.policy.Lost.{Lost}
@@ -63,11 +62,11 @@ ConcludesWritten plan found (Err lost) old new left =
     (status : Status) × Tells (lost_line lost) Failed old new status × (left ≡ nothing_left status)
 
 -- What is chosen of the fonts was written, and all was printed. Or it stopped while that was written, which is printed, and nothing is left.
-pub data Runs (plan : PlanValue) (files : Files) (old new : Devices) (left : LeftValue) : Type 0 where
+pub data Runs (run : Run) (old new : Devices) (left : LeftValue) : Type 0 where
   concluded :
-      (behind : Devices) → (found : Findings) → (status : Status) → WritesIn plan files old behind found (Ok status)
-      → Concludes plan found behind.errors new.errors left → new.out ≡ behind.out → Runs plan files old new left
+      (behind : Devices) → (found : Findings) → (status : Status) → WritesIn run old behind (record { found = found; status = Ok status })
+      → Concludes run.plan found behind.errors new.errors left → new.out ≡ behind.out → Runs run old new left
   stopped :
-      (behind : Devices) → (found : Findings) → (lost : Lost) → WritesIn plan files old behind found (Err lost)
+      (behind : Devices) → (found : Findings) → (lost : Lost) → WritesIn run old behind (record { found = found; status = Err lost })
       → (status : Status) → Tells (lost_line lost) Failed behind.errors new.errors status → new.out ≡ behind.out → left ≡ nothing_left status
-      → Runs plan files old new left
+      → Runs run old new left

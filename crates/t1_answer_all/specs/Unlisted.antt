@@ -2,16 +2,16 @@
 use Rattle.std.specs.Prelude.{◌≡◌, ◌⊎◌, ◌++◌, ℕ, Bool, true, false, List, [], ◌∷◌, codes, map, replicate, Option, None, Some, string_bytes}
 use Rattle.t1_forms.specs.Tellings.{ToldValue, of_unchecked}
 use Rattle.t1_answer_all.specs.declared.unlisted.Unlisted.{Unlisted}
-use Rattle.t1_io.specs.Devices.{SinkState}
 use Rattle.t1_many.specs.declared.policy.Lost.{Lost}
+use Rattle.t1_printers.specs.Formatting.{Output}
 
 -- These were given one after another; or it stopped at one of them, and no later one was.
-abbrev pub GivesEach : {T : Type 0} → (T → T → SinkState → SinkState → ToldValue → Option Lost → Type 0) → T → T → SinkState → SinkState
-    → List ToldValue → Option Lost → Type 0
-GivesEach writes old new out out' [] lost = (new ≡ old) × (out' ≡ out) × (lost ≡ None)
-GivesEach {T} writes old new out out' (told ∷ more) lost =
-    ((next : T) × (behind : SinkState) × writes old next out behind told None × GivesEach writes next new behind out' more lost)
-    ⊎ ((reason : Lost) × writes old new out out' told (Some reason) × (lost ≡ Some reason))
+abbrev pub GivesEach : {T : Type 0} → (Output T → Output T → ToldValue → Option Lost → Type 0) → Output T → Output T → List ToldValue
+    → Option Lost → Type 0
+GivesEach writes old new [] lost = (new ≡ old) × (lost ≡ None)
+GivesEach {T} writes old new (told ∷ more) lost =
+    ((next : Output T) × writes old next told None × GivesEach writes next new more lost)
+    ⊎ ((reason : Lost) × writes old new told (Some reason) × (lost ≡ Some reason))
 
 -- A name that isn't UTF-8 can't be given to the system, so none is given.
 abbrev pub undecoded : ToldValue

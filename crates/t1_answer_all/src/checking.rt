@@ -92,7 +92,8 @@ where
     F: FontFiles + ShowsProgress,
     W: Sink + Drop,
     E: Sink + Drop,
-    ensures { TellsAndChecks (record { calls = F.calls; Expects = F.expects }) (asked_value asked.entry) known.now (fonts_value fonts.now)
+    ensures { TellsAndChecks (record { calls = F.calls; Expects = F.expects })
+        (record { asked = asked_value asked.entry; rows = known.now; fonts = fonts_value fonts.now })
         (record {
           files = files.old;
           files' = files.new;

@@ -2,8 +2,7 @@
 
 ghost use Rattle.std.specs.Prelude.{◌≡◌};
 ghost use Rattle.t1_answer_all.specs.Checks.{ChecksFonts, IsFound, IsKept};
-ghost use Rattle.t1_answer_all.specs.Plans.{plan_value};
-ghost use Rattle.t1_many.specs.Files.{files_by};
+ghost use Rattle.t1_answer_all.specs.Plans.{plan_value, run_of};
 
 use crate::mode::{Borrowed, Mode};
 use crate::plan::Plan;
@@ -63,7 +62,7 @@ pub fn check_fonts<S, F>(alloc: Global, plan: Plan<'_>, files: &mut S, form: F) 
 where
     S: FontFiles,
     F: Printer + Drop,
-    ensures { ChecksFonts F.takes (plan_value plan.entry) (files_by S.calls plan.entry.beside files.old files.new) form result.form
+    ensures { ChecksFonts F.takes (run_of plan.entry S.calls files.old files.new) form result.form
         (IsFound (plan_value plan.entry) result.found) result.status }
 {
     let counted = Counted {
@@ -92,8 +91,7 @@ fn check_ones<S, F>(
 where
     S: FontFiles,
     F: Printer + Drop,
-    ensures { ChecksFonts ⟦<Counted<F> as Printer>⟧.takes (plan_value plan.entry)
-        (files_by S.calls plan.entry.beside files.old files.new) counted result.counted
+    ensures { ChecksFonts ⟦<Counted<F> as Printer>⟧.takes (run_of plan.entry S.calls files.old files.new) counted result.counted
         (IsKept (plan_value plan.entry) result.readings.items result.kept) result.status }
 {
     match plan.mode {

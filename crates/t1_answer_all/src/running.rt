@@ -1,9 +1,8 @@
 //! A run over many fonts, from the first font to the last line that is printed.
 
 ghost use Rattle.std.specs.Prelude.{◌≡◌, if◌then◌else◌};
-ghost use Rattle.t1_answer_all.specs.Plans.{plan_value};
+ghost use Rattle.t1_answer_all.specs.Plans.{plan_value, run_of};
 ghost use Rattle.t1_answer_all.specs.Runs.{Concludes, ConcludesWritten, Runs, left_value, lost_line, nothing_left};
-ghost use Rattle.t1_many.specs.Files.{files_by};
 ghost use Rattle.t1_run.specs.Telling.{Tells};
 
 use crate::ending::end;
@@ -48,7 +47,7 @@ where
     S: FontFiles,
     W: Sink + Drop,
     E: Sink + Drop,
-    ensures { Runs (plan_value plan.entry) (files_by S.calls plan.entry.beside files.old files.new)
+    ensures { Runs (run_of plan.entry S.calls files.old files.new)
         (record { out = W.state out; errors = E.state errors }) (record { out = W.state result.out; errors = E.state result.errors })
         (left_value result.left) }
 {

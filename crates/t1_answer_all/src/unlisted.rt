@@ -37,7 +37,8 @@ pub fn give_unlisted<T: Formatter, W: Sink>(
     formatter: &mut T,
     out: &mut W,
 ) -> Result<(), Lost>
-    ensures { GivesEach T.writes formatter.old formatter.new (W.state out.old) (W.state out.new)
+    ensures { GivesEach T.writes (record { formatter = formatter.old; out = W.state out.old })
+        (record { formatter = formatter.new; out = W.state out.new })
         (unlisted_in unlisted.entry) (lost_of result) }
 {
     give_undecoded(alloc, unlisted.undecoded, formatter, out)?;
@@ -51,7 +52,8 @@ fn give_undecoded<T: Formatter, W: Sink>(
     formatter: &mut T,
     out: &mut W,
 ) -> Result<(), Lost>
-    ensures { GivesEach T.writes formatter.old formatter.new (W.state out.old) (W.state out.new)
+    ensures { GivesEach T.writes (record { formatter = formatter.old; out = W.state out.old })
+        (record { formatter = formatter.new; out = W.state out.new })
         (replicate count undecoded) (lost_of result) }
 {
     let told = Told {
@@ -72,7 +74,8 @@ fn give_times<T: Formatter, W: Sink>(
     out: &mut W,
 ) -> Result<(), Lost>
     requires { HasItsLine T.has_lines told.now }
-    ensures { GivesEach T.writes formatter.old formatter.new (W.state out.old) (W.state out.new)
+    ensures { GivesEach T.writes (record { formatter = formatter.old; out = W.state out.old })
+        (record { formatter = formatter.new; out = W.state out.new })
         (replicate count (told_value told.now)) (lost_of result) }
 {
     for _time in 0..count {
@@ -88,7 +91,8 @@ fn give_unsearched<T: Formatter, W: Sink>(
     formatter: &mut T,
     out: &mut W,
 ) -> Result<(), Lost>
-    ensures { GivesEach T.writes formatter.old formatter.new (W.state out.old) (W.state out.new)
+    ensures { GivesEach T.writes (record { formatter = formatter.old; out = W.state out.old })
+        (record { formatter = formatter.new; out = W.state out.new })
         (map (λ folder. unsearched (string_bytes folder)) folders.now) (lost_of result) }
 {
     for folder in folders {

@@ -1,9 +1,8 @@
 //! Writes what is chosen of fonts, in the layout that is requested.
 
 ghost use Rattle.std.specs.Prelude.{◌≡◌, Err};
-ghost use Rattle.t1_answer_all.specs.Plans.{plan_value};
+ghost use Rattle.t1_answer_all.specs.Plans.{run_of};
 ghost use Rattle.t1_answer_all.specs.Writing.{FinishesChecked, FinishesForm, WritesCommands, WritesFormatted, WritesGroups, WritesIn, WritesPlain, lost_by};
-ghost use Rattle.t1_many.specs.Files.{files_by};
 ghost use Rattle.t1_many.specs.Handing.{lost_of};
 
 use crate::findings::{Findings, check_fonts};
@@ -45,9 +44,9 @@ where
     S: FontFiles,
     W: Sink + Drop,
     E: Sink + Drop,
-    ensures { WritesIn (plan_value plan.entry) (files_by S.calls plan.entry.beside files.old files.new)
+    ensures { WritesIn (run_of plan.entry S.calls files.old files.new)
         (record { out = W.state out; errors = E.state errors }) (record { out = W.state result.out; errors = E.state result.errors })
-        result.found result.status }
+        (record { found = result.found; status = result.status }) }
 {
     let mut out = out;
     match plan.layout {
@@ -77,9 +76,9 @@ where
     S: FontFiles,
     W: Sink + Drop,
     E: Sink + Drop,
-    ensures { WritesPlain reasons (plan_value plan.entry) (files_by S.calls plan.entry.beside files.old files.new)
+    ensures { WritesPlain reasons (run_of plan.entry S.calls files.old files.new)
         (record { out = W.state out; errors = E.state errors }) (record { out = W.state result.out; errors = E.state result.errors })
-        result.found result.status }
+        (record { found = result.found; status = result.status }) }
 {
     let form = Plain {
         reasons,
@@ -109,9 +108,9 @@ where
     T: GroupForm + Drop,
     W: Sink + Drop,
     E: Sink + Drop,
-    ensures { WritesGroups (T.writing form) (plan_value plan.entry) (files_by S.calls plan.entry.beside files.old files.new)
+    ensures { WritesGroups (T.writing form) (run_of plan.entry S.calls files.old files.new)
         (record { out = W.state out; errors = E.state errors }) (record { out = W.state result.out; errors = E.state result.errors })
-        result.found result.status }
+        (record { found = result.found; status = result.status }) }
 {
     let grouped = Grouped::new(alloc, form, out, errors);
     let checked = check_fonts(alloc, plan, files, grouped);
@@ -137,9 +136,9 @@ where
     S: FontFiles,
     W: Sink + Drop,
     E: Sink + Drop,
-    ensures { WritesCommands reasons (plan_value plan.entry) (files_by S.calls plan.entry.beside files.old files.new)
+    ensures { WritesCommands reasons (run_of plan.entry S.calls files.old files.new)
         (record { out = W.state out; errors = E.state errors }) (record { out = W.state result.out; errors = E.state result.errors })
-        result.found result.status }
+        (record { found = result.found; status = result.status }) }
 {
     let mut out = out;
     let mut formatter = GitHubCommands;
@@ -167,11 +166,10 @@ where
     T: Formatter + Drop,
     W: Sink + Drop,
     E: Sink + Drop,
-    ensures { WritesFormatted
-        (record { reasons = reasons; Writes = T.writes; Finishes = T.finishes; begun = formatter })
-        (plan_value plan.entry) (files_by S.calls plan.entry.beside files.old files.new)
-        (record { out = W.state out; errors = E.state errors }) (record { out = W.state result.out; errors = E.state result.errors })
-        result.found result.status }
+    ensures { WritesFormatted (record { reasons = reasons; writes = T.writes }) T.finishes (run_of plan.entry S.calls files.old files.new)
+        (record { formatter = formatter; out = W.state out; errors = E.state errors })
+        (record { out = W.state result.out; errors = E.state result.errors })
+        (record { found = result.found; status = result.status }) }
 {
     let mut formatter = formatter;
     let mut out = out;

@@ -12,11 +12,10 @@ use Rattle.t1_many.specs.Plain.{tellings, told_of}
 use Rattle.t1_many.specs.declared.policy.Lost.{Lost}
 use Rattle.t1_many.specs.declared.policy.Lost.TheVariants.{Device, Memory}
 use Rattle.t1_printers.proofs.JsonTexts.{cause, front-all, front-first, front-none, front-second, kept, none-same}
-use Rattle.t1_printers.specs.Documents.{IsDocumentOf, all_values, failure_value, telling_written, values_of}
-use Rattle.t1_printers.specs.Formatting.{FormattedTakes, Formatting, Gives, GivesFailure, GivesUnchecked, given, no_memory, told, told_unchecked, untold}
+use Rattle.t1_printers.specs.Documents.{IsDocumentOf, all_values, telling_written, values_of}
+use Rattle.t1_printers.specs.Formatting.{Form, FormattedTakes, Formatting, Gives, GivesUnchecked, given, no_memory, told, told_unchecked, untold}
 use Rattle.t1_many.specs.FontErrors.{reason_of}
 use Rattle.t1_many.specs.Unchecked.{unchecked_line}
-use Rattle.t1_many.specs.declared.font_error.FontError.{FontError}
 use Rattle.t1_many.specs.declared.font_error.FontError.TheVariants.{Refused, Unchecked}
 
 -- ---- a part of a document
@@ -94,12 +93,6 @@ unchecked-one old new name reason lost (untold broke formatter same why) =
       inr (inr broke.failed),
     )
 
-failure-one : (old new : Formatting Sarif) (name : List ℕ) (reason : FontError) (lost : Option Lost)
-    → GivesFailure telling_written old new name reason lost
-    → IsOne old new (failure_value name reason ∷ []) (told_of (failure name reason)) lost
-failure-one old new name (Refused code) lost (gives, same) = given-one old new _ [] lost gives (none-same old.errors new.errors same)
-failure-one old new name (Unchecked why) lost gives = unchecked-one old new name (reason_of why) lost gives
-
 no_part : (state : SarifState) → [] ≡ part_text state []
 unfolding part_text
 no_part state = refl
@@ -110,11 +103,15 @@ none_after state = refl
 
 -- ---- things that are handed on
 
+abbrev form : Bool → Form Sarif
+form reasons = record { reasons = reasons; writes = telling_written }
+
 module _ (reasons : Bool) where
-  one : (old new : Formatting Sarif) (handed : Handed) (lost : Option Lost) → FormattedTakes reasons telling_written old new handed lost
+  one : (old new : Formatting Sarif) (handed : Handed) (lost : Option Lost) → FormattedTakes (form reasons) old new handed lost
       → IsOne old new (values_of reasons handed) (told_of handed) lost
   one old new (line name font waivers fault) lost (gives, same) = given-one old new _ [] lost gives (none-same old.errors new.errors same)
-  one old new (failure name reason) lost gives = failure-one old new name reason lost gives
+  one old new (failure name (Refused code)) lost (gives, same) = given-one old new _ [] lost gives (none-same old.errors new.errors same)
+  one old new (failure name (Unchecked why)) lost gives = unchecked-one old new name (reason_of why) lost gives
   one old new (done name found) None (formatter, flushed, same) = (
     subst (Appends old.out.written new.out.written) (no_part (sarif_state old.formatter)) (kept old.out.written new.out.written flushed.bytes),
     ap sarif_state formatter ∙ none_after (sarif_state old.formatter),
@@ -151,7 +148,7 @@ module _ (reasons : Bool) where
         failed,
       )
 
-  written : (old new : Formatting Sarif) (handed : List Handed) (lost : Option Lost) → HandsOn (FormattedTakes reasons telling_written) old new handed lost
+  written : (old new : Formatting Sarif) (handed : List Handed) (lost : Option Lost) → HandsOn (FormattedTakes (form reasons)) old new handed lost
       → IsDocumentOf reasons old new handed lost
   written old new [] lost (same, none) =
       subst (IsDocumentOf reasons old new []) (sym none)
@@ -174,16 +171,16 @@ module _ (reasons : Bool) where
 
 module _ {F : Type 0} (told_with : F → Bool) (view : F → Formatting Sarif) where
   abbrev takes : F → F → Handed → Option Lost → Type 0
-  takes old new handed lost = (told_with new ≡ told_with old) × FormattedTakes (told_with old) telling_written (view old) (view new) handed lost
+  takes old new handed lost = (told_with new ≡ told_with old) × FormattedTakes (form (told_with old)) (view old) (view new) handed lost
 
   seen : (old new : F) (handed : List Handed) (lost : Option Lost) → HandsOn takes old new handed lost
-      → HandsOn (FormattedTakes (told_with old) telling_written) (view old) (view new) handed lost
+      → HandsOn (FormattedTakes (form (told_with old))) (view old) (view new) handed lost
   seen old new [] lost (same, none) = (ap view same, none)
   seen old new (handed ∷ more) lost (inl (next, (same, took), rest)) =
       inl (
         view next,
         took,
-        subst (λ (r : Bool). HandsOn (FormattedTakes r telling_written) (view next) (view new) more lost) same
+        subst (λ (r : Bool). HandsOn (FormattedTakes (form r)) (view next) (view new) more lost) same
             (seen next new more lost rest),
       )
   seen old new (handed ∷ more) lost (inr (reason, (same, took), is)) = inr (reason, took, is)

@@ -10,13 +10,12 @@ use Rattle.t1_many.specs.Handing.{Handed, HandsOn, done, failure, line}
 use Rattle.t1_many.specs.Plain.{IsLinePut, tellings, told_of}
 use Rattle.t1_many.specs.declared.policy.Lost.{Lost}
 use Rattle.t1_many.specs.declared.policy.Lost.TheVariants.{Device, Memory}
-use Rattle.t1_printers.specs.Formatting.{FormattedTakes, Formatting, Gives, GivesFailure, GivesUnchecked, given, no_memory, told, told_unchecked, untold}
+use Rattle.t1_printers.specs.Formatting.{Form, FormattedTakes, Formatting, Gives, GivesUnchecked, given, no_memory, told, told_unchecked, untold}
 use Rattle.t1_printers.specs.JsonLines.{AreObjects, object_text, object_written, objects}
 use Rattle.t1_printers.specs.declared.json_lines.JsonLines.{JsonLines}
 use Rattle.t1_summary.specs.declared.found.FontClass.{FontClass}
 use Rattle.t1_many.specs.FontErrors.{reason_of}
 use Rattle.t1_many.specs.Unchecked.{unchecked_line}
-use Rattle.t1_many.specs.declared.font_error.FontError.{FontError}
 use Rattle.t1_many.specs.declared.font_error.FontError.TheVariants.{Refused, Unchecked}
 
 -- ---- prefixes
@@ -66,6 +65,9 @@ cause lost out errors (inr failed) = inr (inl failed)
 
 -- ---- things that are handed on
 
+abbrev form : Bool → Form JsonLines
+form reasons = record { reasons = reasons; writes = object_written }
+
 module _ (reasons : Bool) where
   -- It was written and reported, or prefixes of it where it stopped.
   abbrev IsOne : Formatting JsonLines → Formatting JsonLines → Handed → Option Lost → Type 0
@@ -101,17 +103,14 @@ module _ (reasons : Bool) where
         inr (inr broke.failed),
       )
 
-  failure-one : (old new : Formatting JsonLines) (name : List ℕ) (reason : FontError) (lost : Option Lost)
-      → GivesFailure object_written old new name reason lost → IsOne old new (failure name reason) lost
-  failure-one old new name (Refused code) lost (gives, same) =
-      one-of old new (failure name (Refused code)) _ [] lost (out-given old new _ lost gives) (none-same old.errors new.errors same) refl refl
-  failure-one old new name (Unchecked why) lost gives = unchecked-one old new (failure name (Unchecked why)) name (reason_of why) lost gives refl refl
-
-  one : (old new : Formatting JsonLines) (handed : Handed) (lost : Option Lost) → FormattedTakes reasons object_written old new handed lost
+  one : (old new : Formatting JsonLines) (handed : Handed) (lost : Option Lost) → FormattedTakes (form reasons) old new handed lost
       → IsOne old new handed lost
   one old new (line name font waivers fault) lost (gives, same) =
       one-of old new (line name font waivers fault) _ [] lost (out-given old new _ lost gives) (none-same old.errors new.errors same) refl refl
-  one old new (failure name reason) lost gives = failure-one old new name reason lost gives
+  one old new (failure name (Refused code)) lost (gives, same) =
+      one-of old new (failure name (Refused code)) _ [] lost (out-given old new _ lost gives) (none-same old.errors new.errors same) refl refl
+  one old new (failure name (Unchecked why)) lost gives =
+      unchecked-one old new (failure name (Unchecked why)) name (reason_of why) lost gives refl refl
   one old new (done name found) None (formatter, flushed, same) =
       (kept old.out.written new.out.written flushed.bytes, none-same old.errors new.errors same)
   one old new (done name found) (Some Device) (formatter, broke, same) = (
@@ -133,7 +132,7 @@ module _ (reasons : Bool) where
     failed,
   )
 
-  pub written : (old new : Formatting JsonLines) (handed : List Handed) (lost : Option Lost) → HandsOn (FormattedTakes reasons object_written) old new handed lost
+  pub written : (old new : Formatting JsonLines) (handed : List Handed) (lost : Option Lost) → HandsOn (FormattedTakes (form reasons)) old new handed lost
       → AreObjects reasons old new handed lost
   written old new [] lost (same, none) =
       subst (AreObjects reasons old new []) (sym none)
@@ -149,7 +148,7 @@ module _ (reasons : Bool) where
       )
 
   flushed : (old new : Formatting JsonLines) (handed : List Handed) (name : List ℕ) (found : FontClass)
-      → HandsOn (FormattedTakes reasons object_written) old new (handed ++ done name found ∷ []) None → new.out.flushed ≡ true
+      → HandsOn (FormattedTakes (form reasons)) old new (handed ++ done name found ∷ []) None → new.out.flushed ≡ true
   flushed old new [] name found (inl (next, (formatter, flush, errors), (same, none))) =
       subst (λ (d : Formatting JsonLines). d.out.flushed ≡ true) (sym same) flush.waits
   flushed old new [] name found (inr (reason, took, is)) = absurd (none-some reason is)
@@ -160,16 +159,16 @@ module _ (reasons : Bool) where
 
 module _ {F : Type 0} (told_with : F → Bool) (view : F → Formatting JsonLines) where
   abbrev takes : F → F → Handed → Option Lost → Type 0
-  takes old new handed lost = (told_with new ≡ told_with old) × FormattedTakes (told_with old) object_written (view old) (view new) handed lost
+  takes old new handed lost = (told_with new ≡ told_with old) × FormattedTakes (form (told_with old)) (view old) (view new) handed lost
 
   seen : (old new : F) (handed : List Handed) (lost : Option Lost) → HandsOn takes old new handed lost
-      → HandsOn (FormattedTakes (told_with old) object_written) (view old) (view new) handed lost
+      → HandsOn (FormattedTakes (form (told_with old))) (view old) (view new) handed lost
   seen old new [] lost (same, none) = (ap view same, none)
   seen old new (handed ∷ more) lost (inl (next, (same, took), rest)) =
       inl (
         view next,
         took,
-        subst (λ (r : Bool). HandsOn (FormattedTakes r object_written) (view next) (view new) more lost) same
+        subst (λ (r : Bool). HandsOn (FormattedTakes (form r)) (view next) (view new) more lost) same
             (seen next new more lost rest),
       )
   seen old new (handed ∷ more) lost (inr (reason, (same, took), is)) = inr (reason, took, is)

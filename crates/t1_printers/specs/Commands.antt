@@ -2,8 +2,8 @@
 use Rattle.std.specs.Prelude.{ℕ, Bool, List, [], ◌∷◌, ◌++◌, codes, Option, None, Some}
 use Rattle.t1_forms.specs.Commands.{command_of, rule_command}
 use Rattle.t1_forms.specs.Tellings.{ToldValue, of_line, of_unchecked, what_spelled}
+use Rattle.t1_printers.specs.Formatting.{Output}
 use Rattle.t1_printers.specs.GroupLines.{Writing, rule_head, rule_tail, rule_tail_of}
-use Rattle.t1_io.specs.Devices.{SinkState}
 use Rattle.t1_lines.specs.Lines.{of_refusal, spelled}
 use Rattle.t1_many.specs.Plain.{IsPut}
 use Rattle.t1_many.specs.declared.policy.Lost.{Lost}
@@ -48,5 +48,5 @@ command_line_of name rule count names reason =
     group_command name rule (group_message rule (rule_tail_of message_room rule count names) reason)
 
 -- The command of what is reported was put.
-abbrev pub command_written : {T : Type 0} → T → T → SinkState → SinkState → ToldValue → Option Lost → Type 0
-command_written formatter after old new told lost = IsPut old new (command_of told (what_spelled told.what)) lost
+abbrev pub command_written : {T : Type 0} → Output T → Output T → ToldValue → Option Lost → Type 0
+command_written old new told lost = IsPut old.out new.out (command_of told (what_spelled told.what)) lost

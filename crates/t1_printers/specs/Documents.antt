@@ -11,7 +11,7 @@ use Rattle.t1_many.specs.Handing.{Handed, done, failure, line}
 use Rattle.t1_many.specs.Plain.{IsLinePut, tellings}
 use Rattle.t1_many.specs.declared.policy.Lost.{Lost}
 use Rattle.t1_many.specs.declared.policy.Lost.TheVariants.{Memory}
-use Rattle.t1_printers.specs.Formatting.{Formatting, told_fault, told_refusal, told_unchecked}
+use Rattle.t1_printers.specs.Formatting.{Formatting, Output, told_fault, told_refusal, told_unchecked}
 use Rattle.t1_many.specs.FontErrors.{reason_of}
 use Rattle.t1_many.specs.declared.font_error.FontError.{FontError}
 use Rattle.t1_many.specs.declared.font_error.FontError.TheVariants.{Refused, Unchecked}
@@ -22,10 +22,10 @@ IsKept now state None = now ≡ state
 IsKept now state (Some lost) = Unit {0}
 
 -- What a document has of what is reported was put, and is kept.
-abbrev pub telling_written : Sarif → Sarif → SinkState → SinkState → ToldValue → Option Lost → Type 0
-telling_written document after old new told lost =
-    IsLinePut old new (telling_text (sarif_state document) told (what_spelled told.what)) lost
-    × IsKept (sarif_state after) (after_telling (sarif_state document) told (what_spelled told.what)) lost
+abbrev pub telling_written : Output Sarif → Output Sarif → ToldValue → Option Lost → Type 0
+telling_written old new told lost =
+    IsLinePut old.out new.out (telling_text (sarif_state old.formatter) told (what_spelled told.what)) lost
+    × IsKept (sarif_state new.formatter) (after_telling (sarif_state old.formatter) told (what_spelled told.what)) lost
 
 -- What ends it was put.
 abbrev pub end_written : Sarif → SinkState → SinkState → Option Lost → Type 0

@@ -15,7 +15,6 @@ use Rattle.t1_report.specs.Faults.{FaultValue}
 use Rattle.t1_report.specs.Waivers.{Waiver}
 use Rattle.t1_many.specs.FontErrors.{reason_of}
 use Rattle.t1_many.specs.Unchecked.{unchecked_line}
-use Rattle.t1_many.specs.declared.font_error.FontError.{FontError}
 use Rattle.t1_many.specs.declared.font_error.FontError.TheVariants.{Refused, Unchecked}
 
 -- Beside what is reported is its line, as it is spelled, where lines are shown.
@@ -38,20 +37,28 @@ told_unchecked name reason = record { font = Some name; what = of_unchecked reas
 
 -- ---- what is given
 
--- A formatter, and the devices that it has.
+-- A formatter, and the output that it writes on.
+pub record Output (T : Type 0) : Type 0 where
+  pub formatter : T
+  pub out : SinkState
+
+-- The same with standard error.
 pub record Formatting (T : Type 0) : Type 0 where
   pub formatter : T
   pub out : SinkState
   pub errors : SinkState
 
+abbrev pub output_of : {T : Type 0} → Formatting T → Output T
+output_of f = record { formatter = f.formatter; out = f.out }
+
 -- This was given to the formatter, which took it or stopped; or memory ran out before.
-pub data Gives {T : Type 0} (writes : T → T → SinkState → SinkState → ToldValue → Option Lost → Type 0) (old new : Formatting T)
-    (told : ToldValue) (lost : Option Lost) : Type 0 where
-  given : writes old.formatter new.formatter old.out new.out told lost → Gives writes old new told lost
+pub data Gives {T : Type 0} (writes : Output T → Output T → ToldValue → Option Lost → Type 0) (old new : Formatting T) (told : ToldValue)
+    (lost : Option Lost) : Type 0 where
+  given : writes (output_of old) (output_of new) told lost → Gives writes old new told lost
   no_memory : lost ≡ Some Memory → new.formatter ≡ old.formatter → new.out ≡ old.out → Gives writes old new told lost
 
 -- That a font wasn't checked was printed on standard error, and then given; or standard error failed.
-pub data GivesUnchecked {T : Type 0} (writes : T → T → SinkState → SinkState → ToldValue → Option Lost → Type 0) (old new : Formatting T)
+pub data GivesUnchecked {T : Type 0} (writes : Output T → Output T → ToldValue → Option Lost → Type 0) (old new : Formatting T)
     (name reason : List ℕ) (lost : Option Lost) : Type 0 where
   told :
       Wrote old.errors new.errors (unchecked_line name reason) → Gives writes old new (told_unchecked name reason) lost
@@ -60,18 +67,17 @@ pub data GivesUnchecked {T : Type 0} (writes : T → T → SinkState → SinkSta
       PutFailed old.errors new.errors (unchecked_line name reason) → new.formatter ≡ old.formatter → new.out ≡ old.out
       → lost ≡ Some Device → GivesUnchecked writes old new name reason lost
 
--- Why there is no report was given.
-abbrev pub GivesFailure : {T : Type 0} → (T → T → SinkState → SinkState → ToldValue → Option Lost → Type 0) → Formatting T → Formatting T
-    → List ℕ → FontError → Option Lost → Type 0
-GivesFailure writes old new name (Refused code) lost =
-    Gives writes old new (told_refusal name code) lost × (new.errors ≡ old.errors)
-GivesFailure writes old new name (Unchecked why) lost = GivesUnchecked writes old new name (reason_of why) lost
+-- A form of a formatter, with reasons or without, and what the formatter writes of a thing.
+pub record Form (T : Type 0) : Type 1 where
+  pub reasons : Bool
+  pub writes : Output T → Output T → ToldValue → Option Lost → Type 0
 
 -- One thing that is handed on. The output is flushed after each font.
-abbrev pub FormattedTakes : {T : Type 0} → Bool → (T → T → SinkState → SinkState → ToldValue → Option Lost → Type 0) → Formatting T
-    → Formatting T → Handed → Option Lost → Type 0
-FormattedTakes reasons writes old new (line name font waivers fault) lost =
-    Gives writes old new (told_fault reasons name font waivers fault) lost × (new.errors ≡ old.errors)
-FormattedTakes reasons writes old new (failure name reason) lost = GivesFailure writes old new name reason lost
-FormattedTakes reasons writes old new (done name found) lost =
+abbrev pub FormattedTakes : {T : Type 0} → Form T → Formatting T → Formatting T → Handed → Option Lost → Type 0
+FormattedTakes form old new (line name font waivers fault) lost =
+    Gives form.writes old new (told_fault form.reasons name font waivers fault) lost × (new.errors ≡ old.errors)
+FormattedTakes form old new (failure name (Refused code)) lost =
+    Gives form.writes old new (told_refusal name code) lost × (new.errors ≡ old.errors)
+FormattedTakes form old new (failure name (Unchecked why)) lost = GivesUnchecked form.writes old new name (reason_of why) lost
+FormattedTakes form old new (done name found) lost =
     (new.formatter ≡ old.formatter) × IsFlushed old.out new.out lost × (new.errors ≡ old.errors)

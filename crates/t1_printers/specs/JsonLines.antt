@@ -4,19 +4,19 @@ use Rattle.std.specs.Io.KnownBytes.{Appends}
 use Rattle.std.specs.List.{flat_map}
 use Rattle.t1_forms.specs.Objects.{object_line}
 use Rattle.t1_forms.specs.Tellings.{ToldValue}
-use Rattle.t1_io.specs.Devices.{AppendsFront, SinkState}
+use Rattle.t1_io.specs.Devices.{AppendsFront}
 use Rattle.t1_many.specs.Handing.{Handed, done, failure, line}
 use Rattle.t1_many.specs.Plain.{IsLinePut, tellings}
 use Rattle.t1_many.specs.declared.policy.Lost.{Lost}
 use Rattle.t1_many.specs.declared.policy.Lost.TheVariants.{Memory}
-use Rattle.t1_printers.specs.Formatting.{Formatting, told_fault, told_refusal, told_unchecked}
+use Rattle.t1_printers.specs.Formatting.{Formatting, Output, told_fault, told_refusal, told_unchecked}
 use Rattle.t1_many.specs.FontErrors.{reason_of}
 use Rattle.t1_many.specs.declared.font_error.FontError.{FontError}
 use Rattle.t1_many.specs.declared.font_error.FontError.TheVariants.{Refused, Unchecked}
 
 -- The object of what is reported was put.
-abbrev pub object_written : {T : Type 0} → T → T → SinkState → SinkState → ToldValue → Option Lost → Type 0
-object_written formatter after old new told lost = IsLinePut old new (object_line told) lost
+abbrev pub object_written : {T : Type 0} → Output T → Output T → ToldValue → Option Lost → Type 0
+object_written old new told lost = IsLinePut old.out new.out (object_line told) lost
 
 -- The object of why there is no report.
 abbrev pub failure_object : List ℕ → FontError → List ℕ

@@ -87,7 +87,7 @@ impl<T: Formatter, W: Sink, E: Sink> Formatted<T, W, E> {
 
     /// Gives a refusal to the formatter.
     fn refused(&mut self, name: &str, code: RefusalCode) -> Result<(), Lost>
-        ensures given { FormattedTakes self.old.reasons T.writes
+        ensures given { FormattedTakes (record { reasons = self.old.reasons; writes = T.writes })
             (record { formatter = self.old.formatter; out = W.state self.old.out; errors = E.state self.old.errors })
             (record { formatter = self.new.formatter; out = W.state self.new.out; errors = E.state self.new.errors })
             (failure name.now (Refused code)) (lost_of result) }
@@ -111,7 +111,7 @@ impl<T: Formatter, W: Sink, E: Sink> Formatted<T, W, E> {
 impl<T: Formatter, W: Sink, E: Sink> Printer for Formatted<T, W, E> {
     ghost use Rattle.t1_many.specs.declared.policy.Lost.{Lost};
 
-    ghost takes = { λ old new handed lost. (new.reasons ≡ old.reasons) × FormattedTakes old.reasons T.writes
+    ghost takes = { λ old new handed lost. (new.reasons ≡ old.reasons) × FormattedTakes (record { reasons = old.reasons; writes = T.writes })
         (record { formatter = old.formatter; out = W.state old.out; errors = E.state old.errors })
         (record { formatter = new.formatter; out = W.state new.out; errors = E.state new.errors }) handed lost };
 

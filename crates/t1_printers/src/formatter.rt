@@ -5,7 +5,7 @@ ghost use Rattle.t1_forms.specs.Tellings.{ToldValue, told_value};
 ghost use Rattle.t1_io.specs.Devices.{SinkState};
 ghost use Rattle.t1_many.specs.Handing.{lost_of};
 ghost use Rattle.t1_many.specs.declared.policy.Lost.{Lost};
-ghost use Rattle.t1_printers.specs.Formatting.{HasItsLine};
+ghost use Rattle.t1_printers.specs.Formatting.{HasItsLine, Output};
 ghost use Rattle.t1_printers.specs.Private.Errors.{lost_by};
 
 use std::alloc::Global;
@@ -19,7 +19,7 @@ pub trait Formatter {
     ghost has_lines: { Bool };
 
     // It wrote on a device what is reported, or stopped for a reason.
-    ghost writes: { Self → Self → SinkState → SinkState → ToldValue → Option Lost → Type 0 };
+    ghost writes: { Output Self → Output Self → ToldValue → Option Lost → Type 0 };
 
     // It wrote what is after all else, or stopped.
     ghost finishes: { Self → SinkState → SinkState → Option Lost → Type 0 };
@@ -31,7 +31,8 @@ pub trait Formatter {
     /// Writes what is reported of a font.
     fn write<W: Sink>(&mut self, alloc: Global, sink: &mut W, told: &Told<'_>) -> Result<(), Lost>
         requires { HasItsLine has_lines told.now }
-        ensures { writes self.old self.new (W.state sink.old) (W.state sink.new) (told_value told.now) (lost_of result) };
+        ensures { writes (record { formatter = self.old; out = W.state sink.old }) (record { formatter = self.new; out = W.state sink.new })
+            (told_value told.now) (lost_of result) };
 
     /// Writes what is after all else, as the end of a document.
     fn finish<W: Sink>(self, alloc: Global, sink: &mut W) -> Result<(), Lost>

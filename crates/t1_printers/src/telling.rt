@@ -21,7 +21,7 @@ pub fn give<'a, T: Formatter, W: Sink>(
     reason: Option<ToldReason<'a>>,
 ) -> Result<(), Lost>
     requires { T.has_lines ≡ true → line.now ≡ what_spelled (what_value what) }
-    ensures { T.writes formatter.old formatter.new (W.state out.old) (W.state out.new)
+    ensures { T.writes (record { formatter = formatter.old; out = W.state out.old }) (record { formatter = formatter.new; out = W.state out.new })
         (record { font = Some font.now; what = what_value what.entry; reason = option_map reason_value reason.entry }) (lost_of result) }
 {
     let told = Told {

@@ -5,5 +5,6 @@ use Rattle.t1_answer_all.proofs.unlisted.give_times.Given as goal
 
 abbrev pub invariant-loop-time : goal.invariant-loop-time
 invariant-loop-time g l =
-    GivesEach g.T.Formatter.writes l.fn.formatter l.formatter (g.W.Sink.state l.fn.out) (g.W.Sink.state l.out)
+    GivesEach g.T.Formatter.writes (record { formatter = l.fn.formatter; out = g.W.Sink.state l.fn.out })
+    (record { formatter = l.formatter; out = g.W.Sink.state l.out })
     (replicate l._time (told_value l.fn.told)) None

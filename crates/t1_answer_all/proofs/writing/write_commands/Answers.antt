@@ -10,11 +10,10 @@ returns-in-Err g c =
 
 pub returns-in-Ok : goal.returns-in-Ok
 returns-in-Ok g c =
-    written _ c.give_unlisted.new.formatter (g.W.Sink.state c.give_unlisted.new.out) (g.W.Sink.state c.flush.new.self) c.in_default.ensures
-    c.in-Ok.ensures.flushes c.write_groups.ensures
+    written _ _ c.in_default.ensures (g.W.Sink.state c.flush.new.self) c.in-Ok.ensures.flushes c.write_groups.ensures
 
 pub returns-in-Err-flush : goal.returns-in-Err-flush
 returns-in-Err-flush g c =
-    unflushed _ c.give_unlisted.new.formatter (g.W.Sink.state c.give_unlisted.new.out) c.in_default.ensures Device
+    unflushed _ _ c.in_default.ensures Device
     (rw c.unwritten-in-Err-flush.ensures.out c.in-Err-flush.ensures.flushes.0) (ap g.E.Sink.state c.unwritten-in-Err-flush.ensures.errors)
     refl c.unwritten-in-Err-flush.ensures.status
