@@ -7,12 +7,12 @@ use Rattle.t1_answer_all.specs.Writing.{FinishesChecked, WritesFormatted}
 use Rattle.t1_answer_all.specs.Writing.WritesFormatted.{stopped, unfinished, written}
 use Rattle.t1_answer_all.specs.declared.findings.Findings.{Findings}
 use Rattle.t1_io.specs.Devices.{SinkState}
-use Rattle.t1_many.specs.Plain.{Devices}
 use Rattle.t1_many.specs.declared.policy.Lost.{Lost}
 use Rattle.t1_printers.specs.Formatting.{Form, FormattedTakes, Formatting, output_of}
+use Rattle.t1_run.specs.Opening.{Sinks}
 use Rattle.t1_run.specs.declared.status.Status.{Status}
 
-module _ {T : Type 0} (form : Form T) (Finishes : T → SinkState → SinkState → Option Lost → Type 0) (run : Run) (old : Formatting T) (new : Devices)
+module _ {T : Type 0} (form : Form T) (Finishes : T → SinkState → SinkState → Option Lost → Type 0) (run : Run) (old : Formatting T) (new : Sinks)
     (found : Findings) (begun ended : Formatting T)
     (given : GivesEach form.writes (output_of old) (output_of begun) run.plan.unlisted None) (errors_are : begun.errors ≡ old.errors)
     (left_are : new.errors ≡ ended.errors) where

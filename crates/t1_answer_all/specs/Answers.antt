@@ -1,10 +1,10 @@
 -- What is answered to the words of the command line, and which files are replaced.
 use Rattle.std.specs.Prelude.{◌≡◌, ℕ, List}
 use Rattle.t1_forms.specs.PageValues.{PageValue}
-use Rattle.t1_many.specs.Plain.{Devices}
 use Rattle.t1_options.specs.Words.{IsRefused, IsTaken}
 use Rattle.t1_options.specs.declared.asked.Options.{Options}
 use Rattle.t1_options.specs.declared.asked.Request.TheVariants.{Check, Version}
+use Rattle.t1_run.specs.Opening.{Sinks}
 use Rattle.t1_run.specs.Telling.{Explains, Gives}
 use Rattle.t1_run.specs.declared.status.Status.{Status}
 use Rattle.t1_run.specs.declared.status.Status.TheVariants.{Clean}
@@ -16,14 +16,6 @@ use Rattle.t1_answer_all.specs.Plans.{AskedValue}
 use Rattle.t1_answer_all.specs.Runs.{LeftValue, program}
 use Rattle.t1_answer_all.specs.Stores.{Change, Store, fonts_of, replacing_of}
 use Rattle.t1_options.specs.Settings.Finding.{Files as SettingsFiles}
-
--- Why words request nothing is printed, or help is given.
-abbrev pub StopsEarly : UsageError → Devices → Devices → Status → Type 0
-StopsEarly error old new status = Explains program error old.out new.out old.errors new.errors status
-
--- The version is given.
-abbrev pub GivesVersion : List ℕ → Devices → Devices → Status → Type 0
-GivesVersion version old new status = Gives program version Clean old.out new.out old.errors new.errors status
 
 -- What an answer is made from: the texts of help and of the version, the pages of a document of SARIF, settings, the file of known faults, and lists.
 pub record Givens : Type 1 where
@@ -37,7 +29,7 @@ pub record Givens : Type 1 where
 -- The fonts that the options name are listed and checked, or why not is printed; then the files are replaced that are left to be.
 pub record Checks {F : Type 0} (known : Texts) (lists : ListsGiven) (store : Store F) (asked : AskedValue) (c : Change F) (status : Status) : Type 0 where
   pub between : F
-  pub behind : Devices
+  pub behind : Sinks
   pub left : LeftValue
   pub checks :
       ChecksBy known lists (fonts_of store) asked (record { files = c.files; files' = between; old = c.old; new = behind }) left
@@ -50,10 +42,10 @@ pub record Checks {F : Type 0} (known : Texts) (lists : ListsGiven) (store : Sto
 -- document of SARIF has the pages that are given. Where nothing is checked no file is opened or replaced.
 pub data Answers {F : Type 0} (given : Givens) (words : List (List ℕ)) (store : Store F) (c : Change F) (status : Status) : Type 0 where
   explained :
-      (error : UsageError) → IsRefused given.help given.settings words error → StopsEarly error c.old c.new status → c.files' ≡ c.files
+      (error : UsageError) → IsRefused given.help given.settings words error → Explains program error c.old c.new status → c.files' ≡ c.files
       → Answers given words store c status
   gives_version :
-      IsTaken given.settings words Version → GivesVersion given.version c.old c.new status → c.files' ≡ c.files
+      IsTaken given.settings words Version → Gives program given.version Clean c.old c.new status → c.files' ≡ c.files
       → Answers given words store c status
   checks :
       (options : Options) → IsTaken given.settings words (Check options)

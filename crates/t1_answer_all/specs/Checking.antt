@@ -5,7 +5,7 @@ use Rattle.t1_known.specs.Reads.{IsReadAs}
 use Rattle.t1_many.specs.Calls.{Calls}
 use Rattle.t1_many.specs.Files.{files_by}
 use Rattle.t1_many.specs.KnownFaults.{RowValue}
-use Rattle.t1_many.specs.Plain.{Devices}
+use Rattle.t1_run.specs.Opening.{Sinks}
 use Rattle.t1_run.specs.Telling.{Explains}
 use Rattle.t1_run.specs.declared.status.Status.{Status}
 use Rattle.t1_run.specs.declared.usage.UsageError.{UsageError}
@@ -19,9 +19,9 @@ use Rattle.t1_answer_all.specs.Telling.{IsTold, unlisted_text}
 use Rattle.t1_answer_all.specs.Usage.{IsToldSo}
 
 -- Nothing was checked: this is printed, and nothing is left to do.
-pub record Stops (error : UsageError) (old new : Devices) (left : LeftValue) : Type 0 where
+pub record Stops (error : UsageError) (old new : Sinks) (left : LeftValue) : Type 0 where
   pub status : Status
-  pub explains : Explains program error old.out new.out old.errors new.errors status
+  pub explains : Explains program error old new status
   pub left_is : left ≡ nothing_left status
 
 -- The files know how many fonts are checked from now on, if they are to.

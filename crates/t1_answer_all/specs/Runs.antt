@@ -9,10 +9,10 @@ use Rattle.t1_answer_all.specs.declared.ending.Ended.{Ended}
 use Rattle.t1_answer_all.specs.declared.running.Left.{Left}
 use Rattle.t1_io.specs.Devices.{SinkState}
 use Rattle.t1_many.specs.KnownFaults.{Reading}
-use Rattle.t1_many.specs.Plain.{Devices}
 use Rattle.t1_many.specs.declared.policy.Lost.{Lost}
 use Rattle.t1_many.specs.declared.policy.Lost.TheVariants.{Device, Memory}
 use Rattle.t1_run.specs.Failures.{out_of_memory_line, write_failed_line}
+use Rattle.t1_run.specs.Opening.{Sinks}
 use Rattle.t1_run.specs.Telling.{Tells}
 use Rattle.t1_run.specs.declared.status.Status.{Status}
 use Rattle.t1_run.specs.declared.status.Status.TheVariants.{Failed}
@@ -62,11 +62,11 @@ ConcludesWritten plan found (Err lost) old new left =
     (status : Status) × Tells (lost_line lost) Failed old new status × (left ≡ nothing_left status)
 
 -- What is chosen of the fonts was written, and all was printed. Or it stopped while that was written, which is printed, and nothing is left.
-pub data Runs (run : Run) (old new : Devices) (left : LeftValue) : Type 0 where
+pub data Runs (run : Run) (old new : Sinks) (left : LeftValue) : Type 0 where
   concluded :
-      (behind : Devices) → (found : Findings) → (status : Status) → WritesIn run old behind (record { found = found; status = Ok status })
+      (behind : Sinks) → (found : Findings) → (status : Status) → WritesIn run old behind (record { found = found; status = Ok status })
       → Concludes run.plan found behind.errors new.errors left → new.out ≡ behind.out → Runs run old new left
   stopped :
-      (behind : Devices) → (found : Findings) → (lost : Lost) → WritesIn run old behind (record { found = found; status = Err lost })
+      (behind : Sinks) → (found : Findings) → (lost : Lost) → WritesIn run old behind (record { found = found; status = Err lost })
       → (status : Status) → Tells (lost_line lost) Failed behind.errors new.errors status → new.out ≡ behind.out → left ≡ nothing_left status
       → Runs run old new left

@@ -2,7 +2,7 @@
 use Rattle.std.specs.Prelude.{◌≡◌, ℕ, Bool, List, Option}
 use Rattle.t1_io.specs.Devices.{SinkState}
 use Rattle.t1_many.specs.Calls.{Calls}
-use Rattle.t1_many.specs.Plain.{Devices}
+use Rattle.t1_run.specs.Opening.{Sinks}
 use Rattle.t1_names.specs.declared.causes.Cause.{Cause}
 
 -- What the calls do to the files: those that open fonts, one that says how many fonts there are, and those that replace files.
@@ -32,8 +32,8 @@ replacing_of store = record { Puts = store.Puts; Has = store.Has }
 pub record Change (F : Type 0) : Type 0 where
   pub files : F
   pub files' : F
-  pub old : Devices
-  pub new : Devices
+  pub old : Sinks
+  pub new : Sinks
 
 -- The files and standard error before and after.
 pub record Putting (F : Type 0) : Type 0 where

@@ -18,7 +18,7 @@ use Rattle.t1_printers.specs.Terminals.{terminal_writing}
 use Rattle.t1_io.specs.Devices.{SinkState, Wrote}
 use Rattle.t1_many.specs.Files.{AreUntouched}
 use Rattle.t1_many.specs.Handing.{lost_of}
-use Rattle.t1_many.specs.Plain.{Devices, IsFlushed, IsLinePut, PlainTakes}
+use Rattle.t1_many.specs.Plain.{IsFlushed, IsLinePut, PlainTakes}
 use Rattle.t1_many.specs.declared.policy.Lost.{Lost}
 use Rattle.t1_many.specs.declared.policy.Lost.TheVariants.{Device, Memory}
 use Rattle.t1_printers.specs.Documents.{end_written, telling_written}
@@ -26,10 +26,11 @@ use Rattle.t1_printers.specs.Formatting.{Form, FormattedTakes, Formatting, Outpu
 use Rattle.t1_printers.specs.JsonLines.{object_written}
 use Rattle.t1_printers.specs.declared.github.GitHubCommands.{GitHubCommands as Commands}
 use Rattle.t1_printers.specs.declared.json_lines.JsonLines.{JsonLines as Objects}
+use Rattle.t1_run.specs.Opening.{Sinks}
 use Rattle.t1_run.specs.declared.status.Status.{Status}
 
 -- As `NAME: LINE`.
-abbrev pub WritesPlain : Bool → Run → Devices → Devices → Checked → Type 0
+abbrev pub WritesPlain : Bool → Run → Sinks → Sinks → Checked → Type 0
 WritesPlain reasons run old new checked = ChecksFonts (PlainTakes reasons) run old new (IsFound run.plan checked.found) checked.status
 
 -- What comes after all else was written, and all was flushed; or that failed.
@@ -44,7 +45,7 @@ FinishesChecked Finishes old new (Err lost) result = (new ≡ old) × (result �
 
 -- A formatter was given what couldn't be listed, then what is chosen of the fonts, and then it finished. Or it stopped at one of these.
 pub data WritesFormatted {T : Type 0} (form : Form T) (Finishes : T → SinkState → SinkState → Option Lost → Type 0) (run : Run) (old : Formatting T)
-    (new : Devices) (checked : Checked) : Type 0 where
+    (new : Sinks) (checked : Checked) : Type 0 where
   written :
       (begun ended : Formatting T) → GivesEach form.writes (output_of old) (output_of begun) run.plan.unlisted None
       → begun.errors ≡ old.errors → (status : Status)
@@ -76,7 +77,7 @@ lost_by errors.Memory = Memory
 lost_by errors.Broken = Device
 
 -- A document of SARIF was begun, and then written; or it couldn't be begun.
-pub data WritesDocument (reasons : Bool) (pages : PagesValue) (run : Run) (old new : Devices) (checked : Checked) : Type 0 where
+pub data WritesDocument (reasons : Bool) (pages : PagesValue) (run : Run) (old new : Sinks) (checked : Checked) : Type 0 where
   begun :
       (document : Document) → (behind : SinkState) → Wrote old.out behind (opening pages) → sarif_state document ≡ no_line_of pages
       → WritesFormatted (record { reasons = reasons; writes = telling_written }) end_written run
@@ -87,14 +88,14 @@ pub data WritesDocument (reasons : Bool) (pages : PagesValue) (run : Run) (old n
       → checked.status ≡ Err lost → WritesDocument reasons pages run old new checked
 
 -- What is chosen of the fonts was handed on to a form of groups, which had none at first.
-abbrev pub WritesGroups : Writing → Run → Devices → Devices → Checked → Type 0
+abbrev pub WritesGroups : Writing → Run → Sinks → Sinks → Checked → Type 0
 WritesGroups writing run old new checked =
     (left : List GroupValue)
     × ChecksFonts (GroupedTakes writing) run (record { out = old.out; errors = old.errors; groups = no_groups writing.room })
     (record { out = new.out; errors = new.errors; groups = left }) (IsFound run.plan checked.found) checked.status
 
 -- Commands were written of what couldn't be listed, and flushed; then groups of the fonts; or it stopped at one of these.
-pub data WritesCommands (reasons : Bool) (run : Run) (old new : Devices) (checked : Checked) : Type 0 where
+pub data WritesCommands (reasons : Bool) (run : Run) (old new : Sinks) (checked : Checked) : Type 0 where
   written :
       (formatter : Commands) → (begun : Output Commands)
       → GivesEach command_written (record { formatter = formatter; out = old.out }) begun run.plan.unlisted None
@@ -112,7 +113,7 @@ pub data WritesCommands (reasons : Bool) (run : Run) (old new : Devices) (checke
       → new.errors ≡ old.errors → AreUntouched run.files → checked.status ≡ Err lost → WritesCommands reasons run old new checked
 
 -- What is written in this layout.
-abbrev pub WritesBy : LayoutValue → Run → Devices → Devices → Checked → Type 0
+abbrev pub WritesBy : LayoutValue → Run → Sinks → Sinks → Checked → Type 0
 WritesBy (lines reasons) run old new checked = WritesPlain reasons run old new checked
 WritesBy (groups terminal) run old new checked =
     WritesGroups (terminal_writing terminal.width terminal.has_colours terminal.reasons) run old new checked
@@ -123,5 +124,5 @@ WritesBy (json_lines reasons) run old new checked =
 WritesBy (sarif pages reasons) run old new checked = WritesDocument reasons pages run old new checked
 WritesBy (commands reasons) run old new checked = WritesCommands reasons run old new checked
 
-abbrev pub WritesIn : Run → Devices → Devices → Checked → Type 0
+abbrev pub WritesIn : Run → Sinks → Sinks → Checked → Type 0
 WritesIn run = WritesBy run.plan.layout run

@@ -1,10 +1,13 @@
 //! From the words of the command line to lines, files and a status.
 
 ghost use Rattle.std.specs.Prelude.{map};
-ghost use Rattle.t1_answer_all.specs.Answers.{Answers, Checks, GivesVersion, StopsEarly};
+ghost use Rattle.t1_answer_all.specs.Answers.{Answers, Checks};
 ghost use Rattle.t1_answer_all.specs.Places.{known_by, lists_by};
 ghost use Rattle.t1_forms.specs.PageValues.{page_value};
 ghost use Rattle.t1_options.specs.Settings.Finding.{files_by};
+ghost use Rattle.t1_answer_all.specs.Runs.{program};
+ghost use Rattle.t1_run.specs.Telling.{Explains, Gives};
+ghost use Rattle.t1_run.specs.declared.status.Status.TheVariants.{Clean};
 
 use crate::checking::{check_by, stopped};
 use crate::plan::Asked;
@@ -111,7 +114,7 @@ fn explained<W: Sink + Drop, E: Sink + Drop>(
     out: W,
     errors: E,
 ) -> Answered<W, E>
-    ensures { StopsEarly error.now (record { out = W.state out; errors = E.state errors })
+    ensures { Explains program error.now (record { out = W.state out; errors = E.state errors })
         (record { out = W.state result.out; errors = E.state result.errors }) result.status }
 {
     let stopped = stopped(error, out, errors);
@@ -124,7 +127,7 @@ fn explained<W: Sink + Drop, E: Sink + Drop>(
 
 /// Gives the text of the version.
 fn give_version<W: Sink + Drop, E: Sink + Drop>(version: &[u8], out: W, errors: E) -> Answered<W, E>
-    ensures { GivesVersion version.now (record { out = W.state out; errors = E.state errors })
+    ensures { Gives program version.now Clean (record { out = W.state out; errors = E.state errors })
         (record { out = W.state result.out; errors = E.state result.errors }) result.status }
 {
     let mut out = out;

@@ -6,11 +6,12 @@ use Rattle.std.specs.Io.KnownBytes.{Appends, Keeps}
 use Rattle.t1_io.specs.Devices.{AppendsFront, SinkState}
 use Rattle.t1_many.specs.Handing.{Handed, done, failure, line}
 use Rattle.t1_many.specs.Laws.{PlainIsFlushed, PlainIsWritten}
-use Rattle.t1_many.specs.Plain.{Devices, IsLinePut, IsPut, IsWritten, PlainTakes, PutsFailure, tellings, text_of, texts, told_of}
+use Rattle.t1_many.specs.Plain.{IsLinePut, IsPut, IsWritten, PlainTakes, PutsFailure, tellings, text_of, texts, told_of}
 use Rattle.t1_many.specs.declared.policy.Lost.{Lost}
 use Rattle.t1_many.specs.declared.policy.Lost.TheVariants.{Device, Memory}
 use Rattle.t1_many.specs.declared.font_error.FontError.{FontError}
 use Rattle.t1_many.specs.declared.font_error.FontError.TheVariants.{Refused, Unchecked}
+use Rattle.t1_run.specs.Opening.{Sinks}
 
 -- ---- prefixes
 
@@ -36,27 +37,27 @@ none-same a b same = subst (λ (s : SinkState). Appends a.written s.written []) 
 -- ---- one thing
 
 -- It was printed.
-record IsOut (reasons : Bool) (old new : Devices) (handed : Handed) : Type 0 where
+record IsOut (reasons : Bool) (old new : Sinks) (handed : Handed) : Type 0 where
   pub out : Appends old.out.written new.out.written (text_of reasons handed)
   pub errors : Appends old.errors.written new.errors.written (told_of handed)
 
-failure_out : (reasons : Bool) (old new : Devices) (name : List ℕ) (reason : FontError) → PutsFailure old new name reason None → IsOut reasons old new (failure name reason)
+failure_out : (reasons : Bool) (old new : Sinks) (name : List ℕ) (reason : FontError) → PutsFailure old new name reason None → IsOut reasons old new (failure name reason)
 failure_out reasons old new name (Refused code) (put, same) = record { out = put.bytes; errors = none-same old.errors new.errors same }
 failure_out reasons old new name (Unchecked why) (same, put) = record { out = none-same old.out new.out same; errors = put.bytes }
 
-one_out : (reasons : Bool) (old new : Devices) (handed : Handed) → PlainTakes reasons old new handed None → IsOut reasons old new handed
+one_out : (reasons : Bool) (old new : Sinks) (handed : Handed) → PlainTakes reasons old new handed None → IsOut reasons old new handed
 one_out reasons old new (line name font waivers fault) (put, same) = record { out = put.bytes; errors = none-same old.errors new.errors same }
 one_out reasons old new (failure name reason) put = failure_out reasons old new name reason put
 one_out reasons old new (done name found) (flushed, same) =
     record { out = kept old.out.written new.out.written flushed.bytes; errors = none-same old.errors new.errors same }
 
 -- Or a device failed there, or memory ran out.
-record IsHalf (reasons : Bool) (old new : Devices) (handed : Handed) (lost : Lost) : Type 0 where
+record IsHalf (reasons : Bool) (old new : Sinks) (handed : Handed) (lost : Lost) : Type 0 where
   pub out : AppendsFront old.out.written new.out.written (text_of reasons handed)
   pub errors : AppendsFront old.errors.written new.errors.written (told_of handed)
   pub failed : (lost ≡ Memory) ⊎ (new.out.failed ≡ true) ⊎ (new.errors.failed ≡ true)
 
-out_half : (reasons : Bool) (old new : Devices) (handed : Handed) (text : List ℕ) (reason : Lost) → IsPut old.out new.out text (Some reason)
+out_half : (reasons : Bool) (old new : Sinks) (handed : Handed) (text : List ℕ) (reason : Lost) → IsPut old.out new.out text (Some reason)
     → new.errors ≡ old.errors → text_of reasons handed ≡ text → told_of handed ≡ [] → IsHalf reasons old new handed reason
 out_half reasons old new handed text Device broke same is none = record {
   out = subst (AppendsFront old.out.written new.out.written) (sym is) broke.front;
@@ -66,7 +67,7 @@ out_half reasons old new handed text Device broke same is none = record {
 }
 out_half reasons old new handed text Memory never same is none = absurd never
 
-errors_half : (reasons : Bool) (old new : Devices) (handed : Handed) (text : List ℕ) (reason : Lost) → IsPut old.errors new.errors text (Some reason)
+errors_half : (reasons : Bool) (old new : Sinks) (handed : Handed) (text : List ℕ) (reason : Lost) → IsPut old.errors new.errors text (Some reason)
     → new.out ≡ old.out → told_of handed ≡ text → text_of reasons handed ≡ [] → IsHalf reasons old new handed reason
 errors_half reasons old new handed text Device broke same is none = record {
   out = subst (AppendsFront old.out.written new.out.written) (sym none)
@@ -76,12 +77,12 @@ errors_half reasons old new handed text Device broke same is none = record {
 }
 errors_half reasons old new handed text Memory never same is none = absurd never
 
-failure_half : (reasons : Bool) (old new : Devices) (name : List ℕ) (reason : FontError) (lost : Lost) → PutsFailure old new name reason (Some lost)
+failure_half : (reasons : Bool) (old new : Sinks) (name : List ℕ) (reason : FontError) (lost : Lost) → PutsFailure old new name reason (Some lost)
     → IsHalf reasons old new (failure name reason) lost
 failure_half reasons old new name (Refused code) lost (put, same) = out_half reasons old new (failure name (Refused code)) _ lost put same refl refl
 failure_half reasons old new name (Unchecked why) lost (same, put) = errors_half reasons old new (failure name (Unchecked why)) _ lost put same refl refl
 
-line_half : (reasons : Bool) (old new : Devices) (handed : Handed) (text : List ℕ) (reason : Lost) → IsLinePut old.out new.out text (Some reason)
+line_half : (reasons : Bool) (old new : Sinks) (handed : Handed) (text : List ℕ) (reason : Lost) → IsLinePut old.out new.out text (Some reason)
     → new.errors ≡ old.errors → text_of reasons handed ≡ text → told_of handed ≡ [] → IsHalf reasons old new handed reason
 line_half reasons old new handed text Device broke same is none = out_half reasons old new handed text Device broke same is none
 line_half reasons old new handed text Memory kept_out same is none = record {
@@ -91,7 +92,7 @@ line_half reasons old new handed text Memory kept_out same is none = record {
   failed = inl refl;
 }
 
-one_half : (reasons : Bool) (old new : Devices) (handed : Handed) (lost : Lost) → PlainTakes reasons old new handed (Some lost)
+one_half : (reasons : Bool) (old new : Sinks) (handed : Handed) (lost : Lost) → PlainTakes reasons old new handed (Some lost)
     → IsHalf reasons old new handed lost
 one_half reasons old new (line name font waivers fault) lost (put, same) =
     line_half reasons old new (line name font waivers fault) _ lost put same refl refl
@@ -105,7 +106,7 @@ one_half reasons old new (done name found) Memory (never, same) = absurd never
 
 -- ---- all of them
 
-more_written : (reasons : Bool) (a b c : Devices) (handed : Handed) (more : List Handed) (lost : Option Lost) → IsOut reasons a b handed → IsWritten reasons b c more lost
+more_written : (reasons : Bool) (a b c : Sinks) (handed : Handed) (more : List Handed) (lost : Option Lost) → IsOut reasons a b handed → IsWritten reasons b c more lost
     → IsWritten reasons a c (handed ∷ more) lost
 more_written reasons a b c handed more None one (out, errors) = (
   Appends-trans a.out.written b.out.written c.out.written (text_of reasons handed) (texts reasons more) one.out out,
@@ -120,7 +121,7 @@ more_written reasons a b c handed more (Some reason) one (out, errors, failed) =
 pub written : PlainIsWritten
 written reasons old new [] lost (same, none) =
     subst (IsWritten reasons old new []) (sym none)
-    (subst (λ (d : Devices). IsWritten reasons old d [] None) (sym same) (Appends-nil old.out.written, Appends-nil old.errors.written))
+    (subst (λ (d : Sinks). IsWritten reasons old d [] None) (sym same) (Appends-nil old.out.written, Appends-nil old.errors.written))
 written reasons old new (handed ∷ more) lost (inl (next, took, rest)) =
     more_written reasons old next new handed more lost (one_out reasons old next handed took) (written reasons next new more lost rest)
 written reasons old new (handed ∷ more) lost (inr (reason, took, is)) =
@@ -133,7 +134,7 @@ written reasons old new (handed ∷ more) lost (inr (reason, took, is)) =
 
 pub flushed : PlainIsFlushed
 flushed reasons old new [] name found (inl (next, took, (same, none))) =
-    subst (λ (d : Devices). d.out.flushed ≡ true) (sym same) took.0.waits
+    subst (λ (d : Sinks). d.out.flushed ≡ true) (sym same) took.0.waits
 flushed reasons old new [] name found (inr (reason, took, is)) = absurd (none-some reason is)
 flushed reasons old new (handed ∷ more) name found (inl (next, took, rest)) = flushed reasons next new more name found rest
 flushed reasons old new (handed ∷ more) name found (inr (reason, took, is)) = absurd (none-some reason is)

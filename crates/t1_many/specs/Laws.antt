@@ -6,10 +6,11 @@ use Rattle.t1_report.specs.Faults.{FaultValue}
 use Rattle.t1_report.specs.Waivers.{is_waivable, waivers_of}
 use Rattle.t1_rules.specs.Book.{code_of}
 use Rattle.t1_rules.specs.declared.rule.Rule.{Rule}
+use Rattle.t1_run.specs.Opening.{Sinks}
 use Rattle.t1_run.specs.Statuses.{exit_code_of}
 use Rattle.t1_run.specs.declared.status.Status.{Status}
 use Rattle.t1_many.specs.Handing.{Handed, HandsOn, done}
-use Rattle.t1_many.specs.Plain.{Devices, IsWritten, PlainTakes, tellings, texts}
+use Rattle.t1_many.specs.Plain.{IsWritten, PlainTakes, tellings, texts}
 use Rattle.t1_many.specs.Ends.{status_of_all}
 use Rattle.t1_many.specs.Told.{all_handed}
 use Rattle.t1_many.specs.declared.verdict.Verdict.{Verdict}
@@ -42,13 +43,13 @@ KindsNameTheirRules = (l : FaultLineValue) → rule_of (kind_of l) ≡ code_of l
 -- What the plain form takes is printed, one thing after the other; if a write fails, a prefix of it.
 abbrev pub PlainIsWritten : Type 0
 PlainIsWritten =
-    (reasons : Bool) (old new : Devices) (handed : List Handed) (lost : Option Lost) → HandsOn (PlainTakes reasons) old new handed lost
+    (reasons : Bool) (old new : Sinks) (handed : List Handed) (lost : Option Lost) → HandsOn (PlainTakes reasons) old new handed lost
     → IsWritten reasons old new handed lost
 
 -- After the last font nothing waits to be flushed.
 abbrev pub PlainIsFlushed : Type 0
 PlainIsFlushed =
-    (reasons : Bool) (old new : Devices) (handed : List Handed) (name : List ℕ) (found : FontClass)
+    (reasons : Bool) (old new : Sinks) (handed : List Handed) (name : List ℕ) (found : FontClass)
     → HandsOn (PlainTakes reasons) old new (handed ++ done name found ∷ []) None → new.out.flushed ≡ true
 
 -- No text is that of two rows.

@@ -17,6 +17,7 @@ use Rattle.t1_many.specs.Unchecked.{unchecked_line}
 use Rattle.t1_many.specs.declared.font_error.FontError.{FontError}
 use Rattle.t1_many.specs.declared.font_error.FontError.TheVariants.{Refused, Unchecked}
 use Rattle.t1_run.specs.Failures.{refusal_line}
+use Rattle.t1_run.specs.Opening.{Sinks}
 
 -- `NAME: LINE`.
 abbrev pub named : List ℕ → List ℕ → List ℕ
@@ -55,11 +56,6 @@ tellings handed = flat_map told_of handed
 
 -- ---- devices
 
--- Two devices.
-pub record Devices : Type 0 where
-  pub out : SinkState
-  pub errors : SinkState
-
 -- A text was put, or that failed.
 abbrev pub IsPut : SinkState → SinkState → List ℕ → Option Lost → Type 0
 IsPut old new text None = Wrote old new text
@@ -79,20 +75,20 @@ IsFlushed old new (Some Device) = CallFailed old new
 IsFlushed old new (Some Memory) = ⊥
 
 -- A failure is put on one of them.
-abbrev pub PutsFailure : Devices → Devices → List ℕ → FontError → Option Lost → Type 0
+abbrev pub PutsFailure : Sinks → Sinks → List ℕ → FontError → Option Lost → Type 0
 PutsFailure old new name (Refused code) lost = IsPut old.out new.out (named name (refusal_line code)) lost × (new.errors ≡ old.errors)
 PutsFailure old new name (Unchecked why) lost =
     (new.out ≡ old.out) × IsPut old.errors new.errors (unchecked_line name (reason_of why)) lost
 
 -- One thing that is handed on. The output is flushed after each font.
-abbrev pub PlainTakes : Bool → Devices → Devices → Handed → Option Lost → Type 0
+abbrev pub PlainTakes : Bool → Sinks → Sinks → Handed → Option Lost → Type 0
 PlainTakes reasons old new (line name font waivers fault) lost =
     IsLinePut old.out new.out (fault_text reasons name font waivers fault) lost × (new.errors ≡ old.errors)
 PlainTakes reasons old new (failure name reason) lost = PutsFailure old new name reason lost
 PlainTakes reasons old new (done name found) lost = IsFlushed old.out new.out lost × (new.errors ≡ old.errors)
 
 -- All of these were printed; or a write failed, or memory ran out, and a prefix of them was.
-abbrev pub IsWritten : Bool → Devices → Devices → List Handed → Option Lost → Type 0
+abbrev pub IsWritten : Bool → Sinks → Sinks → List Handed → Option Lost → Type 0
 IsWritten reasons old new handed None =
     Appends old.out.written new.out.written (texts reasons handed) × Appends old.errors.written new.errors.written (tellings handed)
 IsWritten reasons old new handed (Some lost) =
