@@ -16,7 +16,7 @@ use Rattle.t1_known.specs.Lines.{has_no_line_end}
 use Rattle.t1_known.specs.Readings.{IsReadable}
 use Rattle.t1_refusals.specs.declared.refusal.Reason.{Reason}
 use Rattle.t1_many.specs.Ends.{AreChecked}
-use Rattle.t1_many.specs.Files.{ChecksIn, HasNoWaivers, IsFound, given_by}
+use Rattle.t1_many.specs.Files.{ChecksIn, HasNoWaivers, IsFound, files_by, given_by}
 use Rattle.t1_many.specs.Files.ChecksIn.{cannot_open, cannot_open_waivers, no_line, with_waivers, without_waivers}
 use Rattle.t1_many.specs.Files.IsFound.{breaks, breaks_waivers, no_memory, refused, reports, waivers_refused}
 use Rattle.t1_many.specs.FontErrors.{error_of}
@@ -90,7 +90,7 @@ module _ (bytes_of : List ℕ → List ℕ) (text_of : List ℕ → Option (List
       absurd (subst IsChecked same checks)
   found_so bytes text asked source source' waivers waivers' is waives named outcome (no_memory same) checks = absurd (subst IsChecked same checks)
 
-  sure : (old new : Unit {0}) (outcome : Outcome) → ChecksIn (holding bytes_of text_of) beside edition name old new outcome → IsChecked outcome
+  sure : (old new : Unit {0}) (outcome : Outcome) → ChecksIn (files_by (holding bytes_of text_of) beside old new) edition name outcome → IsChecked outcome
       → IsSureNamed edition (bytes_of name) (asked_text beside text_of name) name outcome
   sure old new outcome (no_line ends same is) checks = sure_unnamed ends is
   sure old new outcome (cannot_open plain cause opens same) checks = absurd (subst IsChecked same checks)
@@ -162,9 +162,9 @@ module _ (edition : Edition) (bytes : List ℕ) (text : Option (List ℕ)) (name
 
 module _ (bytes_of : List ℕ → List ℕ) (text_of : List ℕ → Option (List ℕ)) (beside : WaiverFiles) (edition : Edition) where
   abbrev IsFoundSo : Entry → Type 0
-  IsFoundSo entry = (old : Unit {0}) × (new : Unit {0}) × ChecksIn (holding bytes_of text_of) beside edition entry.name old new entry.outcome
+  IsFoundSo entry = (old : Unit {0}) × (new : Unit {0}) × ChecksIn (files_by (holding bytes_of text_of) beside old new) edition entry.name entry.outcome
 
-  each_found : (entries : List Entry) (old new : Unit {0}) → AreChecked (holding bytes_of text_of) beside edition old new entries
+  each_found : (entries : List Entry) (old new : Unit {0}) → AreChecked (files_by (holding bytes_of text_of) beside old new) edition entries
       → AllByRecursion IsFoundSo entries
   each_found [] old new same = tt
   each_found (entry ∷ entries) old new (next, one, others) = ((old, next, one), each_found entries next new others)

@@ -10,9 +10,10 @@ use Rattle.t1_answer_all.specs.Plans.{Run, judges_in}
 use Rattle.t1_many.proofs.Handed.{handed-append}
 use Rattle.t1_many.specs.Ends.{AreTaken, Ends, status_of_all}
 use Rattle.t1_many.specs.Ends.Ends.{all, stopped}
-use Rattle.t1_many.specs.Handing.{Handed, HandsOn, found_of, handed_of}
+use Rattle.t1_many.specs.Handing.{Handed, HandsOn, Keeping, found_of, handed_of}
 use Rattle.t1_many.specs.Outcomes.{Entry, Outcome, Report, failed, reported}
 use Rattle.t1_many.specs.Readings.{IsReadingOf, TakesOutcome}
+use Rattle.t1_many.specs.Recipients.{recipient_by}
 use Rattle.t1_many.specs.declared.readings.Reading.{Reading as Kept}
 use Rattle.t1_many.specs.declared.policy.Lost.{Lost}
 use Rattle.t1_many.specs.declared.policy.Lost.TheVariants.{Memory}
@@ -31,11 +32,15 @@ zip-append R (x ∷ xs) xs' (y ∷ ys) ys' (first, rest) more = (first, zip-appe
 
 module _ {T F : Type 0} (takes : F → F → Handed → Option Lost → Type 0) (form : T → F) (kept : T → List Kept) (rules : T → Mask)
     (judges : T → List ℕ → Report → FaultValue → Verdict) where
+  abbrev keeping : F → F → List Kept → List Kept → Keeping Kept
+  keeping a b old new = record { form = recipient_by takes a b; old = old; new = new }
+
   -- A font is taken, and what decides the next one stays.
   pub record TakesFont (old new : T) (entry : Entry) (taken : Result FontClass Lost) : Type 0 where
     pub rules_stay : rules new ≡ rules old
     pub judges_stay : judges new ≡ judges old
-    pub outcome : TakesOutcome takes (judges old entry.name) (rules old) (form old) (form new) (kept old) (kept new) entry.name entry.outcome taken
+    pub outcome :
+        TakesOutcome (keeping (form old) (form new) (kept old) (kept new)) (judges old entry.name) (rules old) entry.name entry.outcome taken
 
   record HasTaken (judge : Report → FaultValue → Verdict) (mask : Mask) (a b : F) (old new : List Kept) (name : List ℕ) (outcome : Outcome)
       (found : FontClass) : Type 0 where
@@ -46,7 +51,7 @@ module _ {T F : Type 0} (takes : F → F → Handed → Option Lost → Type 0) 
     pub texts : AllZip IsReadingOf added (outcome_readings mask name outcome)
 
   has_taken : (judge : Report → FaultValue → Verdict) (mask : Mask) (a b : F) (old new : List Kept) (name : List ℕ) (outcome : Outcome)
-      (found : FontClass) → TakesOutcome takes judge mask a b old new name outcome (Ok found)
+      (found : FontClass) → TakesOutcome (keeping a b old new) judge mask name outcome (Ok found)
       → HasTaken judge mask a b old new name outcome found
   has_taken judge mask a b old new name (reported report) found (hands, reading, is, keeps) = record {
     handed = hands.0;
@@ -70,7 +75,7 @@ module _ {T F : Type 0} (takes : F → F → Handed → Option Lost → Type 0) 
     pub why : (stop ≡ Some lost) ⊎ (lost ≡ Memory)
 
   has_stopped : (judge : Report → FaultValue → Verdict) (mask : Mask) (a b : F) (old new : List Kept) (name : List ℕ) (outcome : Outcome)
-      (lost : Lost) → TakesOutcome takes judge mask a b old new name outcome (Err lost) → HasStopped judge a b name outcome lost
+      (lost : Lost) → TakesOutcome (keeping a b old new) judge mask name outcome (Err lost) → HasStopped judge a b name outcome lost
   has_stopped judge mask a b old new name (reported report) lost (inl hands, same) = record { stop = Some lost; handed = hands.0; why = inl refl }
   has_stopped judge mask a b old new name (reported report) lost (inr (memory, handed), same) =
       record { stop = None; handed = handed; why = inr memory }
@@ -125,7 +130,7 @@ module _ {T F : Type 0} (takes : F → F → Handed → Option Lost → Type 0) 
   pub checks_fonts : (run : Run) (old new : T) (result : Result Status Lost) (Keeps : List Entry → Type 0)
       → judges old ≡ judges_in run.plan → rules old ≡ run.plan.rules → kept old ≡ []
       → ((entries : List Entry) → AllZip IsReadingOf (kept new) (flat_map (entry_readings run.plan.rules) entries) → Keeps entries)
-      → Ends TakesFont run.files run.plan.edition run.plan.names old new result → ChecksFonts takes run (form old) (form new) Keeps result
+      → Ends (recipient_by TakesFont old new) run.files run.plan.edition run.plan.names result → ChecksFonts takes run (form old) (form new) Keeps result
   checks_fonts run old new result Keeps judge_is mask_is none keeps (all entries founds are taken is) =
       let so = have_taken old new entries founds taken in
       whole entries are

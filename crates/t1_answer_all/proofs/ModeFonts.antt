@@ -14,6 +14,7 @@ use Rattle.t1_many.specs.Handing.{Handed, HandsOn}
 use Rattle.t1_many.specs.KnownFaults.{RowValue}
 use Rattle.t1_many.specs.Outcomes.{Entry, Report}
 use Rattle.t1_many.specs.Readings.{IsReadingOf, TakesKnown, as_known, by_known}
+use Rattle.t1_many.specs.Recipients.{recipient_by}
 use Rattle.t1_many.specs.Told.{TellsAll, all_handed, founds_of}
 use Rattle.t1_many.specs.Told.TellsAll.{cut_short, whole}
 use Rattle.t1_many.specs.Verdicts.{of_rules}
@@ -54,14 +55,15 @@ module _ {F : Type 0} (takes : F → F → Handed → Option Lost → Type 0) (r
       (subst (λ (m : ModeValue). HandsOn takes old new (all_handed (judges_of m run.plan.rules) entries) (Some lost)) (sym mode_is) handed) (inl refl) is
 
   pub told_fonts : run.plan.mode ≡ told → readings ≡ [] → waivers ≡ []
-      → TellsAll takes (λ name. of_rules run.plan.rules) run.files run.plan.edition run.plan.names old new result
+      → TellsAll (recipient_by takes old new) (λ name. of_rules run.plan.rules) run.files run.plan.edition run.plan.names result
       → ChecksFonts takes run old new (IsKept run.plan readings waivers) result
   told_fonts mode_is none none_waived (whole entries are handed is) =
       checked_whole entries told mode_is are (handed, none_kept readings none, none_waived, is)
   told_fonts mode_is none none_waived (cut_short count entries are lost handed is) = checked_in_part count entries told mode_is are lost handed is
 
   pub waived_fonts : (before : List FontText) → run.plan.mode ≡ waived → readings ≡ [] → before ≡ []
-      → WaivesAll takes run.plan.rules run.files run.plan.edition run.plan.names old new before waivers result
+      → WaivesAll (record { form = recipient_by takes old new; old = before; new = waivers }) run.plan.rules run.files run.plan.edition run.plan.names
+      result
       → ChecksFonts takes run old new (IsKept run.plan readings waivers) result
   waived_fonts before mode_is none begun (waived_whole entries are handed kept is) =
       checked_whole entries waived mode_is are
@@ -79,7 +81,7 @@ module _ {T : Type 0} (A B : T → T → Entry → Result FontClass Lost → Typ
       (next, found, others, each old next entry _ took, taken-map next new entries others rest, is)
 
   ends-map : (files : Files) (edition : Edition) (names : List (List ℕ)) (old new : T) (result : Result Status Lost)
-      → Ends A files edition names old new result → Ends B files edition names old new result
+      → Ends (recipient_by A old new) files edition names result → Ends (recipient_by B old new) files edition names result
   ends-map files edition names old new result (all entries founds are taken is) = all entries founds are (taken-map old new entries founds taken) is
   ends-map files edition names old new result (stopped count entries last founds are next taken lost took is) =
       stopped count entries last founds are next (taken-map old next entries founds taken) lost (each next new last _ took) is
@@ -89,9 +91,11 @@ module _ {T F K : Type 0} (takes : F → F → Handed → Option Lost → Type 0
     (waivers : List FontText) where
   pub beyond_fonts : (rows : List RowValue) → run.plan.mode ≡ beyond rows → counts (known old) ≡ counts_in rows → rules old ≡ run.plan.rules → kept old ≡ []
       → waivers ≡ []
-      → Ends (λ a b entry taken. (rules b ≡ rules a) × (known b ≡ known a)
-      × TakesKnown takes (by_known (counts (known a)) (rules a) entry.name) (rules a) (form a) (form b) (kept a) (kept b) entry taken)
-      run.files run.plan.edition run.plan.names old new result
+      → Ends
+      (recipient_by (λ a b entry taken. (rules b ≡ rules a) × (known b ≡ known a)
+      × TakesKnown (record { form = recipient_by takes (form a) (form b); old = kept a; new = kept b })
+      (by_known (counts (known a)) (rules a) entry.name) (rules a) entry taken) old new)
+      run.files run.plan.edition run.plan.names result
       → ChecksFonts takes run (form old) (form new) (IsKept run.plan (kept new) waivers) result
   beyond_fonts rows mode_is counts_are mask_is none none_waived ends =
       let judges : T → List ℕ → Report → FaultValue → Verdict = λ t name. by_known (counts (known t)) (rules t) name in
@@ -111,9 +115,11 @@ module _ {T F K : Type 0} (takes : F → F → Handed → Option Lost → Type 0
 module _ {T F : Type 0} (takes : F → F → Handed → Option Lost → Type 0) (form : T → F) (kept : T → List Kept) (rules : T → Mask) (run : Run)
     (old new : T) (result : Result Status Lost) (waivers : List FontText) where
   pub anew_fonts : (rows : List RowValue) → run.plan.mode ≡ anew rows → rules old ≡ run.plan.rules → kept old ≡ [] → waivers ≡ []
-      → Ends (λ a b entry taken. (rules b ≡ rules a)
-      × TakesKnown takes (as_known (rules a)) (rules a) (form a) (form b) (kept a) (kept b) entry taken)
-      run.files run.plan.edition run.plan.names old new result
+      → Ends
+      (recipient_by (λ a b entry taken. (rules b ≡ rules a)
+      × TakesKnown (record { form = recipient_by takes (form a) (form b); old = kept a; new = kept b }) (as_known (rules a)) (rules a) entry taken)
+      old new)
+      run.files run.plan.edition run.plan.names result
       → ChecksFonts takes run (form old) (form new) (IsKept run.plan (kept new) waivers) result
   anew_fonts rows mode_is mask_is none none_waived ends =
       let judges : T → List ℕ → Report → FaultValue → Verdict = λ t name. as_known (rules t) in

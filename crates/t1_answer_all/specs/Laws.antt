@@ -12,6 +12,7 @@ use Rattle.t1_many.specs.Choice.{Choice, is_told}
 use Rattle.t1_many.specs.Counting.{all_lines}
 use Rattle.t1_many.specs.Calls.{Calls}
 use Rattle.t1_many.specs.Ends.{AreChecked}
+use Rattle.t1_many.specs.Files.{files_by}
 use Rattle.t1_many.specs.Handing.{found_of}
 use Rattle.t1_many.specs.KnownFaults.{RowValue, file_text, updated}
 use Rattle.t1_many.specs.Outcomes.{Entry, Outcome, failed, found_of_error, reported}
@@ -92,7 +93,7 @@ IsChecked (failed (Unchecked Memory)) = ⊥
 pub record AreCheckedIn (bytes_of : List ℕ → List ℕ) (text_of : List ℕ → Option (List ℕ)) (beside : WaiverFiles) (edition : Edition)
     (listed : List (List ℕ)) (entries : List Entry) : Type 0 where
   pub named : map (λ entry. entry.name) entries ≡ each_once listed
-  pub found : AreChecked (holding bytes_of text_of) beside edition tt tt entries
+  pub found : AreChecked (files_by (holding bytes_of text_of) beside tt tt) edition entries
   pub checked : AllByRecursion (λ entry. IsChecked entry.outcome) entries
 
 -- Where known faults were made anew of fonts, and the file is read, another check of the same files is quiet.
