@@ -16,6 +16,7 @@ use Rattle.t1_report.specs.declared.marks.Mark.{Mark}
 use Rattle.t1_rules.specs.Book.{code_of, text_of}
 use Rattle.t1_pieces.specs.Forms.{line_as, lines_as}
 use Rattle.t1_pieces.specs.Pieces.{AreGiven, IsPieceOf}
+use Rattle.t1_pieces.specs.Reading.{Input}
 use Rattle.t1_pieces.specs.declared.form.Form.{Form}
 use Rattle.t1_pieces.specs.declared.form.Form.TheVariants.{Object, Text}
 use Rattle.t1_pieces.specs.declared.piece.Piece.{Piece}
@@ -43,34 +44,34 @@ pub led_on : (font : CheckedFont) (waivers : List Waiver) (mark reached : Mark) 
 led_on font waivers mark reached [] fault led next = (subst (λ (m : Mark). IsNext font waivers m fault) (sym led) next, refl)
 led_on font waivers mark reached (f ∷ given) fault (first, led) next = (first, led_on font waivers (mark_of f) reached given fault led next)
 
-pub none_given : (form : Form) (font : CheckedFont) (waivers : List Waiver) (mark : Mark) (room : List ℕ) → AreGiven form font waivers mark mark room 0
-none_given form font waivers mark room = record { given = []; led = refl; within = omega arith; text = refl }
+pub none_given : (form : Form) (input : Input) (mark : Mark) (room : List ℕ) → AreGiven form input mark mark room 0
+none_given form input mark room = record { given = []; led = refl; within = omega arith; text = refl }
 
-pub one_given : (form : Form) (font : CheckedFont) (waivers : List Waiver) (mark reached : Mark) (room room' line : List ℕ) (used : ℕ) (fault : FaultValue)
-    → AreGiven form font waivers mark reached room used → IsNext font waivers reached fault → line ≡ line_as form font waivers fault
+pub one_given : (form : Form) (input : Input) (mark reached : Mark) (room room' line : List ℕ) (used : ℕ) (fault : FaultValue)
+    → AreGiven form input mark reached room used → IsNext input.font input.waivers reached fault → line ≡ line_as form input.font input.waivers fault
     → take (used + length line) room' ≡ take used room ++ line → used + length line ≤ length room'
-    → AreGiven form font waivers mark (mark_of fault) room' (used + length line)
-one_given form font waivers mark reached room room' line used fault before next is put fits = record {
+    → AreGiven form input mark (mark_of fault) room' (used + length line)
+one_given form input mark reached room room' line used fault before next is put fits = record {
   given = before.given ++ fault ∷ [];
-  led = led_on font waivers mark reached before.given fault before.led next;
+  led = led_on input.font input.waivers mark reached before.given fault before.led next;
   within = fits;
   text = put
       ∙ ap (λ t. t ++ line) before.text
-      ∙ ap (λ l. lines_as form font waivers before.given ++ l) (is ∙ sym (append-nil (line_as form font waivers fault)))
-      ∙ sym (flat_map-append (line_as form font waivers) before.given (fault ∷ []));
+      ∙ ap (λ l. lines_as form input.font input.waivers before.given ++ l) (is ∙ sym (append-nil (line_as form input.font input.waivers fault)))
+      ∙ sym (flat_map-append (line_as form input.font input.waivers) before.given (fault ∷ []));
 }
 
 -- The next line doesn't fit.
-pub is_full : (form : Form) (font : CheckedFont) (waivers : List Waiver) (mark reached : Mark) (room line : List ℕ) (used : ℕ) (fault : FaultValue) (piece : Piece)
-    → AreGiven form font waivers mark reached room used → (used ≡ 0 → reached ≡ mark) → IsNext font waivers reached fault
-    → line ≡ line_as form font waivers fault → length room - used < length line
-    → (used ≡ 0 → piece ≡ NoRoom) → (0 < used → piece ≡ More used) → IsPieceOf form font waivers mark reached room piece
-is_full form font waivers mark reached room line zero fault piece before start next is long none some =
-    let same : length line ≡ length (line_as form font waivers fault) = ap length is in
-    subst (IsPieceOf form font waivers mark reached room) (sym (none refl))
+pub is_full : (form : Form) (input : Input) (mark reached : Mark) (room line : List ℕ) (used : ℕ) (fault : FaultValue) (piece : Piece)
+    → AreGiven form input mark reached room used → (used ≡ 0 → reached ≡ mark) → IsNext input.font input.waivers reached fault
+    → line ≡ line_as form input.font input.waivers fault → length room - used < length line
+    → (used ≡ 0 → piece ≡ NoRoom) → (0 < used → piece ≡ More used) → IsPieceOf form input mark reached room piece
+is_full form input mark reached room line zero fault piece before start next is long none some =
+    let same : length line ≡ length (line_as form input.font input.waivers fault) = ap length is in
+    subst (IsPieceOf form input mark reached room) (sym (none refl))
     (start refl, record { next = fault; is_next = next; too_long = omega (arith, long, same) })
-is_full form font waivers mark reached room line (suc used) fault piece before start next is long none some =
-    let same : length line ≡ length (line_as form font waivers fault) = ap length is in
+is_full form input mark reached room line (suc used) fault piece before start next is long none some =
+    let same : length line ≡ length (line_as form input.font input.waivers fault) = ap length is in
     let within = before.within in
-    subst (IsPieceOf form font waivers mark reached room) (sym (some (omega arith)))
+    subst (IsPieceOf form input mark reached room) (sym (some (omega arith)))
     (omega arith, before, record { next = fault; is_next = next; too_long = omega (arith, long, same, within) })

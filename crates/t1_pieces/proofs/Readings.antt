@@ -1,8 +1,7 @@
 -- What the bytes of a font and of waivers are read as, and why they aren't.
-use Rattle.std.proofs.Common.{◌≡◌, ◌∙◌, ◌<◌, ◌≤◌, ℕ, nat_lt, true, false, List, Option, None, Some, Result, Ok, Err, IfErr, IfOk, length, inl, inr, ap, arith, refl, subst, sym}
+use Rattle.std.proofs.Common.{◌≡◌, ◌∙◌, ◌<◌, ◌≤◌, ℕ, nat_lt, true, false, List, Option, None, Some, Result, Ok, Err, IfErr, length, inl, inr, ap, arith, refl, subst, sym}
 use Rattle.std.proofs.lemmas.Bool.Decides.{nat_tests}
 use Rattle.std.specs.Result.{IsErrAnd}
-use Rattle.t1_char.specs.declared.edition.Edition.{Edition}
 use Rattle.t1_font.specs.FontFiles.{IsUnread, font_in}
 use Rattle.t1_font.specs.Fonts.{FontValue}
 use Rattle.t1_font.specs.declared.unread.Unread.{Unread}
@@ -11,7 +10,6 @@ use Rattle.t1_refusals.specs.RefusalCodes.{refusal_code_of}
 use Rattle.t1_refusals.specs.declared.refusal.Reason.{Reason}
 use Rattle.t1_refusals.specs.declared.refusal.Reason.TheVariants.{Font, Waivers, WaiversTooLarge}
 use Rattle.t1_refusals.specs.declared.refusal.RefusalCode.{RefusalCode}
-use Rattle.t1_report.specs.Checked.{checked}
 use Rattle.t1_report.specs.WaiverViews.{IsReadAs}
 use Rattle.t1_report.specs.Waivers.{Waiver, waivers_of}
 use Rattle.t1_report.specs.declared.marks.Mark.{Mark}
@@ -23,10 +21,10 @@ use Rattle.t1_run.specs.FontFiles.{font_of, with_reason}
 use Rattle.t1_run.specs.WaiverFiles.{as_waivers, waivers_in}
 use Rattle.t1_run.specs.declared.failure.Failure.{Failure}
 use Rattle.t1_run.specs.declared.failure.Failure.TheVariants.{Memory, Refused}
-use Rattle.t1_pieces.specs.Documents.{IsDocumentPiece}
-use Rattle.t1_pieces.specs.Pieces.{IsPiece, IsReadPiece, IsRefusalBy, IsWaivedPiece}
+use Rattle.t1_pieces.specs.Documents.{IsDocumentPiece, subject_read}
+use Rattle.t1_pieces.specs.Pieces.{IsPiece, IsRefusalBy}
 use Rattle.t1_pieces.specs.Pieces.IsRefusalFor.{refused}
-use Rattle.t1_pieces.specs.Reading.{IsFailureFor, IsFailureOf}
+use Rattle.t1_pieces.specs.Reading.{Input, IsFailureOf}
 use Rattle.t1_pieces.specs.declared.form.Form.{Form}
 use Rattle.t1_pieces.specs.declared.piece.Piece.{Piece}
 use Rattle.t1_pieces.specs.declared.stage.Reached.{Reached}
@@ -46,18 +44,6 @@ by_memory (Err reason) failure is = inr is
 pub fails_for : {A : Type 0} (read : Result A Reason) (reason : Reason) (failure : Failure) → read ≡ Err reason → failure ≡ failure_of reason
     → IsFailureOf read failure
 fails_for {A} read reason failure is so = subst (λ (r : Result A Reason). IsFailureOf r failure) (sym is) (inl so)
-
--- Of the font before the waivers.
-pub font_first : (read : Result FontValue Reason) (waived : Result (List Waiver) Reason) (failure : Failure) → IsFailureOf read failure
-    → IsFailureFor read waived failure
-font_first (Ok font) waived failure is = by_memory waived failure is
-font_first (Err reason) waived failure is = is
-
-pub waivers_next : {X : Type 0} (result : Result X Failure) (font : FontValue) (read : Result FontValue Reason)
-    (waived : Result (List Waiver) Reason) → read ≡ Ok font → IfErr result (IsFailureOf waived) → IfErr result (IsFailureFor read waived)
-waivers_next (Ok x) font read waived is failed = tt
-waivers_next (Err failure) font read waived is failed =
-    subst (λ (r : Result FontValue Reason). IsFailureFor r waived failure) (sym is) failed
 
 -- ---- a font
 
@@ -98,13 +84,6 @@ waivers_fail value text errors.Memory small any = by_memory (waivers_in text) (f
 
 -- ---- what is handed over
 
-pub read_piece : (result : Result Piece Failure) (form : Form) (edition : Edition) (font : FontValue) (read : Result FontValue Reason)
-    (waived : Result (List Waiver) Reason) (mark mark' : Mark) (room : List ℕ) → read ≡ Ok font
-    → IfOk result (IsWaivedPiece form (checked font edition) waived mark mark' room)
-    → IfOk result (IsReadPiece form edition read waived mark mark' room)
-read_piece (Ok piece) form edition font read waived mark mark' room is given = (font, (is, given))
-read_piece (Err failure) form edition font read waived mark mark' room is given = tt
-
 by_code : (code : RefusalCode) (found : Option RefusalCode) → refused_by found ≡ Refused code → found ≡ Some code
 by_code code None is = cc
 by_code code (Some c) is = cc
@@ -115,31 +94,17 @@ coded reason code is = by_code code (refusal_code_of reason) is
 pub never : (failure : Failure) (code : RefusalCode) → failure ≡ Refused code → failure ≡ Memory → ⊥
 never failure code is memory = cc
 
-pub refused_piece : (form : Form) (edition : Edition) (read : Result FontValue Reason) (waived : Result (List Waiver) Reason) (mark mark' : Mark)
-    (room : List ℕ) (piece : Piece) (failure : Failure) (code : RefusalCode) → IsFailureFor read waived failure → failure ≡ Refused code
-    → mark' ≡ mark → IsRefusalBy code room piece → IsPiece form edition read waived mark mark' room piece
-refused_piece form edition (Err reason) waived mark mark' room piece failure code (inl so) is kept by =
-    refused code (coded reason code (sym so ∙ is)) by kept
-refused_piece form edition (Err reason) waived mark mark' room piece failure code (inr memory) is kept by =
-    absurd (never failure code is memory)
-refused_piece form edition (Ok font) (Err reason) mark mark' room piece failure code (inl so) is kept by =
-    refused code (coded reason code (sym so ∙ is)) by kept
-refused_piece form edition (Ok font) (Err reason) mark mark' room piece failure code (inr memory) is kept by =
-    absurd (never failure code is memory)
-refused_piece form edition (Ok font) (Ok waivers) mark mark' room piece failure code memory is kept by =
-    absurd (never failure code is memory)
+pub refused_piece : (form : Form) (read : Result Input Reason) (mark mark' : Mark) (room : List ℕ) (piece : Piece) (failure : Failure)
+    (code : RefusalCode) → IsFailureOf read failure → failure ≡ Refused code → mark' ≡ mark → IsRefusalBy code room piece
+    → IsPiece form read mark mark' room piece
+refused_piece form (Err reason) mark mark' room piece failure code (inl so) is kept by = refused code (coded reason code (sym so ∙ is)) by kept
+refused_piece form (Err reason) mark mark' room piece failure code (inr memory) is kept by = absurd (never failure code is memory)
+refused_piece form (Ok input) mark mark' room piece failure code memory is kept by = absurd (never failure code is memory)
 
-pub refused_document : (pages : PagesValue) (name : List ℕ) (edition : Edition) (read : Result FontValue Reason) (waived : Result (List Waiver) Reason)
-    (reached reached' : Reached) (room : List ℕ) (piece : Piece) (failure : Failure) (code : RefusalCode) → IsFailureFor read waived failure
-    → failure ≡ Refused code → reached' ≡ reached → IsRefusalBy code room piece
-    → IsDocumentPiece pages name edition read waived reached reached' room piece
-refused_document pages name edition (Err reason) waived reached reached' room piece failure code (inl so) is kept by =
+pub refused_document : (name : List ℕ) (pages : PagesValue) (read : Result Input Reason) (reached reached' : Reached) (room : List ℕ) (piece : Piece)
+    (failure : Failure) (code : RefusalCode) → IsFailureOf read failure → failure ≡ Refused code → reached' ≡ reached
+    → IsRefusalBy code room piece → IsDocumentPiece (subject_read name pages read) reached reached' room piece
+refused_document name pages (Err reason) reached reached' room piece failure code (inl so) is kept by =
     refused code (coded reason code (sym so ∙ is)) by kept
-refused_document pages name edition (Err reason) waived reached reached' room piece failure code (inr memory) is kept by =
-    absurd (never failure code is memory)
-refused_document pages name edition (Ok font) (Err reason) reached reached' room piece failure code (inl so) is kept by =
-    refused code (coded reason code (sym so ∙ is)) by kept
-refused_document pages name edition (Ok font) (Err reason) reached reached' room piece failure code (inr memory) is kept by =
-    absurd (never failure code is memory)
-refused_document pages name edition (Ok font) (Ok waivers) reached reached' room piece failure code memory is kept by =
-    absurd (never failure code is memory)
+refused_document name pages (Err reason) reached reached' room piece failure code (inr memory) is kept by = absurd (never failure code is memory)
+refused_document name pages (Ok input) reached reached' room piece failure code memory is kept by = absurd (never failure code is memory)

@@ -1,27 +1,44 @@
 -- What is handed over after so many bytes of a room.
 use Rattle.std.specs.Prelude.{◌≡◌, ◌≤◌, ◌<◌, ◌+◌, ℕ, List, ◌++◌, length, take}
-use Rattle.t1_forms.specs.Sarif.{SarifState}
-use Rattle.t1_report.specs.declared.marks.Mark.{Mark}
-use Rattle.t1_pieces.specs.Documents.{AreAsManyAsFit, IsEndIn, IsFullAt, Subject}
+use Rattle.t1_forms.specs.Sarif.{sarif_state}
+use Rattle.t1_report.specs.WalkViews.{WalkView}
+use Rattle.t1_report.specs.Waivers.{Waiver}
+use Rattle.t1_pieces.specs.Documents.{AreAsManyAsFit, IsEndIn, IsFullAt, Start, subject_for}
+use Rattle.t1_pieces.specs.declared.document_writer.DocumentWriter.{DocumentWriter}
 use Rattle.t1_pieces.specs.declared.piece.Piece.{Piece}
 use Rattle.t1_pieces.specs.declared.piece.Piece.TheVariants.{Last, Memory, More, NoRoom, Refused}
 use Rattle.t1_pieces.specs.declared.stage.Reached.{Reached}
 
+-- Where the next result of a writer and a walk starts, after these bytes.
+abbrev pub start_of : DocumentWriter → WalkView → List Waiver → List ℕ → Start
+start_of writer walk waivers before =
+    record {
+      subject = subject_for writer.request.now walk.font waivers;
+      before = before;
+      state = sarif_state writer.results.formatter;
+      mark = walk.mark;
+    }
+
 -- Results after a text that is there, which was handed over at a call that began elsewhere.
-abbrev pub IsRestOf : Subject → List ℕ → SarifState → Mark → Reached → Reached → Reached → List ℕ → Piece → Type 0
-IsRestOf subject before state mark at reached reached' room (Last n) = IsEndIn subject before state mark room n
-IsRestOf subject before state mark at reached reached' room (More n) = AreAsManyAsFit subject before state mark reached' room n
-IsRestOf subject before state mark at reached reached' room NoRoom =
-    (reached' ≡ reached) × (at ≡ reached) × IsFullAt subject at.stage state mark room 0
-IsRestOf subject before state mark at reached reached' room (Refused n) = ⊥
-IsRestOf subject before state mark at reached reached' room Memory = reached' ≡ reached
+abbrev pub IsRestOf : Start → Reached → Reached → Reached → List ℕ → Piece → Type 0
+IsRestOf start at reached reached' room (Last n) = IsEndIn start room n
+IsRestOf start at reached reached' room (More n) = AreAsManyAsFit start reached' room n
+IsRestOf start at reached reached' room NoRoom =
+    (reached' ≡ reached) × (at ≡ reached) × IsFullAt start.subject at.stage start.state start.mark room 0
+IsRestOf start at reached reached' room (Refused n) = ⊥
+IsRestOf start at reached reached' room Memory = reached' ≡ reached
+
+-- What a host lends to a call: how far the document was handed over, and the room.
+pub record Lent : Type 0 where
+  pub reached : Reached
+  pub room : List ℕ
 
 -- What is after all results, after so many bytes of a room, or it doesn't fit.
-abbrev pub IsEndPut : List ℕ → ℕ → Reached → Reached → Reached → List ℕ → List ℕ → Piece → Type 0
-IsEndPut end used at reached reached' room room' (Last n) =
-    (n ≡ used + length end) × (n ≤ length room') × (take n room' ≡ take used room ++ end)
-IsEndPut end used at reached reached' room room' (More n) =
-    (n ≡ used) × (0 < n) × (reached' ≡ at) × (room' ≡ room) × (length room < n + length end)
-IsEndPut end used at reached reached' room room' NoRoom = (used ≡ 0) × (reached' ≡ at) × (room' ≡ room) × (length room < length end)
-IsEndPut end used at reached reached' room room' (Refused n) = ⊥
-IsEndPut end used at reached reached' room room' Memory = reached' ≡ reached
+abbrev pub IsEndPut : List ℕ → ℕ → Reached → Lent → Lent → Piece → Type 0
+IsEndPut end used at old new (Last n) =
+    (n ≡ used + length end) × (n ≤ length new.room) × (take n new.room ≡ take used old.room ++ end)
+IsEndPut end used at old new (More n) =
+    (n ≡ used) × (0 < n) × (new.reached ≡ at) × (new.room ≡ old.room) × (length old.room < n + length end)
+IsEndPut end used at old new NoRoom = (used ≡ 0) × (new.reached ≡ at) × (new.room ≡ old.room) × (length old.room < length end)
+IsEndPut end used at old new (Refused n) = ⊥
+IsEndPut end used at old new Memory = new.reached ≡ old.reached

@@ -1,7 +1,5 @@
 -- A document of SARIF that is handed over in pieces: what t1check-all writes of one font.
 use Rattle.std.specs.Prelude.{◌≡◌, ◌≤◌, ◌<◌, ◌+◌, ℕ, true, List, [], ◌∷◌, ◌++◌, length, take, Some, Result, Ok, Err}
-use Rattle.t1_char.specs.declared.edition.Edition.{Edition}
-use Rattle.t1_font.specs.Fonts.{FontValue}
 use Rattle.t1_forms.specs.PageValues.{PagesValue, pages_value}
 use Rattle.t1_forms.specs.Sarif.{SarifState, begun, closing, opening, resumed, telling_text}
 use Rattle.t1_forms.specs.SarifDocuments.{after_one}
@@ -10,13 +8,14 @@ use Rattle.t1_forms.specs.Tellings.{ToldValue, what_spelled}
 use Rattle.t1_lines.specs.Lines.{line_in, of_fault}
 use Rattle.t1_refusals.specs.declared.refusal.Reason.{Reason}
 use Rattle.t1_printers.specs.Formatting.{told_fault}
-use Rattle.t1_report.specs.Checked.{CheckedFont, checked}
+use Rattle.t1_report.specs.Checked.{CheckedFont}
 use Rattle.t1_report.specs.Faults.{FaultValue}
 use Rattle.t1_report.specs.Laws.Walks.{LeadTo}
 use Rattle.t1_report.specs.Waivers.{Waiver}
 use Rattle.t1_report.specs.Walks.{HasNoneLater, IsNext, mark_of}
 use Rattle.t1_report.specs.declared.marks.Mark.{Mark}
 use Rattle.t1_pieces.specs.Pieces.{IsRefusalFor}
+use Rattle.t1_pieces.specs.Reading.{Input}
 use Rattle.t1_pieces.specs.declared.documents.DocumentRequest.{DocumentRequest}
 use Rattle.t1_pieces.specs.declared.piece.Piece.{Piece}
 use Rattle.t1_pieces.specs.declared.piece.Piece.TheVariants.{Last, Memory, More, NoRoom, Refused}
@@ -35,6 +34,11 @@ pub record Subject : Type 0 where
 
 abbrev pub subject_for : DocumentRequest → CheckedFont → List Waiver → Subject
 subject_for request font waivers = record { name = request.name.now; pages = pages_value request.pages; font = font; waivers = waivers }
+
+-- By what the font and the waivers are read as.
+abbrev pub subject_read : List ℕ → PagesValue → Result Input Reason → Result Subject Reason
+subject_read name pages (Err reason) = Err reason
+subject_read name pages (Ok input) = Ok (record { name = name; pages = pages; font = input.font; waivers = input.waivers })
 
 -- What is reported of a fault: its line, and its reason.
 abbrev pub told_of : Subject → FaultValue → ToldValue
@@ -91,15 +95,26 @@ IsNextPart subject Results state mark text = IsNextResult subject state mark tex
 
 -- ---- what a call hands over
 
+-- Where results start: after these bytes of a room, where this is kept, and after this mark.
+pub record Start : Type 0 where
+  pub subject : Subject
+  pub before : List ℕ
+  pub state : SarifState
+  pub mark : Mark
+
+-- Of a call that goes on from a place.
+abbrev pub start_at : Subject → Reached → SarifState → Mark → Start
+start_at subject reached state mark =
+    record { subject = subject; before = front subject.pages reached.stage; state = state; mark = mark }
+
 -- The results of the faults between two marks, after what is before them, are the first n bytes of a room.
-pub record AreResultsIn (subject : Subject) (before : List ℕ) (state : SarifState) (mark : Mark) (reached' : Reached) (room : List ℕ) (n : ℕ)
-    : Type 0 where
+pub record AreResultsIn (start : Start) (reached' : Reached) (room : List ℕ) (n : ℕ) : Type 0 where
   pub given : List FaultValue
   pub last : Mark
-  pub led : LeadTo subject.font subject.waivers mark given last
+  pub led : LeadTo start.subject.font start.subject.waivers start.mark given last
   pub within : n ≤ length room
-  pub text : take n room ≡ before ++ results_of subject state given
-  pub stands : StandsFor subject reached' (state_after subject state given) last
+  pub text : take n room ≡ start.before ++ results_of start.subject start.state given
+  pub stands : StandsFor start.subject reached' (state_after start.subject start.state given) last
 
 -- After them comes what the room doesn't hold any more.
 pub record IsFullAt (subject : Subject) (stage : Stage) (state : SarifState) (mark : Mark) (room : List ℕ) (n : ℕ) : Type 0 where
@@ -107,50 +122,40 @@ pub record IsFullAt (subject : Subject) (stage : Stage) (state : SarifState) (ma
   pub is_next : IsNextPart subject stage state mark text
   pub too_long : length room < n + length text
 
-pub record AreAsManyAsFit (subject : Subject) (before : List ℕ) (state : SarifState) (mark : Mark) (reached' : Reached) (room : List ℕ) (n : ℕ)
-    : Type 0 where
+pub record AreAsManyAsFit (start : Start) (reached' : Reached) (room : List ℕ) (n : ℕ) : Type 0 where
   pub some : 0 < n
   pub begun : ¬ (reached'.stage ≡ Nothing)
-  pub results : AreResultsIn subject before state mark reached' room n
-  pub full : IsFullAt subject reached'.stage (state_after subject state results.given) results.last room n
+  pub results : AreResultsIn start reached' room n
+  pub full : IsFullAt start.subject reached'.stage (state_after start.subject start.state results.given) results.last room n
 
 -- The last results, and what is after them all.
-pub record IsEndIn (subject : Subject) (before : List ℕ) (state : SarifState) (mark : Mark) (room : List ℕ) (n : ℕ) : Type 0 where
+pub record IsEndIn (start : Start) (room : List ℕ) (n : ℕ) : Type 0 where
   pub given : List FaultValue
   pub last : Mark
-  pub led : LeadTo subject.font subject.waivers mark given last
-  pub none : HasNoneLater subject.font subject.waivers last
+  pub led : LeadTo start.subject.font start.subject.waivers start.mark given last
+  pub none : HasNoneLater start.subject.font start.subject.waivers last
   pub within : n ≤ length room
-  pub text : take n room ≡ before ++ (results_of subject state given ++ closing (state_after subject state given))
+  pub text : take n room ≡ start.before ++ (results_of start.subject start.state given ++ closing (state_after start.subject start.state given))
 
-abbrev pub IsPartOf : Subject → Reached → SarifState → Mark → Reached → List ℕ → Piece → Type 0
-IsPartOf subject reached state mark reached' room (Last n) = IsEndIn subject (front subject.pages reached.stage) state mark room n
-IsPartOf subject reached state mark reached' room (More n) = AreAsManyAsFit subject (front subject.pages reached.stage) state mark reached' room n
-IsPartOf subject reached state mark reached' room NoRoom = (reached' ≡ reached) × IsFullAt subject reached.stage state mark room 0
-IsPartOf subject reached state mark reached' room (Refused n) = ⊥
-IsPartOf subject reached state mark reached' room Memory = reached' ≡ reached
+abbrev pub IsPartOf : Start → Reached → Reached → List ℕ → Piece → Type 0
+IsPartOf start reached reached' room (Last n) = IsEndIn start room n
+IsPartOf start reached reached' room (More n) = AreAsManyAsFit start reached' room n
+IsPartOf start reached reached' room NoRoom = (reached' ≡ reached) × IsFullAt start.subject reached.stage start.state start.mark room 0
+IsPartOf start reached reached' room (Refused n) = ⊥
+IsPartOf start reached reached' room Memory = reached' ≡ reached
 
 -- From a place that the document was handed over to. Of another one nothing is promised.
 abbrev pub IsDocumentPieceOf : Subject → Reached → Reached → List ℕ → Piece → Type 0
 IsDocumentPieceOf subject reached reached' room piece =
-    (state : SarifState) (mark : Mark) → StandsFor subject reached state mark → IsPartOf subject reached state mark reached' room piece
+    (state : SarifState) (mark : Mark) → StandsFor subject reached state mark
+    → IsPartOf (start_at subject reached state mark) reached reached' room piece
 
--- By what the font and the waivers are read as: why the font isn't read comes first.
-abbrev pub IsDocumentPiece : PagesValue → List ℕ → Edition → Result FontValue Reason → Result (List Waiver) Reason → Reached → Reached → List ℕ → Piece
-    → Type 0
-IsDocumentPiece pages name edition (Err reason) waivers reached reached' room piece = IsRefusalFor reason reached reached' room piece
-IsDocumentPiece pages name edition (Ok font) (Err reason) reached reached' room piece = IsRefusalFor reason reached reached' room piece
-IsDocumentPiece pages name edition (Ok font) (Ok waivers) reached reached' room piece =
-    IsDocumentPieceOf (record { name = name; pages = pages; font = checked font edition; waivers = waivers }) reached reached' room piece
+-- By what the font and the waivers are read as.
+abbrev pub IsDocumentPiece : Result Subject Reason → Reached → Reached → List ℕ → Piece → Type 0
+IsDocumentPiece (Err reason) reached reached' room piece = IsRefusalFor reason reached reached' room piece
+IsDocumentPiece (Ok subject) reached reached' room piece = IsDocumentPieceOf subject reached reached' room piece
 
--- ---- before a refusal is put into the room
-
-abbrev pub IsWaivedDocumentPiece : PagesValue → List ℕ → CheckedFont → Result (List Waiver) Reason → Reached → Reached → List ℕ → Piece → Type 0
-IsWaivedDocumentPiece pages name font read reached reached' room piece =
-    (waivers : List Waiver) × ((read ≡ Ok waivers)
-    × IsDocumentPieceOf (record { name = name; pages = pages; font = font; waivers = waivers }) reached reached' room piece)
-
-abbrev pub IsReadDocumentPiece : PagesValue → List ℕ → Edition → Result FontValue Reason → Result (List Waiver) Reason → Reached → Reached → List ℕ
-    → Piece → Type 0
-IsReadDocumentPiece pages name edition read waived reached reached' room piece =
-    (font : FontValue) × ((read ≡ Ok font) × IsWaivedDocumentPiece pages name (checked font edition) waived reached reached' room piece)
+-- The same without refusals, which are put into the room later.
+abbrev pub IsReadDocumentPiece : Result Subject Reason → Reached → Reached → List ℕ → Piece → Type 0
+IsReadDocumentPiece (Err reason) reached reached' room piece = ⊥
+IsReadDocumentPiece (Ok subject) reached reached' room piece = IsDocumentPieceOf subject reached reached' room piece

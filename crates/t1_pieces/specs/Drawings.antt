@@ -1,14 +1,12 @@
 -- What a call hands over of a picture, or why there is none.
 use Rattle.std.specs.Prelude.{◌≡◌, ◌≤◌, ◌<◌, ℕ, List, length, take, Option, None, Some, Result, Ok, Err}
-use Rattle.t1_char.specs.declared.edition.Edition.{Edition}
-use Rattle.t1_font.specs.Fonts.{FontValue}
 use Rattle.t1_refusals.specs.RefusalCodes.{refusal_code_of}
 use Rattle.t1_refusals.specs.RefusalTexts.{refusal_text_of}
 use Rattle.t1_refusals.specs.declared.refusal.Reason.{Reason}
 use Rattle.t1_refusals.specs.declared.refusal.RefusalCode.{RefusalCode}
 use Rattle.t1_picture.specs.Pictures.{IsPictureOf}
-use Rattle.t1_report.specs.Waivers.{Waiver}
 use Rattle.t1_rules.specs.Components.{glyph_named}
+use Rattle.t1_pieces.specs.Reading.{Input}
 use Rattle.t1_pieces.specs.declared.picture_result.PictureResult.{PictureResult}
 use Rattle.t1_pieces.specs.declared.picture_result.PictureResult.TheVariants.{Memory, NoGlyph, NoRoom, Picture, Refused}
 
@@ -29,41 +27,32 @@ IsRefusedBy code room NoGlyph = ⊥
 IsRefusedBy code room Memory = ⊥
 
 -- The picture of the glyph of a name, up to a step if one is given; or the font has no such glyph.
-abbrev pub IsTextAt : Edition → Option ℕ → FontValue → List Waiver → Option ℕ → Option (List ℕ) → Type 0
-IsTextAt edition step font waivers None text = text ≡ None
-IsTextAt edition step font waivers (Some glyph) None = ⊥
-IsTextAt edition step font waivers (Some glyph) (Some text) =
-    IsPictureOf (record { font = font; edition = edition; waivers = waivers; glyph = glyph; step = step }) text
+abbrev pub IsTextAt : Option ℕ → Input → Option ℕ → Option (List ℕ) → Type 0
+IsTextAt step input None text = text ≡ None
+IsTextAt step input (Some glyph) None = ⊥
+IsTextAt step input (Some glyph) (Some text) =
+    IsPictureOf (record { font = input.font.value; edition = input.font.edition; waivers = input.waivers; glyph = glyph; step = step }) text
 
-abbrev pub IsText : Edition → List ℕ → Option ℕ → FontValue → List Waiver → Option (List ℕ) → Type 0
-IsText edition name step font waivers text = IsTextAt edition step font waivers (glyph_named font name) text
+abbrev pub IsText : List ℕ → Option ℕ → Input → Option (List ℕ) → Type 0
+IsText name step input text = IsTextAt step input (glyph_named input.font.value name) text
 
 -- What is handed over of a font and waivers that are read.
-pub data IsDrawn (edition : Edition) (name : List ℕ) (step : Option ℕ) (font : FontValue) (waivers : List Waiver) (room : List ℕ)
-    (drawn : PictureResult) : Type 0 where
-  picture :
-      (text : List ℕ) → IsText edition name step font waivers (Some text) → IsTextIn text room drawn
-      → IsDrawn edition name step font waivers room drawn
-  no_glyph : glyph_named font name ≡ None → drawn ≡ NoGlyph → IsDrawn edition name step font waivers room drawn
-  no_memory : drawn ≡ Memory → IsDrawn edition name step font waivers room drawn
+pub data IsDrawn (name : List ℕ) (step : Option ℕ) (input : Input) (room : List ℕ) (drawn : PictureResult) : Type 0 where
+  picture : (text : List ℕ) → IsText name step input (Some text) → IsTextIn text room drawn → IsDrawn name step input room drawn
+  no_glyph : glyph_named input.font.value name ≡ None → drawn ≡ NoGlyph → IsDrawn name step input room drawn
+  no_memory : drawn ≡ Memory → IsDrawn name step input room drawn
 
 -- They are refused for this reason, or memory ran out.
 pub data IsRefused (reason : Reason) (room : List ℕ) (drawn : PictureResult) : Type 0 where
   refused : (code : RefusalCode) → refusal_code_of reason ≡ Some code → IsRefusedBy code room drawn → IsRefused reason room drawn
   no_memory : drawn ≡ Memory → IsRefused reason room drawn
 
--- By what the font and the waivers are read as: why the font isn't read comes first.
-abbrev pub IsDrawing : Edition → List ℕ → Option ℕ → Result FontValue Reason → Result (List Waiver) Reason → List ℕ → PictureResult → Type 0
-IsDrawing edition name step (Err reason) waivers room drawn = IsRefused reason room drawn
-IsDrawing edition name step (Ok font) (Err reason) room drawn = IsRefused reason room drawn
-IsDrawing edition name step (Ok font) (Ok waivers) room drawn = IsDrawn edition name step font waivers room drawn
+-- By what the font and the waivers are read as.
+abbrev pub IsDrawing : List ℕ → Option ℕ → Result Input Reason → List ℕ → PictureResult → Type 0
+IsDrawing name step (Err reason) room drawn = IsRefused reason room drawn
+IsDrawing name step (Ok input) room drawn = IsDrawn name step input room drawn
 
--- ---- before it is put into the room
-
-abbrev pub IsWaivedText : Edition → List ℕ → Option ℕ → FontValue → Result (List Waiver) Reason → Option (List ℕ) → Type 0
-IsWaivedText edition name step font read text =
-    (waivers : List Waiver) × ((read ≡ Ok waivers) × IsText edition name step font waivers text)
-
-abbrev pub IsReadText : Edition → List ℕ → Option ℕ → Result FontValue Reason → Result (List Waiver) Reason → Option (List ℕ) → Type 0
-IsReadText edition name step read waived text =
-    (font : FontValue) × ((read ≡ Ok font) × IsWaivedText edition name step font waived text)
+-- Before it is put into the room, without refusals.
+abbrev pub IsReadText : List ℕ → Option ℕ → Result Input Reason → Option (List ℕ) → Type 0
+IsReadText name step (Err reason) text = ⊥
+IsReadText name step (Ok input) text = IsText name step input text

@@ -1,12 +1,10 @@
 //! Handing over a document of SARIF.
 
-ghost use Rattle.std.specs.Prelude.{◌≡◌, IfErr, IfOk, OnErr, length};
+ghost use Rattle.std.specs.Prelude.{◌≡◌, IfErr, IfOk, Ok, OnErr, length};
 ghost use Rattle.t1_forms.specs.PageValues.{pages_value};
-ghost use Rattle.t1_report.specs.Checked.{checked};
-ghost use Rattle.t1_run.specs.FontFiles.{font_of};
 ghost use Rattle.t1_run.specs.WaiverFiles.{waivers_in};
-ghost use Rattle.t1_pieces.specs.Documents.{IsDocumentPiece, IsReadDocumentPiece, IsWaivedDocumentPiece};
-ghost use Rattle.t1_pieces.specs.Reading.{IsFailureFor, IsFailureOf};
+ghost use Rattle.t1_pieces.specs.Documents.{IsDocumentPiece, IsReadDocumentPiece, subject_read};
+ghost use Rattle.t1_pieces.specs.Reading.{IsFailureOf, input_in, input_of};
 
 use crate::filling_documents::fill_document;
 use crate::piece::Piece;
@@ -43,8 +41,8 @@ pub fn document(
     reached: &mut Reached,
     room: &mut [u8],
 ) -> Piece
-    ensures piece { IsDocumentPiece (pages_value request.now.pages) request.now.name.now request.now.edition (font_of request.now.font.now)
-        (waivers_in request.now.waivers.now) reached.old reached.new room.new result }
+    ensures piece { IsDocumentPiece (subject_read request.now.name.now (pages_value request.now.pages)
+        (input_in request.now.edition request.now.font.now request.now.waivers.now)) reached.old reached.new room.new result }
     ensures length { length room.new ≡ length room.old }
 {
     match document_of_file(alloc, request, reached, room) {
@@ -61,9 +59,9 @@ fn document_of_file(
     reached: &mut Reached,
     room: &mut [u8],
 ) -> Result<Piece, Failure>
-    ensures piece { IfOk result (IsReadDocumentPiece (pages_value request.now.pages) request.now.name.now request.now.edition (font_of request.now.font.now)
-        (waivers_in request.now.waivers.now) reached.old reached.new room.new) }
-    ensures failed { IfErr result (IsFailureFor (font_of request.now.font.now) (waivers_in request.now.waivers.now)) }
+    ensures piece { IfOk result (IsReadDocumentPiece (subject_read request.now.name.now (pages_value request.now.pages)
+        (input_in request.now.edition request.now.font.now request.now.waivers.now)) reached.old reached.new room.new) }
+    ensures failed { IfErr result (IsFailureOf (input_in request.now.edition request.now.font.now request.now.waivers.now)) }
     ensures reached { OnErr result (reached.new ≡ reached.old) }
     ensures length { length room.new ≡ length room.old }
 {
@@ -82,9 +80,9 @@ fn document_of_font(
     reached: &mut Reached,
     room: &mut [u8],
 ) -> Result<Piece, Failure>
-    ensures piece { IfOk result (IsWaivedDocumentPiece (pages_value request.now.pages) request.now.name.now (checked font.now request.now.edition)
-        (waivers_in request.now.waivers.now) reached.old reached.new room.new) }
-    ensures failed { IfErr result (IsFailureOf (waivers_in request.now.waivers.now)) }
+    ensures piece { IfOk result (IsReadDocumentPiece (subject_read request.now.name.now (pages_value request.now.pages)
+        (input_of request.now.edition (Ok font.now) (waivers_in request.now.waivers.now))) reached.old reached.new room.new) }
+    ensures failed { IfErr result (IsFailureOf (input_of request.now.edition (Ok font.now) (waivers_in request.now.waivers.now))) }
     ensures reached { OnErr result (reached.new ≡ reached.old) }
     ensures length { length room.new ≡ length room.old }
 {

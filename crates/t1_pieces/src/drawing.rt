@@ -1,10 +1,9 @@
 //! From the bytes of a font and of waivers to a picture.
 
-ghost use Rattle.std.specs.Prelude.{◌≡◌, IfErr, IfOk, Option, length, option_map, string_bytes};
-ghost use Rattle.t1_run.specs.FontFiles.{font_of};
+ghost use Rattle.std.specs.Prelude.{◌≡◌, IfErr, IfOk, Ok, Option, length, option_map, string_bytes};
 ghost use Rattle.t1_run.specs.WaiverFiles.{waivers_in};
-ghost use Rattle.t1_pieces.specs.Drawings.{IsDrawing, IsReadText, IsRefusedBy, IsTextIn, IsWaivedText};
-ghost use Rattle.t1_pieces.specs.Reading.{IsFailureFor, IsFailureOf};
+ghost use Rattle.t1_pieces.specs.Drawings.{IsDrawing, IsReadText, IsRefusedBy, IsTextIn};
+ghost use Rattle.t1_pieces.specs.Reading.{IsFailureOf, input_in, input_of};
 
 use crate::picture_request::PictureRequest;
 use crate::picture_result::PictureResult;
@@ -19,8 +18,8 @@ use t1_run::Failure;
 
 /// Hands over the picture of a glyph, as t1draw makes it.
 pub fn picture(alloc: Global, request: &PictureRequest<'_>, room: &mut [u8]) -> PictureResult
-    ensures drawing { IsDrawing request.now.edition request.now.glyph.now request.now.step (font_of request.now.font.now)
-        (waivers_in request.now.waivers.now) room.new result }
+    ensures drawing { IsDrawing request.now.glyph.now request.now.step
+        (input_in request.now.edition request.now.font.now request.now.waivers.now) room.new result }
     ensures length { length room.new ≡ length room.old }
 {
     match text_of_file(alloc, request) {
@@ -58,9 +57,9 @@ fn put_refusal(code: RefusalCode, room: &mut [u8]) -> PictureResult
 
 /// Reads the font, and draws the glyph: None where it has none of the name.
 fn text_of_file(alloc: Global, request: &PictureRequest<'_>) -> Result<Option<String>, Failure>
-    ensures text { IfOk result (λ text. IsReadText request.now.edition request.now.glyph.now request.now.step (font_of request.now.font.now)
-        (waivers_in request.now.waivers.now) (option_map string_bytes text)) }
-    ensures failed { IfErr result (IsFailureFor (font_of request.now.font.now) (waivers_in request.now.waivers.now)) }
+    ensures text { IfOk result (λ text. IsReadText request.now.glyph.now request.now.step
+        (input_in request.now.edition request.now.font.now request.now.waivers.now) (option_map string_bytes text)) }
+    ensures failed { IfErr result (IsFailureOf (input_in request.now.edition request.now.font.now request.now.waivers.now)) }
 {
     let mut file = open(alloc, request.font)?;
     let font = file.font(alloc)?;
@@ -75,9 +74,9 @@ fn text_of_font(
     font: &Font<'_>,
     request: &PictureRequest<'_>,
 ) -> Result<Option<String>, Failure>
-    ensures text { IfOk result (λ text. IsWaivedText request.now.edition request.now.glyph.now request.now.step font.now
-        (waivers_in request.now.waivers.now) (option_map string_bytes text)) }
-    ensures failed { IfErr result (IsFailureOf (waivers_in request.now.waivers.now)) }
+    ensures text { IfOk result (λ text. IsReadText request.now.glyph.now request.now.step
+        (input_of request.now.edition (Ok font.now) (waivers_in request.now.waivers.now)) (option_map string_bytes text)) }
+    ensures failed { IfErr result (IsFailureOf (input_of request.now.edition (Ok font.now) (waivers_in request.now.waivers.now))) }
 {
     let waivers = read_waivers(alloc, request.waivers)?;
     let Some(glyph) = glyph_named(font, request.glyph) else {

@@ -26,7 +26,8 @@ pub(crate) fn fill<'a>(
     room: &mut [u8],
 ) -> Piece
     requires { AreOf font.now sidebearings.now }
-    ensures piece { IsPieceOf form.entry (checked font.now sidebearings.now.edition) waivers.now mark.old mark.new room.new result }
+    ensures piece { IsPieceOf form.entry
+        (record { font = checked font.now sidebearings.now.edition; waivers = waivers.now }) mark.old mark.new room.new result }
     ensures length { length room.new ≡ length room.old }
 {
     let mut writer = LineWriter::new(alloc, form, font, sidebearings);
@@ -47,7 +48,7 @@ fn fill_from(
     requires reasons { writer.old.reasons ≡ walk.font }
     requires waivers { walk.waivers ≡ waivers.now }
     requires mark { walk.mark ≡ mark.old }
-    ensures piece { IsPieceOf writer.old.form walk.entry.font waivers.now mark.old mark.new room.new result }
+    ensures piece { IsPieceOf writer.old.form (record { font = walk.entry.font; waivers = waivers.now }) mark.old mark.new room.new result }
     ensures length { length room.new ≡ length room.old }
 {
     let mut used = 0;

@@ -6,8 +6,8 @@ ghost use Rattle.t1_forms.specs.Sarif.{SarifState, closing, opening, sarif_state
 ghost use Rattle.t1_report.specs.Checked.{checked};
 ghost use Rattle.t1_report.specs.declared.marks.Mark.{Mark as Marks};
 ghost use Rattle.t1_rules.specs.Components.{AreOf};
-ghost use Rattle.t1_pieces.specs.Documents.{IsDocumentPieceOf, IsPartOf, StandsFor, subject_for};
-ghost use Rattle.t1_pieces.specs.DocumentParts.{IsEndPut, IsRestOf};
+ghost use Rattle.t1_pieces.specs.Documents.{IsDocumentPieceOf, IsPartOf, StandsFor, start_at, subject_for};
+ghost use Rattle.t1_pieces.specs.DocumentParts.{IsEndPut, IsRestOf, start_of};
 ghost use Rattle.t1_pieces.specs.declared.stage.Stage.TheVariants.{Nothing};
 
 use crate::document_writer::DocumentWriter;
@@ -100,8 +100,8 @@ fn fill_opened(
     requires text { reached.old.stage ≡ Nothing → writer.results.out.bytes.items ≡ opening (pages_value writer.request.now.pages) }
     ensures piece { StandsFor (subject_for writer.entry.request.now walk.entry.font waivers.now) reached.old
         (sarif_state writer.entry.results.formatter) walk.entry.mark
-        → IsPartOf (subject_for writer.entry.request.now walk.entry.font waivers.now) reached.old
-        (sarif_state writer.entry.results.formatter) walk.entry.mark reached.new room.new result }
+        → IsPartOf (start_at (subject_for writer.entry.request.now walk.entry.font waivers.now) reached.old
+        (sarif_state writer.entry.results.formatter) walk.entry.mark) reached.old reached.new room.new result }
     ensures length { length room.new ≡ length room.old }
 {
     let mut at = *reached;
@@ -146,8 +146,8 @@ fn fill_results(
     requires begun { ¬ (filled.at.stage ≡ Nothing) }
     ensures rest { StandsFor (subject_for writer.entry.request.now walk.entry.font waivers.now) filled.at
         (sarif_state writer.entry.results.formatter) walk.entry.mark
-        → IsRestOf (subject_for writer.entry.request.now walk.entry.font waivers.now) (take filled.used room.old)
-        (sarif_state writer.entry.results.formatter) walk.entry.mark filled.at reached.old reached.new room.new result }
+        → IsRestOf (start_of writer.entry walk.entry waivers.now (take filled.used room.old))
+        filled.at reached.old reached.new room.new result }
     ensures length { length room.new ≡ length room.old }
 {
     let mut at = filled.at;
@@ -184,7 +184,8 @@ fn fill_end(
     room: &mut [u8],
 ) -> Piece
     requires within { used ≤ length room.old }
-    ensures end { IsEndPut (closing (sarif_state writer.entry.results.formatter)) used at reached.old reached.new room.old room.new result }
+    ensures end { IsEndPut (closing (sarif_state writer.entry.results.formatter)) used at
+        (record { reached = reached.old; room = room.old }) (record { reached = reached.new; room = room.new }) result }
     ensures length { length room.new ≡ length room.old }
 {
     let Ok(end) = writer.end() else {

@@ -1,11 +1,10 @@
 //! From the bytes of a font and of waivers to lines.
 
 ghost use Rattle.std.specs.Prelude.{◌≡◌, IfErr, IfOk, Ok, OnErr, length};
-ghost use Rattle.t1_report.specs.Checked.{checked};
 ghost use Rattle.t1_run.specs.FontFiles.{font_of, with_reason};
 ghost use Rattle.t1_run.specs.WaiverFiles.{waivers_in};
-ghost use Rattle.t1_pieces.specs.Pieces.{IsPiece, IsReadPiece, IsWaivedPiece};
-ghost use Rattle.t1_pieces.specs.Reading.{IsFailureFor, IsFailureOf};
+ghost use Rattle.t1_pieces.specs.Pieces.{IsPiece, IsReadPiece};
+ghost use Rattle.t1_pieces.specs.Reading.{IsFailureOf, input_in, input_of};
 
 use crate::filling::fill;
 use crate::piece::Piece;
@@ -21,8 +20,8 @@ use t1_run::{Failure, LARGEST_FILE};
 /// Hands over the lines of a font's report after a mark, as many as the room holds, and moves the mark to the last of
 /// them. Of the mark of four zeros they are the first lines.
 pub fn lines(alloc: Global, request: &Request<'_>, mark: &mut Mark, room: &mut [u8]) -> Piece
-    ensures piece { IsPiece request.now.form request.now.edition (font_of request.now.font.now) (waivers_in request.now.waivers.now) mark.old
-        mark.new room.new result }
+    ensures piece { IsPiece request.now.form (input_in request.now.edition request.now.font.now request.now.waivers.now)
+        mark.old mark.new room.new result }
     ensures length { length room.new ≡ length room.old }
 {
     match lines_of_file(alloc, request, mark, room) {
@@ -39,9 +38,9 @@ fn lines_of_file(
     mark: &mut Mark,
     room: &mut [u8],
 ) -> Result<Piece, Failure>
-    ensures piece { IfOk result (IsReadPiece request.now.form request.now.edition (font_of request.now.font.now)
-        (waivers_in request.now.waivers.now) mark.old mark.new room.new) }
-    ensures failed { IfErr result (IsFailureFor (font_of request.now.font.now) (waivers_in request.now.waivers.now)) }
+    ensures piece { IfOk result (IsReadPiece request.now.form (input_in request.now.edition request.now.font.now request.now.waivers.now)
+        mark.old mark.new room.new) }
+    ensures failed { IfErr result (IsFailureOf (input_in request.now.edition request.now.font.now request.now.waivers.now)) }
     ensures mark { OnErr result (mark.new ≡ mark.old) }
     ensures length { length room.new ≡ length room.old }
 {
@@ -60,9 +59,9 @@ fn lines_of_font(
     mark: &mut Mark,
     room: &mut [u8],
 ) -> Result<Piece, Failure>
-    ensures piece { IfOk result (IsWaivedPiece request.now.form (checked font.now request.now.edition)
-        (waivers_in request.now.waivers.now) mark.old mark.new room.new) }
-    ensures failed { IfErr result (IsFailureOf (waivers_in request.now.waivers.now)) }
+    ensures piece { IfOk result (IsReadPiece request.now.form (input_of request.now.edition (Ok font.now) (waivers_in request.now.waivers.now))
+        mark.old mark.new room.new) }
+    ensures failed { IfErr result (IsFailureOf (input_of request.now.edition (Ok font.now) (waivers_in request.now.waivers.now))) }
     ensures mark { OnErr result (mark.new ≡ mark.old) }
     ensures length { length room.new ≡ length room.old }
 {

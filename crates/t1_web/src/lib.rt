@@ -11,9 +11,8 @@ mod numbers;
 
 ghost use Rattle.std.specs.Prelude.{List, None, map};
 ghost use Rattle.t1_forms.specs.PageValues.{PageValue, page_value};
-ghost use Rattle.t1_pieces.specs.Documents.{IsDocumentPiece};
-ghost use Rattle.t1_run.specs.FontFiles.{font_of};
-ghost use Rattle.t1_run.specs.WaiverFiles.{waivers_in};
+ghost use Rattle.t1_pieces.specs.Documents.{IsDocumentPiece, subject_read};
+ghost use Rattle.t1_pieces.specs.Reading.{input_in};
 ghost use Rattle.t1_web.specs.Answers.{AreHandedOver, IsDocumentHandedOver, IsPictureHandedOver};
 ghost use Rattle.t1_web.specs.Numbers.{edition_of, mark_of, reached_of, step_of};
 
@@ -70,8 +69,8 @@ pub extern "C" fn t1_web_lines(
     room: &mut [u8],
     written: &mut usize,
 ) -> u32
-    ensures { AreHandedOver form name.now (edition_of edition) font.now waivers.now (mark_of mark.old) (mark_of mark.new) room.new
-        written.new result }
+    ensures { AreHandedOver form name.now (input_in (edition_of edition) font.now waivers.now) (mark_of mark.old) (mark_of mark.new)
+        (record { room = room.new; written = written.new; status = result }) }
 {
     let Some(form) = form_of(form, name) else {
         *written = 0;
@@ -111,8 +110,9 @@ pub extern "C" fn t1_web_document(
     room: &mut [u8],
     written: &mut usize,
 ) -> u32
-    ensures { (list : List PageValue) × IsDocumentHandedOver (record { list = list; docs = None }) name.now (edition_of edition)
-        font.now waivers.now (reached_of reached.old) (reached_of reached.new) room.new written.new result }
+    ensures { (list : List PageValue) × IsDocumentHandedOver (record { list = list; docs = None }) name.now
+        (input_in (edition_of edition) font.now waivers.now) (reached_of reached.old) (reached_of reached.new)
+        (record { room = room.new; written = written.new; status = result }) }
 {
     let Ok(name) = str::from_utf8(name) else {
         *written = 0;
@@ -151,8 +151,8 @@ fn document_with<'a>(
     place: &mut Reached,
     room: &mut [u8],
 ) -> Piece
-    ensures { IsDocumentPiece (record { list = map page_value list.now; docs = None }) name.now (edition_of edition) (font_of font.now)
-        (waivers_in waivers.now) place.old place.new room.new result }
+    ensures { IsDocumentPiece (subject_read name.now (record { list = map page_value list.now; docs = None })
+        (input_in (edition_of edition) font.now waivers.now)) place.old place.new room.new result }
 {
     let request = DocumentRequest {
         font,
@@ -177,7 +177,8 @@ pub extern "C" fn t1_web_picture(
     room: &mut [u8],
     written: &mut usize,
 ) -> u32
-    ensures { IsPictureHandedOver (edition_of edition) glyph.now (step_of step) font.now waivers.now room.new written.new result }
+    ensures { IsPictureHandedOver glyph.now (step_of step) (input_in (edition_of edition) font.now waivers.now)
+        (record { room = room.new; written = written.new; status = result }) }
 {
     let request = PictureRequest {
         font,

@@ -4,6 +4,7 @@ use Rattle.t1_pieces.proofs.GivenLines.{at_walk, is_full, line_length, none_give
 use Rattle.t1_pieces.proofs.filling.fill_from.Goals as goal
 use Rattle.t1_pieces.specs.Forms.{line_as}
 use Rattle.t1_pieces.specs.Pieces.{AreGiven}
+use Rattle.t1_pieces.specs.Reading.{Input}
 use Rattle.t1_pieces.specs.declared.form.Form.{Form}
 use Rattle.t1_report.specs.Checked.{CheckedFont}
 use Rattle.t1_report.specs.Faults.{fault_value}
@@ -21,7 +22,7 @@ loop-fault-init c = record {
   kept = refl;
   form = refl;
   reasons = c.requires.reasons;
-  given = none_given c.args.writer.now.form c.args.walk.font c.args.waivers.now c.args.mark.now c.args.room.now;
+  given = none_given c.args.writer.now.form (record { font = c.args.walk.font; waivers = c.args.waivers.now }) c.args.mark.now c.args.room.now;
   size = refl;
   start = λ _. refl;
 }
@@ -56,8 +57,8 @@ returns-then-line-room-clause-piece c =
     let font = c.args.walk.font in
     let waivers = c.args.waivers.now in
     let fault = fault_value c.in-Some.fault in
-    is_full form font waivers c.args.mark.now c.loop-fault.reached c.loop-fault.room c.as_bytes-line.result.now c.loop-fault.used fault c.full.result
-    c.loop-fault.invariant.given c.loop-fault.invariant.start
+    is_full form (record { font = font; waivers = waivers }) c.args.mark.now c.loop-fault.reached c.loop-fault.room c.as_bytes-line.result.now
+    c.loop-fault.used fault c.full.result c.loop-fault.invariant.given c.loop-fault.invariant.start
     (at_walk (λ (f : CheckedFont) (w : List Waiver) (m : Mark). IsNext f w m fault) _ _ _ _ _ _ c.loop-fault.invariant.font
     c.loop-fault.invariant.waivers c.loop-fault.invariant.mark c.in-Some.ensures.next)
     (c.as_bytes-line.ensures ∙ c.in-Ok.ensures.line
@@ -86,6 +87,7 @@ loop-fault-preserved c =
     let form = c.args.writer.now.form in
     let font = c.args.walk.font in
     let waivers = c.args.waivers.now in
+    let input : Input = record { font = font; waivers = waivers } in
     let fault = fault_value c.in-Some.fault in
     let is : c.as_bytes-line.result.now ≡ line_as form font waivers fault =
     c.as_bytes-line.ensures ∙ c.in-Ok.ensures.line
@@ -103,10 +105,10 @@ loop-fault-preserved c =
       kept = c.loop-fault.invariant.kept;
       form = c.in-Ok.ensures.form ∙ c.loop-fault.invariant.form;
       reasons = c.in-Ok.ensures.reasons ∙ c.loop-fault.invariant.reasons;
-      given = subst (λ (m : Mark). AreGiven form font waivers c.args.mark.now m c.put_after.new.room
+      given = subst (λ (m : Mark). AreGiven form input c.args.mark.now m c.put_after.new.room
           (c.loop-fault.used + length c.as_bytes-line.result.now))
           (sym (c.mark-reached.ensures ∙ ap (λ (w : WalkView). w.mark) c.in-Some.ensures.state))
-          (one_given form font waivers c.args.mark.now c.loop-fault.reached c.loop-fault.room c.put_after.new.room c.as_bytes-line.result.now
+          (one_given form input c.args.mark.now c.loop-fault.reached c.loop-fault.room c.put_after.new.room c.as_bytes-line.result.now
           c.loop-fault.used fault c.loop-fault.invariant.given
           (at_walk (λ (f : CheckedFont) (w : List Waiver) (m : Mark). IsNext f w m fault) _ _ _ _ _ _ c.loop-fault.invariant.font
           c.loop-fault.invariant.waivers c.loop-fault.invariant.mark c.in-Some.ensures.next)

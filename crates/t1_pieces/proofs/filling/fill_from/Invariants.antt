@@ -10,7 +10,7 @@ invariant-loop-fault l = record {
   kept : l.mark ≡ l.fn.mark;
   form : l.writer.form ≡ l.fn.writer.form;
   reasons : l.writer.reasons ≡ l.fn.walk.font;
-  given : AreGiven l.fn.writer.form l.fn.walk.font l.waivers l.fn.mark l.reached l.room l.used;
+  given : AreGiven l.fn.writer.form (record { font = l.fn.walk.font; waivers = l.waivers }) l.fn.mark l.reached l.room l.used;
   size : length l.room ≡ length l.fn.room;
   start : l.used ≡ 0 → l.reached ≡ l.fn.mark;
 }

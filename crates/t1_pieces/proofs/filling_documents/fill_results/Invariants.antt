@@ -1,7 +1,7 @@
 use Rattle.std.proofs.Common.{◌≡◌, ◌-◌, length, take}
 use Rattle.t1_forms.specs.Sarif.{sarif_state}
 use Rattle.t1_pieces.proofs.DocumentResults.{AreSoFar}
-use Rattle.t1_pieces.specs.Documents.{subject_for}
+use Rattle.t1_pieces.specs.DocumentParts.{start_of}
 use Rattle.t1_pieces.proofs.filling_documents.fill_results.Given as goal
 
 abbrev pub invariant-loop-fault : goal.invariant-loop-fault
@@ -13,8 +13,8 @@ invariant-loop-fault l = record {
   kept : l.reached ≡ l.fn.reached;
   size : length l.room ≡ length l.fn.room;
   first : l.used ≡ 0 → l.fn.filled.used ≡ 0;
-  so_far : AreSoFar (subject_for l.fn.writer.request.now l.fn.walk.font l.waivers) (take l.fn.filled.used l.fn.room)
-      (sarif_state l.fn.writer.results.formatter) l.fn.walk.mark l.fn.filled.at l.at l.walk.mark (sarif_state l.writer.results.formatter) l.room l.used;
+  so_far : AreSoFar (start_of l.fn.writer l.fn.walk l.waivers (take l.fn.filled.used l.fn.room)) l.fn.filled.at
+      l.at l.walk.mark (sarif_state l.writer.results.formatter) l.room l.used;
 }
 
 abbrev pub decreases-loop-fault : goal.decreases-loop-fault
