@@ -1,15 +1,16 @@
-//! The editions of the rule book: which steps of a glyph are looked at.
+//! The editions of the rule book: which steps of a glyph are looked at, and by which rules.
 
 ghost use Rattle.std.specs.Prelude.{◌≡◌, ◌≤◌};
 ghost use Rattle.t1_char.specs.declared.edition.Edition.TheVariants.{Two};
-ghost use Rattle.t1_char.specs.Editions.{edition_numbered, knows_one_edge, limit_of};
+ghost use Rattle.t1_char.specs.Editions.{edition_numbered, has_later_rules, knows_one_edge, limit_of};
 
 /// An edition of the rule book. The second looks at ten times as many steps of a glyph, and has a word of
-/// its own for stems of one edge.
+/// its own for stems of one edge. The third is the second with the rules after number 70.
 #[derive(Clone, Copy, Debug, PartialEq, Eq)]
 pub enum Edition {
     One,
     Two,
+    Three,
 }
 
 impl Edition {
@@ -20,6 +21,7 @@ impl Edition {
         match number {
             1 => Some(Edition::One),
             2 => Some(Edition::Two),
+            3 => Some(Edition::Three),
             _ => None,
         }
     }
@@ -31,7 +33,7 @@ impl Edition {
     {
         match self {
             Edition::One => 100_000,
-            Edition::Two => 1_000_000,
+            Edition::Two | Edition::Three => 1_000_000,
         }
     }
 
@@ -41,7 +43,17 @@ impl Edition {
     {
         match self {
             Edition::One => false,
-            Edition::Two => true,
+            Edition::Two | Edition::Three => true,
+        }
+    }
+
+    /// Whether it has the rules after number 70.
+    pub fn has_later_rules(self) -> bool
+        ensures { result ≡ has_later_rules self }
+    {
+        match self {
+            Edition::One | Edition::Two => false,
+            Edition::Three => true,
         }
     }
 }

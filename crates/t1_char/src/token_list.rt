@@ -1,12 +1,17 @@
 //! All tokens of a charstring: Type 1 Font Format 1.1, chapters 6 and 7.
 
+ghost use Rattle.std.specs.List.{list_any};
 ghost use Rattle.std.specs.Prelude.{◌≡◌, IfOk, negsuc, pos, ◌≤ℤ◌};
 ghost use Rattle.t1_font.specs.Bounds.{greatest_len_iv};
+ghost use Rattle.t1_char.specs.Charstrings.{tokens_in};
+ghost use Rattle.t1_char.specs.Steps.{is_return};
 ghost use Rattle.t1_char.specs.Tokens.{charstring_tokens};
 
+use crate::charstrings::cursor_at;
 use crate::cursor::Cursor;
-use crate::token::CharToken;
+use crate::token::{CharToken, is_return};
 use std::alloc::{AllocError, Global};
+use t1_font::Font;
 
 /// The tokens of a charstring as it is in the font, by lenIV: -1 for charstrings that aren't
 /// encrypted, else how many random bytes come first, at most 64.
@@ -22,6 +27,22 @@ pub fn tokens(alloc: Global, code: &[u8], len_iv: i8) -> Result<Vec<CharToken>, 
         tokens.push(token)?;
         if matches!(token, CharToken::End) {
             return Ok(tokens);
+        }
+    }
+}
+
+/// Whether one of the tokens of a charstring of a font is the command return. No memory is taken.
+pub fn has_return(font: &Font<'_>, code: &[u8]) -> bool
+    ensures { result ≡ list_any is_return (tokens_in font.now code.now) }
+{
+    let mut cursor = cursor_at(font, code);
+    loop {
+        let token = cursor.next_token();
+        if is_return(token) {
+            return true;
+        }
+        if matches!(token, CharToken::End) {
+            return false;
         }
     }
 }

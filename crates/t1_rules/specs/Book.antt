@@ -4,7 +4,7 @@ use Rattle.t1_font.specs.Keys.{same_name}
 use Rattle.t1_rules.specs.declared.level.Level.{Level}
 use Rattle.t1_rules.specs.declared.level.Level.TheVariants.{Must, Should, Tidy}
 use Rattle.t1_rules.specs.declared.rule.Rule.{Rule}
-use Rattle.t1_rules.specs.declared.rule.Rule.TheVariants.{F01, F02, F03, F04, F05, F06, F07, F08, F09, F10, F11, F12, F13, F14, Z01, Z02, Z03, Z04, Z05, Z06, Z07, Z08, Z09, Z10, Z11, C01, C02, C03, C04, C05, C06, C07, C08, C09, S01, S02, S03, S04, GE01, GE02, W01, W02, P01, P02, P03, H01, H02, H03, H04, R01, R02, X01, X02, X03, X04, X05, X06, O01, O02, O03, O04, K01, K02, K03, K04, K05, K06, K07, L01, U01}
+use Rattle.t1_rules.specs.declared.rule.Rule.TheVariants.{F01, F02, F03, F04, F05, F06, F07, F08, F09, F10, F11, F12, F13, F14, Z01, Z02, Z03, Z04, Z05, Z06, Z07, Z08, Z09, Z10, Z11, C01, C02, C03, C04, C05, C06, C07, C08, C09, S01, S02, S03, S04, GE01, GE02, W01, W02, P01, P02, P03, H01, H02, H03, H04, R01, R02, X01, X02, X03, X04, X05, X06, O01, O02, O03, O04, K01, K02, K03, K04, K05, K06, K07, L01, U01, F15, F16, F17, F18, F19, F20, F21, Z12, Z13, Z14, Z15, Z16, Z17, Z18, Z19}
 
 -- An entry of the book: a rule's number, which is its place there, from 1 on; how much a violation matters; the
 -- rule's code, as it is in a line of the report; and what is reported of a violation.
@@ -88,6 +88,21 @@ entry_of K06 = entry 67 Must (codes "K06") (codes "seac beside other commands")
 entry_of K07 = entry 68 Must (codes "K07") (codes "seac component without sidebearing")
 entry_of L01 = entry 69 Must (codes "L01") (codes "step limit")
 entry_of U01 = entry 70 Should (codes "U01") (codes "waiver not used")
+entry_of F15 = entry 71 Should (codes "F15") (codes "FontMatrix is not six numbers")
+entry_of F16 = entry 72 Must (codes "F16") (codes "FontBBox is not four numbers")
+entry_of F17 = entry 73 Should (codes "F17") (codes "FontBBox has its corners exchanged")
+entry_of F18 = entry 74 Tidy (codes "F18") (codes "XUID malformed")
+entry_of F19 = entry 75 Tidy (codes "F19") (codes "XUID number out of range")
+entry_of F20 = entry 76 Should (codes "F20") (codes "LanguageGroup is not 0 or 1")
+entry_of F21 = entry 77 Should (codes "F21") (codes "Subr has no return")
+entry_of Z12 = entry 78 Must (codes "Z12") (codes "no BlueValues")
+entry_of Z13 = entry 79 Should (codes "Z13") (codes "standard width is not above 0")
+entry_of Z14 = entry 80 Should (codes "Z14") (codes "zone number is not whole")
+entry_of Z15 = entry 81 Should (codes "Z15") (codes "stem snaps equal")
+entry_of Z16 = entry 82 Tidy (codes "Z16") (codes "no stem snap beside a standard width")
+entry_of Z17 = entry 83 Should (codes "Z17") (codes "BlueScale out of range")
+entry_of Z18 = entry 84 Should (codes "Z18") (codes "BlueShift out of range")
+entry_of Z19 = entry 85 Should (codes "Z19") (codes "BlueFuzz out of range")
 
 abbrev pub number_of : Rule → ℕ
 number_of rule = (entry_of rule).number
@@ -102,9 +117,12 @@ code_of rule = (entry_of rule).code
 abbrev pub text_of : Rule → List ℕ
 text_of rule = (entry_of rule).text
 
--- The greatest number of a rule.
+-- The greatest number of a rule of the first two editions, and of a rule.
+abbrev pub last_number_before : ℕ
+last_number_before = 70
+
 abbrev pub last_number : ℕ
-last_number = 70
+last_number = 85
 
 -- All rules, in the order of their numbers.
 abbrev pub rules : List Rule
@@ -113,7 +131,8 @@ rules =
     ∷ Z01 ∷ Z02 ∷ Z03 ∷ Z04 ∷ Z05 ∷ Z06 ∷ Z07 ∷ Z08 ∷ Z09 ∷ Z10 ∷ Z11 ∷ C01 ∷ C02 ∷ C03
     ∷ C04 ∷ C05 ∷ C06 ∷ C07 ∷ C08 ∷ C09 ∷ S01 ∷ S02 ∷ S03 ∷ S04 ∷ GE01 ∷ GE02 ∷ W01 ∷ W02
     ∷ P01 ∷ P02 ∷ P03 ∷ H01 ∷ H02 ∷ H03 ∷ H04 ∷ R01 ∷ R02 ∷ X01 ∷ X02 ∷ X03 ∷ X04 ∷ X05
-    ∷ X06 ∷ O01 ∷ O02 ∷ O03 ∷ O04 ∷ K01 ∷ K02 ∷ K03 ∷ K04 ∷ K05 ∷ K06 ∷ K07 ∷ L01 ∷ U01 ∷ []
+    ∷ X06 ∷ O01 ∷ O02 ∷ O03 ∷ O04 ∷ K01 ∷ K02 ∷ K03 ∷ K04 ∷ K05 ∷ K06 ∷ K07 ∷ L01 ∷ U01
+    ∷ F15 ∷ F16 ∷ F17 ∷ F18 ∷ F19 ∷ F20 ∷ F21 ∷ Z12 ∷ Z13 ∷ Z14 ∷ Z15 ∷ Z16 ∷ Z17 ∷ Z18 ∷ Z19 ∷ []
 
 -- The first of these rules that has a code.
 unfoldable pub coded_in : List ℕ → List Rule → Option Rule

@@ -1,4 +1,5 @@
 -- The font rules as a table: where a font's value breaks which of them, each by a key and an index.
+pub mod Dictionaries
 pub mod Encoding
 pub mod Glyphs
 pub mod Hints
@@ -7,24 +8,27 @@ pub mod Stems
 pub mod Subrs
 pub mod Values
 pub mod Zones
-use Rattle.std.specs.Prelude.{ℕ, ◌==◌, ◌&&◌, ◌||◌, Bool, false, not, List, [], ◌∷◌, map, if◌then◌else◌}
+use Rattle.std.specs.Prelude.{ℕ, ◌==◌, ◌&&◌, ◌||◌, Bool, false, not, List, [], ◌∷◌, ◌++◌, map, if◌then◌else◌}
 use Rattle.std.specs.List.{list_any}
+use Rattle.t1_char.specs.Editions.{has_later_rules}
+use Rattle.t1_char.specs.declared.edition.Edition.{Edition}
 use Rattle.t1_font.specs.declared.key.Key.{Key}
-use Rattle.t1_font.specs.declared.key.Key.TheVariants.{FontType, PaintType, PrivateUniqueId, Password, MinFeature}
+use Rattle.t1_font.specs.declared.key.Key.TheVariants.{FontType, PaintType, PrivateUniqueId, Password, MinFeature, BlueValues, BlueScale, BlueShift, BlueFuzz, FontMatrix, FontBBox, Xuid, LanguageGroup}
 use Rattle.t1_font.specs.Fonts.{FontValue}
 use Rattle.t1_font.specs.Values.{Value}
 use Rattle.t1_rules.specs.declared.rule.Rule.{Rule}
-use Rattle.t1_rules.specs.declared.rule.Rule.TheVariants.{F01, F02, F03, F04, F05, F06, F07, F08, F09, F10, F11, F12, F13, F14, Z01, Z02, Z03, Z04, Z05, Z06, Z07, Z08, Z09, Z10, Z11}
+use Rattle.t1_rules.specs.declared.rule.Rule.TheVariants.{F01, F02, F03, F04, F05, F06, F07, F08, F09, F10, F11, F12, F13, F14, Z01, Z02, Z03, Z04, Z05, Z06, Z07, Z08, Z09, Z10, Z11, F15, F16, F17, F18, F19, F20, F21, Z12, Z13, Z14, Z15, Z16, Z17, Z18, Z19}
 use Rattle.t1_rules.specs.Book.{number_of}
 use Rattle.t1_rules.specs.Keys.{file_key, encoding_key, subrs_key, glyphs_key, key_number, value_at}
-use Rattle.t1_rules.specs.FontRules.Values.{is_the_number, is_sixteen_twice}
+use Rattle.t1_rules.specs.FontRules.Values.{first_in, is_absent, is_number_so, is_so_many, is_the_number, is_sixteen_twice}
+use Rattle.t1_rules.specs.FontRules.Dictionaries.{has_corners_exchanged, has_number_past_range, is_malformed, is_no_group}
 use Rattle.t1_rules.specs.FontRules.Ids.{id_keys, is_past_range, ids_differ}
 use Rattle.t1_rules.specs.FontRules.Glyphs.{not_defined, has_glyph, is_glyph_given_twice}
 use Rattle.t1_rules.specs.FontRules.Encoding.{is_no_form, encodes_missing}
-use Rattle.t1_rules.specs.FontRules.Subrs.{is_wrong_subr}
-use Rattle.t1_rules.specs.FontRules.Hints.{hint_keys, is_of_another_kind, numbers_at, has_too_many, falls_at}
+use Rattle.t1_rules.specs.FontRules.Subrs.{is_wrong_subr, lacks_return}
+use Rattle.t1_rules.specs.FontRules.Hints.{hint_keys, is_of_another_kind, numbers_at, has_too_many, falls_at, has_fraction_at, is_past_fuzzes, is_past_scales, is_past_shifts, repeats_at}
 use Rattle.t1_rules.specs.FontRules.Zones.{low_zone_keys, zone_keys, has_odd_count, distance, scale, is_too_near, comes_near_high, is_too_high}
-use Rattle.t1_rules.specs.FontRules.Stems.{width_keys, snap_keys, is_not_one_width, width_is_apart}
+use Rattle.t1_rules.specs.FontRules.Stems.{width_keys, snap_keys, has_no_snap, is_not_above_zero, is_not_one_width, width_is_apart}
 
 -- What is broken at one key: whether a font breaks it there at an index.
 pub record KeyTest : Type 0 where
@@ -55,9 +59,9 @@ value k test = once (key_number k) (λ font. test (value_at font k))
 abbrev pub each_of : List Key → (FontValue → Key → ℕ → Bool) → List KeyTest
 each_of keys test = map (λ k. record { key = key_number k; is_broken = λ font index. test font k index }) keys
 
--- The rule book's part on fonts, in the order of the rules' numbers.
-unfoldable pub font_rules : List FontRule
-font_rules =
+-- The first part of the rule book on fonts, in the order of the rules' numbers.
+unfoldable pub first_font_rules : List FontRule
+first_font_rules =
     -- A PFB file has no end segment. Technical Note 5040, section 3.3.
     font_row F01 (once file_key (λ font. font.no_end))
     -- Bytes follow the end segment. Technical Note 5040, section 3.3.
@@ -109,6 +113,48 @@ font_rules =
     -- The first number of the standard width isn't one of the stem snaps. Type 1 Font Format, chapter 5.
     ∷ font_row Z11 (each_of snap_keys (λ font k index. index == 0 && width_is_apart font k))
     ∷ []
+
+-- The part after number 70.
+unfoldable pub later_font_rules : List FontRule
+later_font_rules =
+    -- FontMatrix isn't six numbers. Type 1 Font Format, chapter 2.
+    font_row F15 (value FontMatrix (λ v. not (is_so_many 6 v)))
+    -- FontBBox isn't four numbers. Type 1 Font Format, chapter 2.
+    ∷ font_row F16 (value FontBBox (λ v. not (is_so_many 4 v)))
+    -- The corners of FontBBox are exchanged; the index is the place of the first one's coordinate. Type 1 Font Format, chapter 2.
+    ∷ font_row F17 (each (key_number FontBBox) (λ font index. has_corners_exchanged (value_at font FontBBox) index))
+    -- XUID isn't numbers, or has none. Own.
+    ∷ font_row F18 (value Xuid is_malformed)
+    -- A number of XUID isn't whole from 0 to 16777215; the index is its place. Own.
+    ∷ font_row F19 (each (key_number Xuid) (λ font index. has_number_past_range (value_at font Xuid) index))
+    -- LanguageGroup is neither 0 nor 1. Type 1 Font Format, chapter 5.
+    ∷ font_row F20 (value LanguageGroup is_no_group)
+    -- A Subr has no return; the index is its number. Type 1 Font Format, chapter 6.
+    ∷ font_row F21 (each subrs_key lacks_return)
+    -- BlueValues isn't there. Type 1 Font Format, chapter 5.
+    ∷ font_row Z12 (value BlueValues is_absent)
+    -- The first number of a standard width is 0 or less. Own.
+    ∷ font_row Z13 (each_of width_keys (λ font k index. index == 0 && is_not_above_zero (first_in 1 (value_at font k))))
+    -- A zone number has a fraction; the index is its place. Type 1 Font Format, chapter 5.
+    ∷ font_row Z14 (each_of zone_keys (λ font k index. has_fraction_at (numbers_at font k) index))
+    -- A stem snap is that before it; the index is its place. Type 1 Font Format, chapter 5.
+    ∷ font_row Z15 (each_of snap_keys (λ font k index. repeats_at (numbers_at font k) index))
+    -- There is no stem snap beside a standard width. Own.
+    ∷ font_row Z16 (each_of snap_keys (λ font k index. index == 0 && has_no_snap font k))
+    -- BlueScale is 0 or less, or above 0.5. Own.
+    ∷ font_row Z17 (value BlueScale (is_number_so is_past_scales))
+    -- BlueShift is negative or has a fraction. Type 1 Font Format, chapter 5.
+    ∷ font_row Z18 (value BlueShift (is_number_so is_past_shifts))
+    -- BlueFuzz isn't whole from 0 to 10. Type 1 Font Format, chapter 5.
+    ∷ font_row Z19 (value BlueFuzz (is_number_so is_past_fuzzes))
+    ∷ []
+
+-- The rules on fonts of an edition: the later ones too, where it has them.
+abbrev pub later_rules_in : Edition → List FontRule
+later_rules_in edition = if has_later_rules edition then later_font_rules else []
+
+abbrev pub font_rules : Edition → List FontRule
+font_rules edition = first_font_rules ++ later_rules_in edition
 
 -- What the tests of a rule say at a key and an index; nothing at a key that none of them has.
 abbrev pub says : List KeyTest → FontValue → ℕ → ℕ → Bool

@@ -1,7 +1,9 @@
 -- The keys that a font's faults are at: their numbers, what they are called, and how many indexes each has. Key 0
 -- is the file. Keys 4, 20 and 21 are entries of a form of their own. The others are plain keys (Type 1 Font
 -- Format, chapters 2 and 5).
-use Rattle.std.specs.Prelude.{ℕ, ◌+◌, min, max, List, [], ◌∷◌, codes, length, map, slice_index_or}
+use Rattle.std.specs.Prelude.{ℕ, ◌+◌, min, max, if◌then◌else◌, List, [], ◌∷◌, codes, length, map, slice_index_or}
+use Rattle.t1_char.specs.Editions.{has_later_rules}
+use Rattle.t1_char.specs.declared.edition.Edition.{Edition}
 use Rattle.t1_font.specs.declared.key.Key.{Key}
 use Rattle.t1_font.specs.declared.key.Key.TheVariants.{FontType, PaintType, UniqueId, PrivateUniqueId, Password, MinFeature, LenIv, BlueValues, OtherBlues, FamilyBlues, FamilyOtherBlues, BlueScale, BlueShift, BlueFuzz, StdHw, StdVw, StemSnapH, StemSnapV, FontMatrix, FontBBox, Xuid, LanguageGroup}
 use Rattle.t1_font.specs.Keys.{index_of}
@@ -11,7 +13,7 @@ use Rattle.t1_font.specs.Bounds.{code_count}
 
 -- How many keys there are, and how many indexes a key has at most.
 abbrev pub key_count : ℕ
-key_count = 22
+key_count = 26
 
 abbrev pub index_count : ℕ
 index_count = 65536
@@ -32,7 +34,7 @@ subrs_key = 20
 abbrev pub glyphs_key : ℕ
 glyphs_key = 21
 
--- The number of a plain key. No rule speaks of the noted ones, whose numbers are past the last.
+-- The number of a plain key.
 abbrev pub key_number : Key → ℕ
 key_number FontType = 1
 key_number PaintType = 2
@@ -71,6 +73,10 @@ list_limit_of StemSnapH = 12
 list_limit_of StemSnapV = 12
 list_limit_of _ = 0
 
+-- How many numbers of an XUID are looked at.
+abbrev pub xuid_limit : ℕ
+xuid_limit = 16
+
 -- How many indexes the Subrs have: past the greatest number of one, and at most 65,536.
 abbrev pub subr_places : List (ℕ × List ℕ) → ℕ
 subr_places [] = 0
@@ -83,31 +89,36 @@ glyph_places font = max 1 (min (length font.glyphs) index_count)
 -- A key: what it is called, and how many indexes it has, from 0 on, at which a font can have a fault.
 pub record KeyRow : Type 0 where
   pub text : List ℕ
-  pub places : FontValue → ℕ
+  pub places : Edition → FontValue → ℕ
 
-abbrev pub key_row : List ℕ → (FontValue → ℕ) → KeyRow
+abbrev pub key_row : List ℕ → (Edition → FontValue → ℕ) → KeyRow
 key_row text places = record { text = text; places = places }
 
 -- One index, for what is said of an entry as a whole.
-abbrev pub of_entry : FontValue → ℕ
-of_entry font = 1
+abbrev pub of_entry : Edition → FontValue → ℕ
+of_entry edition font = 1
+
+-- So many, where the edition has the rules after number 70.
+abbrev pub of_later : ℕ → Edition → FontValue → ℕ
+of_later count edition font = if has_later_rules edition then count else 0
 
 -- One for each number that a list can have, and one more, for the first that is too much.
-abbrev pub of_list : Key → FontValue → ℕ
-of_list key font = list_limit_of key + 1
+abbrev pub of_list : Key → Edition → FontValue → ℕ
+of_list key edition font = list_limit_of key + 1
 
--- The keys in the order of their numbers, from 0 on. No rule speaks of lenIV; an Encoding's indexes are its codes.
+-- The keys in the order of their numbers, from 0 on. No rule speaks of lenIV; an Encoding's indexes are its codes. Of
+-- FontBBox the indexes are the corners' coordinates, of XUID its numbers.
 abbrev pub key_rows : List KeyRow
 key_rows =
     key_row (codes "file") of_entry
     ∷ key_row (codes "FontType") of_entry
     ∷ key_row (codes "PaintType") of_entry
     ∷ key_row (codes "UniqueID") of_entry
-    ∷ key_row (codes "Encoding") (λ font. code_count)
+    ∷ key_row (codes "Encoding") (λ edition font. code_count)
     ∷ key_row (codes "PrivateUniqueID") of_entry
     ∷ key_row (codes "password") of_entry
     ∷ key_row (codes "MinFeature") of_entry
-    ∷ key_row (codes "lenIV") (λ font. 0)
+    ∷ key_row (codes "lenIV") (λ edition font. 0)
     ∷ key_row (codes "BlueValues") (of_list BlueValues)
     ∷ key_row (codes "OtherBlues") (of_list OtherBlues)
     ∷ key_row (codes "FamilyBlues") (of_list FamilyBlues)
@@ -119,8 +130,12 @@ key_rows =
     ∷ key_row (codes "StdVW") of_entry
     ∷ key_row (codes "StemSnapH") (of_list StemSnapH)
     ∷ key_row (codes "StemSnapV") (of_list StemSnapV)
-    ∷ key_row (codes "Subrs") (λ font. subr_places font.subrs)
-    ∷ key_row (codes "CharStrings") glyph_places
+    ∷ key_row (codes "Subrs") (λ edition font. subr_places font.subrs)
+    ∷ key_row (codes "CharStrings") (λ edition font. glyph_places font)
+    ∷ key_row (codes "FontMatrix") (of_later 1)
+    ∷ key_row (codes "FontBBox") (of_later 2)
+    ∷ key_row (codes "XUID") (of_later xuid_limit)
+    ∷ key_row (codes "LanguageGroup") (of_later 1)
     ∷ []
 
 abbrev pub key_texts : List (List ℕ)
@@ -130,9 +145,9 @@ key_texts = map (λ key. key.text) key_rows
 abbrev pub key_text_of : ℕ → List ℕ
 key_text_of key = slice_index_or key_texts key []
 
-abbrev pub places_by_key : FontValue → List ℕ
-places_by_key font = map (λ key. key.places font) key_rows
+abbrev pub places_by_key : Edition → FontValue → List ℕ
+places_by_key edition font = map (λ key. key.places edition font) key_rows
 
 -- How many indexes a key can have a fault at, from 0 on; none past the last key.
-abbrev pub places_of : FontValue → ℕ → ℕ
-places_of font key = slice_index_or (places_by_key font) key 0
+abbrev pub places_of : Edition → FontValue → ℕ → ℕ
+places_of edition font key = slice_index_or (places_by_key edition font) key 0

@@ -137,6 +137,51 @@ static BOOK: [Row; RULE_COUNT] = [
     ),
     (Rule::L01, Level::Must, "L01", "step limit"),
     (Rule::U01, Level::Should, "U01", "waiver not used"),
+    (
+        Rule::F15,
+        Level::Should,
+        "F15",
+        "FontMatrix is not six numbers",
+    ),
+    (
+        Rule::F16,
+        Level::Must,
+        "F16",
+        "FontBBox is not four numbers",
+    ),
+    (
+        Rule::F17,
+        Level::Should,
+        "F17",
+        "FontBBox has its corners exchanged",
+    ),
+    (Rule::F18, Level::Tidy, "F18", "XUID malformed"),
+    (Rule::F19, Level::Tidy, "F19", "XUID number out of range"),
+    (
+        Rule::F20,
+        Level::Should,
+        "F20",
+        "LanguageGroup is not 0 or 1",
+    ),
+    (Rule::F21, Level::Should, "F21", "Subr has no return"),
+    (Rule::Z12, Level::Must, "Z12", "no BlueValues"),
+    (
+        Rule::Z13,
+        Level::Should,
+        "Z13",
+        "standard width is not above 0",
+    ),
+    (Rule::Z14, Level::Should, "Z14", "zone number is not whole"),
+    (Rule::Z15, Level::Should, "Z15", "stem snaps equal"),
+    (
+        Rule::Z16,
+        Level::Tidy,
+        "Z16",
+        "no stem snap beside a standard width",
+    ),
+    (Rule::Z17, Level::Should, "Z17", "BlueScale out of range"),
+    (Rule::Z18, Level::Should, "Z18", "BlueShift out of range"),
+    (Rule::Z19, Level::Should, "Z19", "BlueFuzz out of range"),
 ];
 
 /// The rows of the book.

@@ -1,11 +1,12 @@
 //! The font rules: those on the file and on the entries of the dictionaries. Type 1 Font Format 1.1, chapters 2 and 5.
 
 ghost use Rattle.std.specs.Prelude.{◌≡◌, ℕ};
-ghost use Rattle.t1_rules.specs.FontRules.{font_rules, violated};
+ghost use Rattle.t1_rules.specs.FontRules.{first_font_rules, font_rules, later_font_rules, violated};
 ghost use Rattle.t1_rules.specs.Keys.{key_number};
 ghost use Rattle.t1_rules.specs.Mask.{has};
 ghost use Rattle.t1_rules.specs.Private.KeyKinds.{kind_number};
 
+mod dictionaries;
 pub(crate) mod encoding;
 mod entries;
 mod file;
@@ -19,32 +20,39 @@ pub(crate) mod zones;
 
 use crate::keys::{KeyKind, kind_of};
 use crate::mask::Mask;
+use dictionaries::{font_bbox_faults, font_matrix_faults, language_group_faults, xuid_faults};
 use encoding::encoding_faults;
 use entries::{font_type_faults, min_feature_faults, paint_type_faults, password_faults};
 use file::file_faults;
 use glyphs::glyph_faults;
-use hints::number_faults;
+use hints::{blue_faults, fuzz_faults, number_faults, scale_faults, shift_faults, whole_faults};
 use ids::{private_unique_id_faults, unique_id_faults};
-use stems::{snap_faults, width_faults};
-use subrs::subr_faults;
+use stems::{later_snap_faults, sign_faults, snap_faults, width_faults};
+use subrs::{return_faults, subr_faults};
+use t1_char::Edition;
 use t1_font::{Font, Key};
 use zones::{high_zone_faults, low_zone_faults};
 
-/// Returns the font rules that are broken at a key and an index. Index 0 is for what is said of the key as a whole.
-/// Else it is a place in its list of numbers, a code, a Subr's number or a glyph's. There is none past the last key or
-/// index.
-pub fn font_faults(font: &Font<'_>, key: u8, index: u32) -> Mask
-    ensures { (n : ℕ) → has result n ≡ violated font_rules n font.now key index }
+/// Returns the font rules of an edition that are broken at a key and an index. Index 0 is for what is said of the key as a
+/// whole. Else it is a place in its list of numbers, a code, a Subr's number or a glyph's. There is none past the last key
+/// or index.
+pub fn font_faults(font: &Font<'_>, key: u8, index: u32, edition: Edition) -> Mask
+    ensures { (n : ℕ) → has result n ≡ violated (font_rules edition) n font.now key index }
 {
-    match kind_of(key) {
-        Some(kind) => faults_at(font, kind, index),
-        None => Mask::empty(),
+    let Some(kind) = kind_of(key) else {
+        return Mask::empty();
+    };
+    let faults = faults_at(font, kind, index);
+    if edition.has_later_rules() {
+        faults.join(later_faults_at(font, kind, index))
+    } else {
+        faults
     }
 }
 
-/// The same by the kind of a key.
+/// The rules up to number 70, by the kind of a key.
 fn faults_at(font: &Font<'_>, kind: KeyKind, index: u32) -> Mask
-    ensures { (n : ℕ) → has result n ≡ violated font_rules n font.now (kind_number kind) index }
+    ensures { (n : ℕ) → has result n ≡ violated first_font_rules n font.now (kind_number kind) index }
 {
     match kind {
         KeyKind::File => file_faults(font, index),
@@ -55,9 +63,20 @@ fn faults_at(font: &Font<'_>, kind: KeyKind, index: u32) -> Mask
     }
 }
 
-/// The same of the value of a plain key.
+/// The later rules, by the kind of a key.
+fn later_faults_at(font: &Font<'_>, kind: KeyKind, index: u32) -> Mask
+    ensures { (n : ℕ) → has result n ≡ violated later_font_rules n font.now (kind_number kind) index }
+{
+    match kind {
+        KeyKind::Value(key) => later_value_faults(font, key, index),
+        KeyKind::Subrs => return_faults(font, index),
+        KeyKind::File | KeyKind::Encoding | KeyKind::CharStrings => Mask::empty(),
+    }
+}
+
+/// The rules up to number 70, of the value of a plain key.
 fn value_faults(font: &Font<'_>, key: Key, index: u32) -> Mask
-    ensures { (n : ℕ) → has result n ≡ violated font_rules n font.now (key_number key) index }
+    ensures { (n : ℕ) → has result n ≡ violated first_font_rules n font.now (key_number key) index }
 {
     match key {
         Key::FontType => font_type_faults(font, index),
@@ -87,5 +106,35 @@ fn value_faults(font: &Font<'_>, key: Key, index: u32) -> Mask
         Key::StdVw => width_faults(font, Key::StdVw, index),
         Key::StemSnapH => snap_faults(font, Key::StemSnapH, Key::StdHw, index),
         Key::StemSnapV => snap_faults(font, Key::StemSnapV, Key::StdVw, index),
+    }
+}
+
+/// The later rules, of the value of a plain key.
+fn later_value_faults(font: &Font<'_>, key: Key, index: u32) -> Mask
+    ensures { (n : ℕ) → has result n ≡ violated later_font_rules n font.now (key_number key) index }
+{
+    match key {
+        Key::FontMatrix => font_matrix_faults(font, index),
+        Key::FontBBox => font_bbox_faults(font, index),
+        Key::Xuid => xuid_faults(font, index),
+        Key::LanguageGroup => language_group_faults(font, index),
+        Key::BlueValues => blue_faults(font, index),
+        Key::OtherBlues => whole_faults(font, Key::OtherBlues, index),
+        Key::FamilyBlues => whole_faults(font, Key::FamilyBlues, index),
+        Key::FamilyOtherBlues => whole_faults(font, Key::FamilyOtherBlues, index),
+        Key::BlueScale => scale_faults(font, index),
+        Key::BlueShift => shift_faults(font, index),
+        Key::BlueFuzz => fuzz_faults(font, index),
+        Key::StdHw => sign_faults(font, Key::StdHw, index),
+        Key::StdVw => sign_faults(font, Key::StdVw, index),
+        Key::StemSnapH => later_snap_faults(font, Key::StemSnapH, Key::StdHw, index),
+        Key::StemSnapV => later_snap_faults(font, Key::StemSnapV, Key::StdVw, index),
+        Key::FontType
+        | Key::PaintType
+        | Key::UniqueId
+        | Key::PrivateUniqueId
+        | Key::Password
+        | Key::MinFeature
+        | Key::LenIv => Mask::empty(),
     }
 }

@@ -4,14 +4,18 @@
 ghost use Rattle.std.specs.Prelude.{◌≡◌, ◌≤◌, ◌+◌, IfNone, IfSome, map};
 ghost use Rattle.std.specs.List.{range_with_len};
 ghost use Rattle.t1_font.specs.Fonts.{FontValue};
-ghost use Rattle.t1_rules.specs.Keys.{glyph_places, key_count, key_number, key_text_of, key_texts, list_limit_of, places_of, subr_places};
+ghost use Rattle.t1_rules.specs.Keys.{glyph_places, key_count, key_number, key_text_of, key_texts, list_limit_of, of_later, places_of, subr_places};
 ghost use Rattle.t1_rules.specs.Private.KeyKinds.{kind_number};
 
 use crate::font_rules::hints::list_limit_of;
+use t1_char::Edition;
 use t1_font::{CODES, Font, Key};
 
 /// How many keys there are.
-pub const KEYS: u8 = 22;
+pub const KEYS: u8 = 26;
+
+/// How many numbers of an XUID are looked at.
+pub(crate) const XUID_PLACES: u32 = 16;
 
 /// How many indexes a key has at most.
 pub const INDEXES: u32 = 65_536;
@@ -58,6 +62,10 @@ static KEY_ROWS: [Row; KEYS as usize] = [
     ("StemSnapV", KeyKind::Value(Key::StemSnapV)),
     ("Subrs", KeyKind::Subrs),
     ("CharStrings", KeyKind::CharStrings),
+    ("FontMatrix", KeyKind::Value(Key::FontMatrix)),
+    ("FontBBox", KeyKind::Value(Key::FontBBox)),
+    ("XUID", KeyKind::Value(Key::Xuid)),
+    ("LanguageGroup", KeyKind::Value(Key::LanguageGroup)),
 ];
 
 /// The rows of the keys.
@@ -68,7 +76,7 @@ fn rows() -> &'static [Row]
     &KEY_ROWS
 }
 
-/// What a key is called in a line of the report: 0 is the file, 1 to 21 are entries of the font's
+/// What a key is called in a line of the report: 0 is the file, 1 to 25 are entries of the font's
 /// dictionaries. It is empty past the last one.
 pub fn key_text(key: u8) -> &'static str
     ensures { result.now ≡ key_text_of key }
@@ -90,24 +98,24 @@ pub(crate) fn kind_of(key: u8) -> Option<KeyKind>
     }
 }
 
-/// How many indexes of a key can have a fault, from 0 on: there is none past them.
-pub fn places(font: &Font<'_>, key: u8) -> u32
-    ensures { result ≡ places_of font.now key }
+/// How many indexes of a key can have a fault by an edition, from 0 on: there is none past them.
+pub fn places(font: &Font<'_>, key: u8, edition: Edition) -> u32
+    ensures { result ≡ places_of edition font.now key }
 {
     match kind_of(key) {
-        Some(kind) => kind.places(font),
+        Some(kind) => kind.places(font, edition),
         None => 0,
     }
 }
 
 impl KeyKind {
     /// How many indexes can have a fault.
-    fn places(self, font: &Font<'_>) -> u32
-        ensures { result ≡ places_of font.now (kind_number self) }
+    fn places(self, font: &Font<'_>, edition: Edition) -> u32
+        ensures { result ≡ places_of edition font.now (kind_number self) }
     {
         match self {
             KeyKind::File => 1,
-            KeyKind::Value(key) => value_places(key),
+            KeyKind::Value(key) => value_places(key, edition),
             KeyKind::Encoding => CODES,
             KeyKind::Subrs => subr_places(font),
             KeyKind::CharStrings => glyph_places(font),
@@ -122,14 +130,23 @@ fn list_places(key: Key) -> u32
     list_limit_of(key) as u32 + 1
 }
 
-/// How many of a plain key: one, for what is said of it as a whole, unless it is a list. No rule speaks of lenIV, nor of
-/// noted keys.
-fn value_places(key: Key) -> u32
-    ensures { (font : FontValue) → result ≡ places_of font (key_number key) }
+/// So many, where the edition has the rules after number 70.
+fn later_places(count: u32, edition: Edition) -> u32
+    ensures { (font : FontValue) → result ≡ of_later count edition font }
+{
+    if edition.has_later_rules() { count } else { 0 }
+}
+
+/// How many of a plain key: one, for what is said of it as a whole, unless it is a list. No rule speaks of lenIV.
+fn value_places(key: Key, edition: Edition) -> u32
+    ensures { (font : FontValue) → result ≡ places_of edition font (key_number key) }
 {
     match key {
         Key::LenIv => 0,
-        Key::FontMatrix | Key::FontBBox | Key::Xuid | Key::LanguageGroup => 0,
+        Key::FontMatrix => later_places(1, edition),
+        Key::FontBBox => later_places(2, edition),
+        Key::Xuid => later_places(XUID_PLACES, edition),
+        Key::LanguageGroup => later_places(1, edition),
         Key::BlueValues => list_places(Key::BlueValues),
         Key::OtherBlues => list_places(Key::OtherBlues),
         Key::FamilyBlues => list_places(Key::FamilyBlues),

@@ -4,7 +4,7 @@ ghost use Rattle.t1_rules.specs.Laws.Book.{CodesAreOfTheirRules, EachRuleStands,
 ghost use Rattle.t1_rules.specs.Laws.Levels.{LevelsHaveTheirWords};
 ghost use Rattle.t1_rules.specs.Laws.Arguments.{KeptIsNotPast, NoneAreTooManyAtTheTop, NumbersOverflowAt24, OthersHaveNoArguments, TooFewAreFewerThanWanted, TooManyAreMoreThanArguments};
 ghost use Rattle.t1_rules.specs.Laws.Calls.{SoundCallsGoIn};
-ghost use Rattle.t1_rules.specs.Laws.FontRules.{AbsentEntriesBreakNothing, BrokenIsInTheBook, NothingIsBrokenPastLast, NothingIsBrokenPastPlaces, RuleNumbersAreInOrder};
+ghost use Rattle.t1_rules.specs.Laws.FontRules.{AbsentEntriesBreakNothing, BrokenIsInTheBook, EarlierEditionsKnowNoLaterRule, LaterRulesChangeNoOther, NothingIsBrokenPastLast, NothingIsBrokenPastPlaces, RuleNumbersAreInOrder};
 ghost use Rattle.t1_rules.specs.Laws.Components.{CapitalsNameThemselves, CodesAreCounted, NamesAreCounted, NoNameStandsTwice, OwnEncodingHasNoSay, PlacesHaveNoSay, SmallLettersNameThemselves};
 ghost use Rattle.t1_rules.specs.Laws.Editions.{EditionsAgreeOnOtherRules, EditionsAgreeOnShortComponents, EditionsAgreeOnUsualSteps, EditionsAgreeWithoutOneEdge, OneEdgeOverlapsNothing, OtherStemsOverlapAsBefore, OverlapByIsMutual, SecondTellsNoMore, SecondTellsNoMoreInFonts, StemsAreKept};
 ghost use Rattle.t1_rules.specs.Laws.Flex.{ClosepathLeavesThePoint, EndsLeadOutOfFlex, GlyphsBeginAtTheOrigin, OtherCountsAreNoFlex, SetcurrentpointAloneFollows, SetcurrentpointFollowsFlex, SetcurrentpointPutsThePoint, SevenPairsAreAFlex, ShortFormsLeadAsFar, StartsLeadIntoFlex, StepsMoveThePoint, VectorsPutThePoint, WidthsSetThePoint};
@@ -15,11 +15,18 @@ ghost use Rattle.t1_rules.specs.Laws.StepRules.{ArgumentsCountFromTheBottom, Bro
 ghost use Rattle.t1_rules.specs.Laws.Stems.{HintSetsAreBounded, OneStemIsKept, OthersAreNotUneven, OthersLeaveHintSets, OverlapIsMutual, ReplacementsEmptyHintSets, SignsHaveNoSay, StemsOverlapWhereTheyShareAPlace, ThreeStemsAreEven, ThreeStemsAreKept};
 ghost use Rattle.t1_rules.specs.Laws.Zones.{ZonesAreApartWhereOneIsAbove, ZonesMeetOneOfTheOthers, ZonesAreNearBothWays, ZonesAreNearTheOneBefore, NoZoneIsPastPairs, ZonesReachOne, ListsRiseWhereNoneFalls, ZonesArePairs};
 
-/// The font rules have the numbers from 1 to 25, and what is broken is a rule of the book.
+/// The font rules have the numbers from 1 to 25 and from 71 to 85, and what is broken is a rule of the book.
 #[tactic(auto, using(crate::proofs::Lemmas::FontRules::numbers_in_order, crate::proofs::Lemmas::FontRules::broken_is_in_the_book))]
 pub fn rules_have_their_numbers()
     ensures order { RuleNumbersAreInOrder }
     ensures book { BrokenIsInTheBook }
+{}
+
+/// An edition without the font rules after number 70 breaks none of them; which of the others are broken is the same in each.
+#[tactic(auto, using(crate::proofs::Lemmas::FontRules::earlier_editions_know_no_later_rule, crate::proofs::Lemmas::FontRules::later_rules_change_no_other))]
+pub fn later_rules_stand_alone()
+    ensures earlier { EarlierEditionsKnowNoLaterRule }
+    ensures others { LaterRulesChangeNoOther }
 {}
 
 /// Nothing is broken past the places of a key, past the last key or past the last index.

@@ -25,8 +25,8 @@
 //! - No call but `Sidebearings::prepare` allocates; no index, sum, product or cast goes wrong.
 //!
 //! ```
-//! for index in 0..places(&font, 9) {
-//!     if let Some(rule) = font_faults(&font, 9, index).above(0) {
+//! for index in 0..places(&font, 9, Edition::One) {
+//!     if let Some(rule) = font_faults(&font, 9, index, Edition::One).above(0) {
 //!         println!(rt; "{} {index} {}", key_text(9), rule_code(rule))?;
 //!     }
 //! }
@@ -67,8 +67,8 @@ pub use laws::{
     codes_are_whole_to_255, components_are_found_by_their_names,
     components_are_judged_by_their_steps, current_points_move_on, editions_agree_on_other_rules,
     editions_differ_in_stems_of_one_edge, ends_break_one_rule, flex_goes_from_its_start_to_its_end,
-    hint_sets_begin_anew, hint_sets_grow, kept_numbers_are_not_past, later_steps_have_no_say,
-    letters_name_themselves, levels_have_their_words, numbers_are_counted,
+    hint_sets_begin_anew, hint_sets_grow, kept_numbers_are_not_past, later_rules_stand_alone,
+    later_steps_have_no_say, letters_name_themselves, levels_have_their_words, numbers_are_counted,
     numbers_rise_where_none_falls, one_step_starts_without_width, other_counts_are_no_flex,
     othersubr_calls_are_one_of_five, paths_are_by_places, points_are_put,
     pops_of_nothing_change_nothing, replacements_are_followed, rules_are_in_the_book,

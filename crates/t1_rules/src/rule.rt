@@ -155,6 +155,36 @@ pub enum Rule {
     L01,
     /// A waiver waives a violation.
     U01,
+    /// `/FontMatrix` is six numbers. Type 1 Font Format, chapter 2.
+    F15,
+    /// `/FontBBox` is four numbers. Type 1 Font Format, chapter 2.
+    F16,
+    /// The first corner of `/FontBBox` is the lower left one. Type 1 Font Format, chapter 2.
+    F17,
+    /// `/XUID` is numbers.
+    F18,
+    /// The numbers of `/XUID` are whole, from 0 to 16777215.
+    F19,
+    /// `/LanguageGroup` is 0 or 1. Type 1 Font Format, chapter 5.
+    F20,
+    /// Each Subr has a `return`. Type 1 Font Format, chapter 6.
+    F21,
+    /// `/BlueValues` is there. Type 1 Font Format, chapter 5.
+    Z12,
+    /// A standard width is above 0.
+    Z13,
+    /// Numbers of zones are whole. Type 1 Font Format, chapter 5.
+    Z14,
+    /// Stem snaps differ. Type 1 Font Format, chapter 5.
+    Z15,
+    /// There is a stem snap beside a standard width.
+    Z16,
+    /// `/BlueScale` is above 0 and at most 0.5.
+    Z17,
+    /// `/BlueShift` is whole and not negative. Type 1 Font Format, chapter 5.
+    Z18,
+    /// `/BlueFuzz` is whole, from 0 to 10. Type 1 Font Format, chapter 5.
+    Z19,
 }
 
 impl fmt::Debug for Rule {
@@ -190,7 +220,7 @@ impl Rule {
 }
 
 /// How many rules there are.
-pub const RULE_COUNT: usize = 70;
+pub const RULE_COUNT: usize = 85;
 
 /// The rules, in the order of their numbers.
 static RULES: [Rule; RULE_COUNT] = [
@@ -264,6 +294,21 @@ static RULES: [Rule; RULE_COUNT] = [
     Rule::K07,
     Rule::L01,
     Rule::U01,
+    Rule::F15,
+    Rule::F16,
+    Rule::F17,
+    Rule::F18,
+    Rule::F19,
+    Rule::F20,
+    Rule::F21,
+    Rule::Z12,
+    Rule::Z13,
+    Rule::Z14,
+    Rule::Z15,
+    Rule::Z16,
+    Rule::Z17,
+    Rule::Z18,
+    Rule::Z19,
 ];
 
 /// All rules, in the order of their numbers.

@@ -11,7 +11,7 @@ use Rattle.t1_rules.specs.FontRules.Values.{first_in}
 use Rattle.t1_rules.specs.FontRules.Hints.{numbers_at}
 use Rattle.t1_rules.specs.FontRules.Stems.{is_not_among}
 use Rattle.t1_rules.specs.FontRules.Zones.{distance}
-use Rattle.t1_rules.specs.FontRules.{font_rules, violated}
+use Rattle.t1_rules.specs.FontRules.{first_font_rules, violated}
 use Rattle.t1_rules.proofs.Lemmas.Keys.{falls_past, meets_past, zones_past}
 
 before : (m n : ℕ) → m < 15 → 15 ≤ n → (m == n) ≡ false
@@ -21,8 +21,8 @@ not_among_none : (widths : List ℤ) → is_not_among widths [] ≡ false
 not_among_none [] = refl
 not_among_none (width ∷ widths) = refl
 
-pub absent_is_fine : (font : FontValue) (k : Key) (index n : ℕ) → value_at font k ≡ absent → 15 ≤ n → violated font_rules n font (key_number k) index ≡ false
-unfolding font_rules
+pub absent_is_fine : (font : FontValue) (k : Key) (index n : ℕ) → value_at font k ≡ absent → 15 ≤ n → violated first_font_rules n font (key_number k) index ≡ false
+unfolding first_font_rules
 absent_is_fine font FontType index n none past = simp (before 3 n (lit< tt) past, and-false) refl
 absent_is_fine font PaintType index n none past = simp (before 4 n (lit< tt) past, and-false) refl
 absent_is_fine font UniqueId index n none past = simp (before 5 n (lit< tt) past, and-false) refl

@@ -1,17 +1,26 @@
 -- Facts about a table of font rules, each shown of one table by computing a Bool of its keys or its rules.
-use Rattle.std.proofs.Common.{◌≡◌, ℕ, ◌<◌, ◌≤◌, ◌==◌, ◌&&◌, ◌||◌, Bool, true, false, nat_lt, List, [], ◌∷◌, refl, sym, ◌∙◌, arith}
+use Rattle.std.proofs.Common.{◌≡◌, ℕ, ◌<◌, ◌≤◌, ◌==◌, ◌&&◌, ◌||◌, ◌⊎◌, inl, inr, if◌then◌else◌, Bool, true, false, nat_le, nat_lt, List, [], ◌∷◌, refl, sym, ap, subst, ◌∙◌, arith}
 use Rattle.std.specs.List.{list_all}
-use Rattle.std.proofs.lemmas.Bool.{ne_eqb, eqb-true, ltb-true}
+use Rattle.std.proofs.Math.Bool.{and-false, or-false}
+use Rattle.std.proofs.lemmas.Bool.{ne_eqb, eqb-true, leb-true, ltb-true}
+use Rattle.std.proofs.lemmas.List.Folds.{list_any-append}
+use Rattle.t1_char.specs.Editions.{has_later_rules}
+use Rattle.t1_char.specs.declared.edition.Edition.{Edition}
 use Rattle.t1_font.specs.Fonts.{FontValue}
+use Rattle.t1_font.specs.declared.key.Key.{Key}
+use Rattle.t1_font.specs.declared.key.Key.TheVariants.{FontType, PaintType, UniqueId, PrivateUniqueId, Password, MinFeature, LenIv}
+use Rattle.t1_rules.specs.declared.keys.KeyKind.{KeyKind}
+use Rattle.t1_rules.specs.declared.keys.KeyKind.TheVariants.{File, Encoding, CharStrings}
+use Rattle.t1_rules.specs.Private.KeyKinds.{kind_number}
 use Rattle.t1_rules.specs.declared.mask.Mask.{Mask}
 use Rattle.t1_rules.specs.declared.rule.Rule.{Rule}
-use Rattle.t1_rules.specs.Book.{number_of, last_number}
+use Rattle.t1_rules.specs.Book.{number_of, last_number, last_number_before}
 use Rattle.t1_rules.specs.Mask.{has}
 use Rattle.t1_rules.specs.Private.KeyTests.{broken_among}
-use Rattle.t1_rules.specs.Laws.FontRules.{RuleNumbersAreInOrder}
-use Rattle.t1_rules.specs.FontRules.{KeyTest, FontRule, font_rules, says, violated}
+use Rattle.t1_rules.specs.Laws.FontRules.{BrokenIsInTheBook, EarlierEditionsKnowNoLaterRule, LaterRulesChangeNoOther, RuleNumbersAreInOrder}
+use Rattle.t1_rules.specs.FontRules.{KeyTest, FontRule, first_font_rules, font_rules, later_font_rules, later_rules_in, says, violated}
 use Rattle.t1_rules.proofs.Lemmas.Book.{both, in_book}
-use Rattle.t1_rules.specs.Keys.{key_count}
+use Rattle.t1_rules.specs.Keys.{key_count, key_number}
 
 -- The keys of all tests are less than m.
 abbrev pub keys_below : ℕ → List FontRule → Bool
@@ -46,23 +55,150 @@ number_within (r ∷ rs) n font key index broken =
     go true false e some rest = rest some
     go true true e some rest = let same : number_of r.rule ≡ n = eqb-true (number_of r.rule) n e in rw same at (in_book r.rule)
 
-keys_within : keys_below key_count font_rules ≡ true
-unfolding font_rules
-keys_within = refl
+first_within : keys_below 22 first_font_rules ≡ true
+unfolding first_font_rules
+first_within = refl
+
+later_within : keys_below key_count later_font_rules ≡ true
+unfolding later_font_rules
+later_within = refl
+
+-- The rules up to number 70 say nothing of keys past 21.
+pub first_past : (key : ℕ) → 22 ≤ key → (font : FontValue) (index n : ℕ) → violated first_font_rules n font key index ≡ false
+first_past key past font index n = none_at 22 first_font_rules first_within n font key index past
+
+pub later_past : (key : ℕ) → key_count ≤ key → (font : FontValue) (index n : ℕ) → violated later_font_rules n font key index ≡ false
+later_past key past font index n = none_at key_count later_font_rules later_within n font key index past
+
+-- What is broken by an edition is broken by one of its two parts.
+pub in_parts : (edition : Edition) (n : ℕ) (font : FontValue) (key index : ℕ) → violated (font_rules edition) n font key index
+    ≡ (violated first_font_rules n font key index || violated (later_rules_in edition) n font key index)
+in_parts edition n font key index = list_any-append _ first_font_rules (later_rules_in edition)
+
+-- The later part says what its table does, or nothing.
+pub in_later : (edition : Edition) (n : ℕ) (font : FontValue) (key index : ℕ) → violated (later_rules_in edition) n font key index
+    ≡ (has_later_rules edition && violated later_font_rules n font key index)
+in_later edition n font key index = go (has_later_rules edition)
+  where
+    go : (b : Bool) → violated (if b then later_font_rules else []) n font key index ≡ (b && violated later_font_rules n font key index)
+    go true = refl
+    go false = refl
 
 -- No font rule is past the last key.
-pub past_last : (key : ℕ) → key_count ≤ key → (font : FontValue) (index n : ℕ) → violated font_rules n font key index ≡ false
-past_last key past font index n = none_at key_count font_rules keys_within n font key index past
+pub past_last : (edition : Edition) (key : ℕ) → key_count ≤ key → (font : FontValue) (index n : ℕ) → violated (font_rules edition) n font key index ≡ false
+past_last edition key past font index n =
+    in_parts edition n font key index
+    ∙ rw (
+      first_past key (omega (arith, past)) font index n,
+      in_later edition n font key index,
+      later_past key past font index n,
+      and-false (has_later_rules edition),
+    ) refl
 
 -- A set that says what the tests of a key say.
-pub told_at : (key own : ℕ) (tests : List (Rule × Bool)) (mask : Mask) (font : FontValue) (index : ℕ) → key ≡ own →
-    ((n : ℕ) → has mask n ≡ broken_among tests n) → ((n : ℕ) → violated font_rules n font own index ≡ broken_among tests n) →
-    (n : ℕ) → has mask n ≡ violated font_rules n font key index
-told_at key own tests mask font index same told left n = rw same (told n ∙ sym (left n))
+pub told_at : (rules : List FontRule) (key own : ℕ) (tests : List (Rule × Bool)) (mask : Mask) (font : FontValue) (index : ℕ) → key ≡ own →
+    ((n : ℕ) → has mask n ≡ broken_among tests n) → ((n : ℕ) → violated rules n font own index ≡ broken_among tests n) →
+    (n : ℕ) → has mask n ≡ violated rules n font key index
+told_at rules key own tests mask font index same told left n = rw same (told n ∙ sym (left n))
 
-pub broken_is_in_the_book : (n : ℕ) (font : FontValue) (key index : ℕ) → violated font_rules n font key index ≡ true → (1 ≤ n) × (n ≤ last_number)
-broken_is_in_the_book = number_within font_rules
+pub broken_is_in_the_book : BrokenIsInTheBook
+broken_is_in_the_book edition = number_within (font_rules edition)
 
 pub numbers_in_order : RuleNumbersAreInOrder
-unfolding font_rules
-numbers_in_order = refl
+unfolding first_font_rules later_font_rules
+numbers_in_order = record { first = refl; later = refl }
+
+-- The numbers of the rules of a table are at most this.
+abbrev numbers_to : ℕ → List FontRule → Bool
+numbers_to most rules = list_all (λ r. nat_le (number_of r.rule) most) rules
+
+-- Of two ways to be so.
+either : {A : Type 0} (a b c : Bool) → (b ≡ true → A) → (c ≡ true → A) → (a && b || c) ≡ true → A
+either false b c here there some = there some
+either true false c here there some = there some
+either true true c here there some = here refl
+
+number_to : (most : ℕ) (rules : List FontRule) → numbers_to most rules ≡ true → (n : ℕ) (font : FontValue) (key index : ℕ)
+    → violated rules n font key index ≡ true → n ≤ most
+number_to most [] few n font key index broken = let no : false ≡ true = broken in cc
+number_to most (r ∷ rs) few n font key index broken =
+    let parts = both (nat_le (number_of r.rule) most) (numbers_to most rs) few in
+    either (says r.tests font key index) (number_of r.rule == n) (violated rs n font key index)
+    (λ e. let same : number_of r.rule ≡ n = eqb-true (number_of r.rule) n e in omega (arith, same, leb-true (number_of r.rule) most parts.0))
+    (number_to most rs parts.1 n font key index) broken
+
+first_numbers : numbers_to last_number_before first_font_rules ≡ true
+unfolding first_font_rules
+first_numbers = refl
+
+-- The numbers of the rules of a table are above this.
+abbrev numbers_above : ℕ → List FontRule → Bool
+numbers_above most rules = list_all (λ r. nat_lt most (number_of r.rule)) rules
+
+number_above : (most : ℕ) (rules : List FontRule) → numbers_above most rules ≡ true → (n : ℕ) (font : FontValue) (key index : ℕ)
+    → n ≤ most → violated rules n font key index ≡ false
+number_above most [] many n font key index few = refl
+number_above most (r ∷ rs) many n font key index few =
+    let parts = both (nat_lt most (number_of r.rule)) (numbers_above most rs) many in
+    let more : most < number_of r.rule = ltb-true most (number_of r.rule) parts.0 in
+    let other : (number_of r.rule == n) ≡ false = ne_eqb (number_of r.rule) n (λ e. omega arith) in
+    rw (other, and-false (says r.tests font key index), number_above most rs parts.1 n font key index few) refl
+
+later_numbers : numbers_above last_number_before later_font_rules ≡ true
+unfolding later_font_rules
+later_numbers = refl
+
+pub earlier_editions_know_no_later_rule : EarlierEditionsKnowNoLaterRule
+earlier_editions_know_no_later_rule edition earlier n font key index broken =
+    number_to last_number_before first_font_rules first_numbers n font key index
+    (only (violated first_font_rules n font key index) (violated (later_rules_in edition) n font key index)
+    (in_later edition n font key index ∙ rw earlier refl) (sym (in_parts edition n font key index) ∙ broken))
+  where
+    only : (a b : Bool) → b ≡ false → (a || b) ≡ true → a ≡ true
+    only true b none some = refl
+    only false b none some = sym none ∙ some
+
+pub later_rules_change_no_other : LaterRulesChangeNoOther
+later_rules_change_no_other edition n font key index few =
+    in_parts edition n font key index
+    ∙ ap (λ b. violated first_font_rules n font key index || b)
+    (in_later edition n font key index ∙ rw (number_above last_number_before later_font_rules later_numbers n font key index few, and-false (has_later_rules edition)) refl)
+    ∙ or-false (violated first_font_rules n font key index)
+
+-- ---- what a set says of both parts
+
+module _ (edition : Edition) (n : ℕ) (font : FontValue) (kind key index : ℕ) (same : kind ≡ key) (told first : Bool)
+    (first_is : first ≡ violated first_font_rules n font kind index) where
+  at_key : told ≡ (first || violated (later_rules_in edition) n font kind index) → told ≡ violated (font_rules edition) n font key index
+  at_key is =
+      subst (λ k. told ≡ violated (font_rules edition) n font k index) same
+      (is ∙ ap (λ b. b || violated (later_rules_in edition) n font kind index) first_is ∙ sym (in_parts edition n font kind index))
+
+  pub with_later : (later : Bool) → has_later_rules edition ≡ true → told ≡ (first || later) → later ≡ violated later_font_rules n font kind index
+      → told ≡ violated (font_rules edition) n font key index
+  with_later later has is later_is =
+      at_key (is ∙ ap (λ b. first || b) (later_is ∙ sym (in_later edition n font kind index ∙ rw has refl)))
+
+  pub without_later : has_later_rules edition ≡ false → told ≡ first → told ≡ violated (font_rules edition) n font key index
+  without_later has is =
+      at_key (is ∙ sym (ap (λ b. first || b) (in_later edition n font kind index ∙ rw has refl) ∙ or-false first))
+
+-- ---- keys of which the later rules don't speak
+
+pub no_later_rule : (k : Key) → (k ≡ FontType) ⊎ ((k ≡ PaintType) ⊎ ((k ≡ UniqueId) ⊎ ((k ≡ PrivateUniqueId) ⊎ ((k ≡ Password) ⊎ ((k ≡ MinFeature)
+    ⊎ (k ≡ LenIv)))))) → (n : ℕ) (font : FontValue) (index : ℕ) → violated later_font_rules n font (key_number k) index ≡ false
+unfolding later_font_rules
+no_later_rule k (inl is) n font index = rw is refl
+no_later_rule k (inr (inl is)) n font index = rw is refl
+no_later_rule k (inr (inr (inl is))) n font index = rw is refl
+no_later_rule k (inr (inr (inr (inl is)))) n font index = rw is refl
+no_later_rule k (inr (inr (inr (inr (inl is))))) n font index = rw is refl
+no_later_rule k (inr (inr (inr (inr (inr (inl is)))))) n font index = rw is refl
+no_later_rule k (inr (inr (inr (inr (inr (inr is)))))) n font index = rw is refl
+
+pub no_later_rule_of_kind : (kind : KeyKind) → (kind ≡ File) ⊎ ((kind ≡ Encoding) ⊎ (kind ≡ CharStrings)) → (n : ℕ) (font : FontValue) (index : ℕ)
+    → violated later_font_rules n font (kind_number kind) index ≡ false
+unfolding later_font_rules
+no_later_rule_of_kind kind (inl is) n font index = rw is refl
+no_later_rule_of_kind kind (inr (inl is)) n font index = rw is refl
+no_later_rule_of_kind kind (inr (inr is)) n font index = rw is refl

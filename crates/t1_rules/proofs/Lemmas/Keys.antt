@@ -1,22 +1,27 @@
 -- No rule is broken past the places of a key.
-use Rattle.std.proofs.Common.{◌⊎◌, nat_le, inl, inr, slice_index_or, ◌≡◌, ℕ, zero, suc, ◌+◌, ◌%◌, ◌<◌, ◌≤◌, ◌==◌, Bool, true, false, None, nat_eq, nat_lt, ℤ, List, [], ◌∷◌, length, refl, arith}
+use Rattle.std.proofs.Common.{◌⊎◌, nat_le, inl, inr, slice_index_or, ◌≡◌, ℕ, zero, suc, ◌+◌, ◌%◌, ◌<◌, ◌≤◌, ◌==◌, ◌&&◌, Bool, true, false, None, nat_eq, nat_lt, ℤ, List, [], ◌∷◌, length, refl, ◌∙◌, arith}
 use Rattle.std.proofs.Math.Bool.{and-false}
 use Rattle.std.proofs.lemmas.Bool.{ne_eqb, le-ltb, ltb-true, le-leb, leb-true}
 use Rattle.std.proofs.lemmas.List.{length-take}
 use Rattle.std.specs.Map.{lookup}
 use Rattle.std.specs.List.{list_all}
+use Rattle.t1_char.specs.Editions.{has_later_rules}
+use Rattle.t1_char.specs.declared.edition.Edition.{Edition}
+use Rattle.t1_char.specs.declared.edition.Edition.TheVariants.{One, Three, Two}
 use Rattle.t1_font.specs.Fonts.{FontValue}
 use Rattle.t1_font.specs.Values.{Value, absent, number, numbers, other}
 use Rattle.t1_font.specs.declared.key.Key.TheVariants as keys
+use Rattle.t1_rules.specs.Laws.FontRules.{NothingIsBrokenPastLast, NothingIsBrokenPastPlaces}
 use Rattle.t1_rules.specs.Keys.{value_at, subr_places, glyph_places, places_of, places_by_key}
-use Rattle.t1_rules.specs.FontRules.Values.{first_in}
-use Rattle.t1_rules.specs.FontRules.Hints.{falls_at, numbers_at}
+use Rattle.t1_rules.specs.FontRules.Dictionaries.{are_exchanged}
+use Rattle.t1_rules.specs.FontRules.Values.{first_in, is_so_many}
+use Rattle.t1_rules.specs.FontRules.Hints.{falls_at, has_fraction_at, numbers_at, repeats_at}
 use Rattle.t1_rules.specs.FontRules.Zones.{distance, scale, is_too_near, meets, is_too_high}
-use Rattle.t1_rules.specs.FontRules.Subrs.{is_wrong_subr}
+use Rattle.t1_rules.specs.FontRules.Subrs.{is_wrong_subr, lacks_return}
 use Rattle.t1_rules.specs.FontRules.Glyphs.{is_glyph_given_twice}
-use Rattle.t1_rules.specs.FontRules.{font_rules, violated}
+use Rattle.t1_rules.specs.FontRules.{first_font_rules, later_font_rules, violated}
 use Rattle.t1_rules.proofs.Lemmas.Book.{both}
-use Rattle.t1_rules.proofs.Lemmas.FontRules.{past_last}
+use Rattle.t1_rules.proofs.Lemmas.FontRules.{first_past, in_later, in_parts, later_past, past_last}
 
 differs : (m n : ℕ) → n < m → (m == n) ≡ false
 differs m n less = ne_eqb m n (λ e. omega arith)
@@ -45,6 +50,20 @@ pub zones_past : (font : FontValue) (v : List ℤ) (index : ℕ) → length v �
 zones_past font v index past =
     (falls_past v index past, near_past (distance font) v index past, high_past (scale font) v index past)
 
+fraction_past : (v : List ℤ) (index : ℕ) → length v ≤ index → has_fraction_at v index ≡ false
+fraction_past v index past = rw (le-ltb index (length v) past) refl
+
+exchanged_past : (v : List ℤ) (index : ℕ) → 2 ≤ index → are_exchanged v index ≡ false
+exchanged_past [] index past = refl
+exchanged_past (a ∷ []) index past = refl
+exchanged_past (a ∷ (b ∷ [])) index past = refl
+exchanged_past (a ∷ (b ∷ (c ∷ []))) index past = refl
+exchanged_past (a ∷ (b ∷ (c ∷ (d ∷ [])))) index past = rw (differs index 0 (omega arith), differs index 1 (omega arith)) refl
+exchanged_past (a ∷ (b ∷ (c ∷ (d ∷ (e ∷ v))))) index past = refl
+
+repeats_past : (v : List ℤ) (index : ℕ) → length v ≤ index → repeats_at v index ≡ false
+repeats_past v index past = rw (le-ltb index (length v) past, and-false (nat_lt 0 index)) refl
+
 lookup_past : (subrs : List (ℕ × List ℕ)) (index : ℕ) → index < 65536 → subr_places subrs ≤ index → lookup (nat_eq index) subrs ≡ None
 lookup_past [] index small past = refl
 lookup_past (subr ∷ subrs) index small past =
@@ -58,6 +77,13 @@ wrong_subr_past font index past = go (nat_lt index 65536) refl
     go true e = rw (lookup_past font.subrs index (ltb-true index 65536 e) past, and-false (nat_lt index 65536)) refl
     go false e = rw e refl
 
+no_return_past : (font : FontValue) (index : ℕ) → subr_places font.subrs ≤ index → lacks_return font index ≡ false
+no_return_past font index past = go (nat_lt index 65536) refl
+  where
+    go : (b : Bool) → nat_lt index 65536 ≡ b → lacks_return font index ≡ false
+    go true e = rw (lookup_past font.subrs index (ltb-true index 65536 e) past, and-false (nat_lt index 65536)) refl
+    go false e = rw e refl
+
 glyph_twice_past : (font : FontValue) (index : ℕ) → glyph_places font ≤ index → is_glyph_given_twice font index ≡ false
 glyph_twice_past font index past = go (nat_lt index 65536) refl
   where
@@ -68,59 +94,118 @@ glyph_twice_past font index past = go (nat_lt index 65536) refl
     go false e = rw e refl
 
 -- The rules that are said of an entry as a whole are at index 0.
-pub past_places : (font : FontValue) (key index : ℕ) → places_of font key ≤ index → (n : ℕ) → violated font_rules n font key index ≡ false
-unfolding font_rules
-past_places font zero index past n = rw (differs index 0 past) refl
-past_places font (suc zero) index past n = rw (differs index 0 past) refl
-past_places font (suc (suc zero)) index past n = rw (differs index 0 past) refl
-past_places font (suc (suc (suc zero))) index past n = rw (differs index 0 past) refl
-past_places font (suc (suc (suc (suc zero)))) index past n = rw (differs index 0 (omega arith), le-ltb index 256 past) refl
-past_places font (suc (suc (suc (suc (suc zero))))) index past n = rw (differs index 0 past) refl
-past_places font (suc (suc (suc (suc (suc (suc zero)))))) index past n = rw (differs index 0 past) refl
-past_places font (suc (suc (suc (suc (suc (suc (suc zero))))))) index past n = rw (differs index 0 past) refl
-past_places font (suc (suc (suc (suc (suc (suc (suc (suc zero)))))))) index past n = refl
-past_places font (suc (suc (suc (suc (suc (suc (suc (suc (suc zero))))))))) index past n =
+first_past_places : (edition : Edition) (font : FontValue) (key index : ℕ) → places_of edition font key ≤ index → (n : ℕ)
+    → violated first_font_rules n font key index ≡ false
+unfolding first_font_rules
+first_past_places edition font zero index past n = rw (differs index 0 past) refl
+first_past_places edition font (suc zero) index past n = rw (differs index 0 past) refl
+first_past_places edition font (suc (suc zero)) index past n = rw (differs index 0 past) refl
+first_past_places edition font (suc (suc (suc zero))) index past n = rw (differs index 0 past) refl
+first_past_places edition font (suc (suc (suc (suc zero)))) index past n = rw (differs index 0 (omega arith), le-ltb index 256 past) refl
+first_past_places edition font (suc (suc (suc (suc (suc zero))))) index past n = rw (differs index 0 past) refl
+first_past_places edition font (suc (suc (suc (suc (suc (suc zero)))))) index past n = rw (differs index 0 past) refl
+first_past_places edition font (suc (suc (suc (suc (suc (suc (suc zero))))))) index past n = rw (differs index 0 past) refl
+first_past_places edition font (suc (suc (suc (suc (suc (suc (suc (suc zero)))))))) index past n = refl
+first_past_places edition font (suc (suc (suc (suc (suc (suc (suc (suc (suc zero))))))))) index past n =
     let few = within 14 (value_at font keys.BlueValues) in
     let zones = zones_past font (numbers_at font keys.BlueValues) index (omega arith) in
     rw (differs index 0 (omega arith), differs index 14 past, zones.0, zones.1, zones.2) refl
-past_places font (suc (suc (suc (suc (suc (suc (suc (suc (suc (suc zero)))))))))) index past n =
+first_past_places edition font (suc (suc (suc (suc (suc (suc (suc (suc (suc (suc zero)))))))))) index past n =
     let few = within 10 (value_at font keys.OtherBlues) in
     let zones = zones_past font (numbers_at font keys.OtherBlues) index (omega arith) in
     let meeting =
     meets_past (distance font) (numbers_at font keys.OtherBlues) (numbers_at font keys.BlueValues) index (omega arith) in
     rw (differs index 0 (omega arith), differs index 10 past, zones.0, zones.1, zones.2, meeting) refl
-past_places font (suc (suc (suc (suc (suc (suc (suc (suc (suc (suc (suc zero))))))))))) index past n =
+first_past_places edition font (suc (suc (suc (suc (suc (suc (suc (suc (suc (suc (suc zero))))))))))) index past n =
     let few = within 14 (value_at font keys.FamilyBlues) in
     let zones = zones_past font (numbers_at font keys.FamilyBlues) index (omega arith) in
     rw (differs index 0 (omega arith), differs index 14 past, zones.0, zones.1, zones.2) refl
-past_places font (suc (suc (suc (suc (suc (suc (suc (suc (suc (suc (suc (suc zero)))))))))))) index past n =
+first_past_places edition font (suc (suc (suc (suc (suc (suc (suc (suc (suc (suc (suc (suc zero)))))))))))) index past n =
     let few = within 10 (value_at font keys.FamilyOtherBlues) in
     let zones = zones_past font (numbers_at font keys.FamilyOtherBlues) index (omega arith) in
     let meeting =
     meets_past (distance font) (numbers_at font keys.FamilyOtherBlues) (numbers_at font keys.FamilyBlues) index (omega arith) in
     rw (differs index 0 (omega arith), differs index 10 past, zones.0, zones.1, zones.2, meeting) refl
-past_places font (suc (suc (suc (suc (suc (suc (suc (suc (suc (suc (suc (suc (suc zero))))))))))))) index past n = rw (differs index 0 past) refl
-past_places font (suc (suc (suc (suc (suc (suc (suc (suc (suc (suc (suc (suc (suc (suc zero)))))))))))))) index past n = rw (differs index 0 past) refl
-past_places font (suc (suc (suc (suc (suc (suc (suc (suc (suc (suc (suc (suc (suc (suc (suc zero))))))))))))))) index past n = rw (differs index 0 past) refl
-past_places font (suc (suc (suc (suc (suc (suc (suc (suc (suc (suc (suc (suc (suc (suc (suc (suc zero)))))))))))))))) index past n =
+first_past_places edition font (suc (suc (suc (suc (suc (suc (suc (suc (suc (suc (suc (suc (suc zero))))))))))))) index past n = rw (differs index 0 past) refl
+first_past_places edition font (suc (suc (suc (suc (suc (suc (suc (suc (suc (suc (suc (suc (suc (suc zero)))))))))))))) index past n = rw (differs index 0 past) refl
+first_past_places edition font (suc (suc (suc (suc (suc (suc (suc (suc (suc (suc (suc (suc (suc (suc (suc zero))))))))))))))) index past n = rw (differs index 0 past) refl
+first_past_places edition font (suc (suc (suc (suc (suc (suc (suc (suc (suc (suc (suc (suc (suc (suc (suc (suc zero)))))))))))))))) index past n =
     rw (differs index 0 past) refl
-past_places font (suc (suc (suc (suc (suc (suc (suc (suc (suc (suc (suc (suc (suc (suc (suc (suc (suc zero))))))))))))))))) index past n =
+first_past_places edition font (suc (suc (suc (suc (suc (suc (suc (suc (suc (suc (suc (suc (suc (suc (suc (suc (suc zero))))))))))))))))) index past n =
     rw (differs index 0 past) refl
-past_places font (suc (suc (suc (suc (suc (suc (suc (suc (suc (suc (suc (suc (suc (suc (suc (suc (suc (suc zero)))))))))))))))))) index past n =
+first_past_places edition font (suc (suc (suc (suc (suc (suc (suc (suc (suc (suc (suc (suc (suc (suc (suc (suc (suc (suc zero)))))))))))))))))) index past n =
     let few = within 12 (value_at font keys.StemSnapH) in
     let v = numbers_at font keys.StemSnapH in
     rw (differs index 0 (omega arith), differs index 12 past, falls_past v index (omega arith)) refl
-past_places font (suc (suc (suc (suc (suc (suc (suc (suc (suc (suc (suc (suc (suc (suc (suc (suc (suc (suc (suc zero))))))))))))))))))) index past n =
+first_past_places edition font (suc (suc (suc (suc (suc (suc (suc (suc (suc (suc (suc (suc (suc (suc (suc (suc (suc (suc (suc zero))))))))))))))))))) index past n =
     let few = within 12 (value_at font keys.StemSnapV) in
     let v = numbers_at font keys.StemSnapV in
     rw (differs index 0 (omega arith), differs index 12 past, falls_past v index (omega arith)) refl
-past_places font (suc (suc (suc (suc (suc (suc (suc (suc (suc (suc (suc (suc (suc (suc (suc (suc (suc (suc (suc (suc zero)))))))))))))))))))) index past n =
+first_past_places edition font (suc (suc (suc (suc (suc (suc (suc (suc (suc (suc (suc (suc (suc (suc (suc (suc (suc (suc (suc (suc zero)))))))))))))))))))) index past n =
     rw (wrong_subr_past font index past) refl
-past_places font (suc (suc (suc (suc (suc (suc (suc (suc (suc (suc (suc (suc (suc (suc (suc (suc (suc (suc (suc (suc (suc zero))))))))))))))))))))) index past
+first_past_places edition font (suc (suc (suc (suc (suc (suc (suc (suc (suc (suc (suc (suc (suc (suc (suc (suc (suc (suc (suc (suc (suc zero))))))))))))))))))))) index past
     n = rw (differs index 0 (omega arith), glyph_twice_past font index past) refl
-past_places font (suc (suc (suc (suc (suc (suc (suc (suc (suc (suc (suc (suc (suc (suc (suc (suc (suc (suc (suc (suc (suc (suc key)))))))))))))))))))))) index
-    past n = past_last (suc (suc (suc (suc (suc (suc (suc (suc (suc (suc (suc (suc (suc (suc (suc (suc (suc (suc (suc (suc (suc (suc key))))))))))))))))))))))
+first_past_places edition font (suc (suc (suc (suc (suc (suc (suc (suc (suc (suc (suc (suc (suc (suc (suc (suc (suc (suc (suc (suc (suc (suc key)))))))))))))))))))))) index
+    past n = first_past (suc (suc (suc (suc (suc (suc (suc (suc (suc (suc (suc (suc (suc (suc (suc (suc (suc (suc (suc (suc (suc (suc key))))))))))))))))))))))
     (omega arith) font index n
+
+-- So it is of the later rules, where the edition has them.
+later_past_places : (font : FontValue) (key index : ℕ) → places_of Three font key ≤ index → (n : ℕ) → violated later_font_rules n font key index ≡ false
+unfolding later_font_rules
+later_past_places font zero index past n = refl
+later_past_places font (suc zero) index past n = refl
+later_past_places font (suc (suc zero)) index past n = refl
+later_past_places font (suc (suc (suc zero))) index past n = refl
+later_past_places font (suc (suc (suc (suc zero)))) index past n = refl
+later_past_places font (suc (suc (suc (suc (suc zero))))) index past n = refl
+later_past_places font (suc (suc (suc (suc (suc (suc zero)))))) index past n = refl
+later_past_places font (suc (suc (suc (suc (suc (suc (suc zero))))))) index past n = refl
+later_past_places font (suc (suc (suc (suc (suc (suc (suc (suc zero)))))))) index past n = refl
+later_past_places font (suc (suc (suc (suc (suc (suc (suc (suc (suc zero))))))))) index past n =
+    let few = within 14 (value_at font keys.BlueValues) in
+    rw (differs index 0 (omega arith), fraction_past (numbers_at font keys.BlueValues) index (omega arith)) refl
+later_past_places font (suc (suc (suc (suc (suc (suc (suc (suc (suc (suc zero)))))))))) index past n =
+    let few = within 10 (value_at font keys.OtherBlues) in
+    rw (fraction_past (numbers_at font keys.OtherBlues) index (omega arith)) refl
+later_past_places font (suc (suc (suc (suc (suc (suc (suc (suc (suc (suc (suc zero))))))))))) index past n =
+    let few = within 14 (value_at font keys.FamilyBlues) in
+    rw (fraction_past (numbers_at font keys.FamilyBlues) index (omega arith)) refl
+later_past_places font (suc (suc (suc (suc (suc (suc (suc (suc (suc (suc (suc (suc zero)))))))))))) index past n =
+    let few = within 10 (value_at font keys.FamilyOtherBlues) in
+    rw (fraction_past (numbers_at font keys.FamilyOtherBlues) index (omega arith)) refl
+later_past_places font (suc (suc (suc (suc (suc (suc (suc (suc (suc (suc (suc (suc (suc zero))))))))))))) index past n = rw (differs index 0 past) refl
+later_past_places font (suc (suc (suc (suc (suc (suc (suc (suc (suc (suc (suc (suc (suc (suc zero)))))))))))))) index past n = rw (differs index 0 past) refl
+later_past_places font (suc (suc (suc (suc (suc (suc (suc (suc (suc (suc (suc (suc (suc (suc (suc zero))))))))))))))) index past n = rw (differs index 0 past) refl
+later_past_places font (suc (suc (suc (suc (suc (suc (suc (suc (suc (suc (suc (suc (suc (suc (suc (suc zero)))))))))))))))) index past n = rw (differs index 0 past) refl
+later_past_places font (suc (suc (suc (suc (suc (suc (suc (suc (suc (suc (suc (suc (suc (suc (suc (suc (suc zero))))))))))))))))) index past n = rw (differs index 0 past) refl
+later_past_places font (suc (suc (suc (suc (suc (suc (suc (suc (suc (suc (suc (suc (suc (suc (suc (suc (suc (suc zero)))))))))))))))))) index past n =
+    let few = within 12 (value_at font keys.StemSnapH) in
+    rw (differs index 0 (omega arith), repeats_past (numbers_at font keys.StemSnapH) index (omega arith)) refl
+later_past_places font (suc (suc (suc (suc (suc (suc (suc (suc (suc (suc (suc (suc (suc (suc (suc (suc (suc (suc (suc zero))))))))))))))))))) index past n =
+    let few = within 12 (value_at font keys.StemSnapV) in
+    rw (differs index 0 (omega arith), repeats_past (numbers_at font keys.StemSnapV) index (omega arith)) refl
+later_past_places font (suc (suc (suc (suc (suc (suc (suc (suc (suc (suc (suc (suc (suc (suc (suc (suc (suc (suc (suc (suc zero)))))))))))))))))))) index past n = rw (no_return_past font index past) refl
+later_past_places font (suc (suc (suc (suc (suc (suc (suc (suc (suc (suc (suc (suc (suc (suc (suc (suc (suc (suc (suc (suc (suc zero))))))))))))))))))))) index past n = refl
+later_past_places font (suc (suc (suc (suc (suc (suc (suc (suc (suc (suc (suc (suc (suc (suc (suc (suc (suc (suc (suc (suc (suc (suc zero)))))))))))))))))))))) index past n = rw (differs index 0 past) refl
+later_past_places font (suc (suc (suc (suc (suc (suc (suc (suc (suc (suc (suc (suc (suc (suc (suc (suc (suc (suc (suc (suc (suc (suc (suc zero))))))))))))))))))))))) index past n = rw (differs index 0 (omega arith), exchanged_past (first_in 4 (value_at font keys.FontBBox)) index past, and-false (is_so_many 4 (value_at font keys.FontBBox))) refl
+later_past_places font (suc (suc (suc (suc (suc (suc (suc (suc (suc (suc (suc (suc (suc (suc (suc (suc (suc (suc (suc (suc (suc (suc (suc (suc zero)))))))))))))))))))))))) index past n =
+    let few = within 16 (value_at font keys.Xuid) in
+    rw (differs index 0 (omega arith), le-ltb index (length (first_in 16 (value_at font keys.Xuid))) (omega arith)) refl
+later_past_places font (suc (suc (suc (suc (suc (suc (suc (suc (suc (suc (suc (suc (suc (suc (suc (suc (suc (suc (suc (suc (suc (suc (suc (suc (suc zero))))))))))))))))))))))))) index past n = rw (differs index 0 past) refl
+later_past_places font (suc (suc (suc (suc (suc (suc (suc (suc (suc (suc (suc (suc (suc (suc (suc (suc (suc (suc (suc (suc (suc (suc (suc (suc (suc (suc key)))))))))))))))))))))))))) index past n =
+    later_past (suc (suc (suc (suc (suc (suc (suc (suc (suc (suc (suc (suc (suc (suc (suc (suc (suc (suc (suc (suc (suc (suc (suc (suc (suc (suc key))))))))))))))))))))))))))
+    (omega arith) font index n
+
+later_in_past_places : (edition : Edition) (font : FontValue) (key index : ℕ) → places_of edition font key ≤ index → (n : ℕ)
+    → (has_later_rules edition && violated later_font_rules n font key index) ≡ false
+later_in_past_places One font key index past n = refl
+later_in_past_places Two font key index past n = refl
+later_in_past_places Three font key index past n = later_past_places font key index past n
+
+pub past_places : NothingIsBrokenPastPlaces
+past_places edition font key index past n =
+    in_parts edition n font key index
+    ∙ rw (first_past_places edition font key index past n) (in_later edition n font key index ∙ later_in_past_places edition font key index past n)
 
 subr_places_bound : (subrs : List (ℕ × List ℕ)) → subr_places subrs ≤ 65536
 subr_places_bound [] = omega arith
@@ -131,8 +216,8 @@ none_over m [] few key = omega arith
 none_over m (p ∷ ps) few zero = leb-true p m (both (nat_le p m) (list_all (λ q. nat_le q m) ps) few).0
 none_over m (p ∷ ps) few (suc key) = none_over m ps (both (nat_le p m) (list_all (λ q. nat_le q m) ps) few).1 key
 
-pub few_places : (font : FontValue) (key : ℕ) → places_of font key ≤ 65536
-few_places font key = none_over 65536 (places_by_key font) (simp (subrs_few, glyphs_few) refl) key
+pub few_places : (edition : Edition) (font : FontValue) (key : ℕ) → places_of edition font key ≤ 65536
+few_places edition font key = none_over 65536 (places_by_key edition font) (few edition) key
   where
     subrs_few : nat_le (subr_places font.subrs) 65536 ≡ true
     subrs_few = le-leb (subr_places font.subrs) 65536 (subr_places_bound font.subrs)
@@ -140,6 +225,11 @@ few_places font key = none_over 65536 (places_by_key font) (simp (subrs_few, gly
     glyphs_few : nat_le (glyph_places font) 65536 ≡ true
     glyphs_few = le-leb (glyph_places font) 65536 (omega arith)
 
-pub none_past_last : (font : FontValue) (key index : ℕ) → (21 < key) ⊎ (65535 < index) → (n : ℕ) → violated font_rules n font key index ≡ false
-none_past_last font key index (inl past) n = past_last key (omega arith) font index n
-none_past_last font key index (inr past) n = past_places font key index (let few = few_places font key in omega arith) n
+    few : (edition : Edition) → list_all (λ p. nat_le p 65536) (places_by_key edition font) ≡ true
+    few One = simp (subrs_few, glyphs_few) refl
+    few Two = simp (subrs_few, glyphs_few) refl
+    few Three = simp (subrs_few, glyphs_few) refl
+
+pub none_past_last : NothingIsBrokenPastLast
+none_past_last edition font key index (inl past) n = past_last edition key (omega arith) font index n
+none_past_last edition font key index (inr past) n = past_places edition font key index (let few = few_places edition font key in omega arith) n

@@ -1,5 +1,5 @@
 -- Standard widths and stem snaps (Type 1 Font Format, chapter 5).
-use Rattle.std.specs.Prelude.{◌==◌, ◌&&◌, Bool, false, not, ℤ, List, [], ◌∷◌}
+use Rattle.std.specs.Prelude.{◌==◌, ◌&&◌, Bool, false, not, ℤ, pos, List, [], ◌∷◌, int_le}
 use Rattle.std.specs.List.{list_any}
 use Rattle.std.specs.Ordering.{int_eq}
 use Rattle.t1_font.specs.declared.key.Key.{Key}
@@ -7,7 +7,7 @@ use Rattle.t1_font.specs.declared.key.Key.TheVariants.{StdHw, StdVw, StemSnapH, 
 use Rattle.t1_font.specs.Fonts.{FontValue}
 use Rattle.t1_font.specs.Values.{Value}
 use Rattle.t1_rules.specs.Keys.{value_at}
-use Rattle.t1_rules.specs.FontRules.Values.{is_numbers, count_in, first_in}
+use Rattle.t1_rules.specs.FontRules.Values.{is_numbers, is_so_many, count_in, first_in}
 use Rattle.t1_rules.specs.FontRules.Hints.{numbers_at}
 
 -- The standard widths.
@@ -37,3 +37,17 @@ is_not_among (width ∷ widths) (snap ∷ snaps) = not (list_any (int_eq width) 
 -- The first number of the standard width isn't one of the snaps beside it.
 abbrev pub width_is_apart : FontValue → Key → Bool
 width_is_apart font k = is_not_among (first_in 1 (value_at font (width_of k))) (numbers_at font k)
+
+-- The first width is 0 or less.
+abbrev pub is_not_above_zero : List ℤ → Bool
+is_not_above_zero [] = false
+is_not_above_zero (width ∷ widths) = int_le width (pos 0)
+
+-- There is a width, and a list of stem snaps without a number.
+abbrev pub lacks_snap : List ℤ → Value → Bool
+lacks_snap [] value = false
+lacks_snap (width ∷ widths) value = is_so_many 0 value
+
+-- A list of stem snaps without a number, beside a standard width.
+abbrev pub has_no_snap : FontValue → Key → Bool
+has_no_snap font k = lacks_snap (first_in 1 (value_at font (width_of k))) (value_at font k)

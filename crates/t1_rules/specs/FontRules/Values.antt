@@ -1,5 +1,5 @@
 -- Plain values: what they are, and their numbers. Numbers are counted in billionths, and compared exactly.
-use Rattle.std.specs.Prelude.{ℕ, ◌*◌, ◌==◌, ◌&&◌, Bool, true, false, ℤ, pos, List, [], ◌∷◌, take}
+use Rattle.std.specs.Prelude.{ℕ, ◌*◌, ◌%◌, ◌==◌, ◌&&◌, Bool, true, false, ℤ, pos, List, [], ◌∷◌, take, unsigned_abs}
 use Rattle.std.specs.Ordering.{int_eq}
 use Rattle.t1_font.specs.Values.{Value, absent, number, numbers, other}
 use Rattle.t1_scan.specs.Numbers.{billion}
@@ -65,3 +65,18 @@ first_in limit absent = []
 first_in limit (number z) = []
 first_in limit (numbers count first) = take limit first
 first_in limit other = []
+
+-- A number without a fraction.
+abbrev pub is_whole : ℤ → Bool
+is_whole z = unsigned_abs z % billion == 0
+
+-- The value is a number of which this is so.
+abbrev pub is_number_so : (ℤ → Bool) → Value → Bool
+is_number_so test absent = false
+is_number_so test (number z) = test z
+is_number_so test (numbers count first) = false
+is_number_so test other = false
+
+-- The value is so many numbers.
+abbrev pub is_so_many : ℕ → Value → Bool
+is_so_many n value = is_numbers value && count_in value == n

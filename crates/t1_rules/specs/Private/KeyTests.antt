@@ -2,15 +2,16 @@
 use Rattle.std.specs.Prelude.{ℕ, ◌==◌, ◌&&◌, Bool, false, List, [], ◌∷◌}
 use Rattle.std.specs.List.{list_any}
 use Rattle.t1_font.specs.declared.key.Key.{Key}
+use Rattle.t1_font.specs.declared.key.Key.TheVariants.{BlueValues}
 use Rattle.t1_font.specs.Fonts.{FontValue}
 use Rattle.t1_rules.specs.declared.rule.Rule.{Rule}
-use Rattle.t1_rules.specs.declared.rule.Rule.TheVariants.{Z01, Z02, Z03, Z04, Z05, Z06, Z07, Z08, Z09, Z10, Z11}
+use Rattle.t1_rules.specs.declared.rule.Rule.TheVariants.{Z01, Z02, Z03, Z04, Z05, Z06, Z07, Z08, Z09, Z10, Z11, Z12, Z13, Z14, Z15, Z16}
 use Rattle.t1_rules.specs.Book.{number_of}
 use Rattle.t1_rules.specs.Keys.{value_at}
-use Rattle.t1_rules.specs.FontRules.Values.{first_in}
-use Rattle.t1_rules.specs.FontRules.Hints.{is_of_another_kind, numbers_at, has_too_many, falls_at}
+use Rattle.t1_rules.specs.FontRules.Values.{first_in, is_absent}
+use Rattle.t1_rules.specs.FontRules.Hints.{is_of_another_kind, numbers_at, has_too_many, falls_at, has_fraction_at, repeats_at}
 use Rattle.t1_rules.specs.FontRules.Zones.{has_odd_count, distance, scale, is_too_near, meets, is_too_high}
-use Rattle.t1_rules.specs.FontRules.Stems.{is_not_one_width, is_not_among}
+use Rattle.t1_rules.specs.FontRules.Stems.{is_not_above_zero, is_not_one_width, is_not_among, lacks_snap}
 
 -- Of rules, each with whether it is broken, the one of this number is.
 abbrev pub broken_among : List (Rule × Bool) → ℕ → Bool
@@ -55,4 +56,25 @@ snap_tests font k width index =
     ∷ (Z09, has_too_many k (value_at font k) index)
     ∷ (Z10, falls_at (numbers_at font k) index)
     ∷ (Z11, index == 0 && is_not_among (first_in 1 (value_at font width)) (numbers_at font k))
+    ∷ []
+
+-- ---- by the later rules
+
+-- Of a list of zones.
+abbrev pub whole_tests : FontValue → Key → ℕ → List (Rule × Bool)
+whole_tests font k index = (Z14, has_fraction_at (numbers_at font k) index) ∷ []
+
+-- Of BlueValues.
+abbrev pub blue_tests : FontValue → ℕ → List (Rule × Bool)
+blue_tests font index = (Z12, index == 0 && is_absent (value_at font BlueValues)) ∷ whole_tests font BlueValues index
+
+-- Of a standard width.
+abbrev pub sign_tests : FontValue → Key → ℕ → List (Rule × Bool)
+sign_tests font k index = (Z13, index == 0 && is_not_above_zero (first_in 1 (value_at font k))) ∷ []
+
+-- Of a list of stem snaps.
+abbrev pub later_snap_tests : FontValue → Key → Key → ℕ → List (Rule × Bool)
+later_snap_tests font k width index =
+    (Z15, repeats_at (numbers_at font k) index)
+    ∷ (Z16, index == 0 && lacks_snap (first_in 1 (value_at font width)) (value_at font k))
     ∷ []

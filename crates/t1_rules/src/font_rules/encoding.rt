@@ -2,7 +2,7 @@
 
 ghost use Rattle.std.specs.Prelude.{◌≡◌, ℕ};
 ghost use Rattle.t1_font.specs.Views.{bytes_of};
-ghost use Rattle.t1_rules.specs.FontRules.{font_rules, violated};
+ghost use Rattle.t1_rules.specs.FontRules.{first_font_rules, violated};
 ghost use Rattle.t1_rules.specs.FontRules.Encoding.{encodes_missing, is_custom, is_missing, is_no_form};
 ghost use Rattle.t1_rules.specs.Keys.{encoding_key};
 ghost use Rattle.t1_rules.specs.Mask.{has};
@@ -50,9 +50,9 @@ pub fn encodes_missing(font: &Font<'_>, code: u32) -> bool
 }
 
 /// What the Encoding breaks at an index.
-#[tactic(auto, unfolding(crate::specs::FontRules::font_rules))]
+#[tactic(auto, unfolding(crate::specs::FontRules::first_font_rules))]
 pub(crate) fn encoding_faults(font: &Font<'_>, index: u32) -> Mask
-    ensures { (n : ℕ) → has result n ≡ violated font_rules n font.now encoding_key index }
+    ensures { (n : ℕ) → has result n ≡ violated first_font_rules n font.now encoding_key index }
 {
     Mask::empty()
         .with(Rule::F13, encodes_missing(font, index))

@@ -1,7 +1,7 @@
 //! The rules on the CharStrings: Type 1 Font Format 1.1, chapter 2.
 
 ghost use Rattle.std.specs.Prelude.{◌≡◌, ℕ, ◌==◌, ◌&&◌, not};
-ghost use Rattle.t1_rules.specs.FontRules.{font_rules, violated};
+ghost use Rattle.t1_rules.specs.FontRules.{first_font_rules, violated};
 ghost use Rattle.t1_rules.specs.FontRules.Glyphs.{has_glyph, is_glyph_given_twice, not_defined};
 ghost use Rattle.t1_rules.specs.Keys.{glyphs_key};
 ghost use Rattle.t1_rules.specs.Mask.{has};
@@ -36,9 +36,9 @@ fn is_glyph_given_twice(font: &Font<'_>, glyph: u32) -> bool
 }
 
 /// What the CharStrings break at an index.
-#[tactic(auto, unfolding(crate::specs::FontRules::font_rules))]
+#[tactic(auto, unfolding(crate::specs::FontRules::first_font_rules))]
 pub(crate) fn glyph_faults(font: &Font<'_>, index: u32) -> Mask
-    ensures { (n : ℕ) → has result n ≡ violated font_rules n font.now glyphs_key index }
+    ensures { (n : ℕ) → has result n ≡ violated first_font_rules n font.now glyphs_key index }
 {
     Mask::empty()
         .with(Rule::F10, is_glyph_given_twice(font, index))

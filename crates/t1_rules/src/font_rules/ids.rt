@@ -3,7 +3,7 @@
 ghost use Rattle.std.specs.Prelude.{◌≡◌, ℕ};
 ghost use Rattle.t1_font.specs.Entries.{entry_view};
 ghost use Rattle.t1_font.specs.declared.key.Key.TheVariants as keys;
-ghost use Rattle.t1_rules.specs.FontRules.{font_rules, violated};
+ghost use Rattle.t1_rules.specs.FontRules.{first_font_rules, violated};
 ghost use Rattle.t1_rules.specs.FontRules.Ids.{differ, is_past_range, is_whole_to};
 ghost use Rattle.t1_rules.specs.Keys.{key_number};
 ghost use Rattle.t1_rules.specs.Mask.{has};
@@ -16,7 +16,7 @@ use t1_font::{BILLION, Entry, Font, Key};
 const LAST_ID: i64 = 16_777_215;
 
 /// Whether a number is whole, from 0 to the greatest UniqueID.
-fn is_id(number: i64) -> bool
+pub(crate) fn is_id(number: i64) -> bool
     ensures { result ≡ is_whole_to 16777215 number }
 {
     number >= 0 && number % BILLION == 0 && number <= LAST_ID * BILLION
@@ -44,18 +44,18 @@ fn differ(one: &Entry, other: &Entry) -> bool
 }
 
 /// What the UniqueID of the clear text breaks at an index.
-#[tactic(auto, unfolding(crate::specs::FontRules::font_rules))]
+#[tactic(auto, unfolding(crate::specs::FontRules::first_font_rules))]
 pub(crate) fn unique_id_faults(font: &Font<'_>, index: u32) -> Mask
-    ensures { (n : ℕ) → has result n ≡ violated font_rules n font.now (key_number keys.UniqueId) index }
+    ensures { (n : ℕ) → has result n ≡ violated first_font_rules n font.now (key_number keys.UniqueId) index }
 {
     let is_past_range = is_past_range(font.value(Key::UniqueId));
     Mask::empty().with(Rule::F05, (index == 0) & is_past_range)
 }
 
 /// What the UniqueID of the Private dictionary breaks at an index.
-#[tactic(auto, unfolding(crate::specs::FontRules::font_rules))]
+#[tactic(auto, unfolding(crate::specs::FontRules::first_font_rules))]
 pub(crate) fn private_unique_id_faults(font: &Font<'_>, index: u32) -> Mask
-    ensures { (n : ℕ) → has result n ≡ violated font_rules n font.now (key_number keys.PrivateUniqueId) index }
+    ensures { (n : ℕ) → has result n ≡ violated first_font_rules n font.now (key_number keys.PrivateUniqueId) index }
 {
     let id = font.value(Key::PrivateUniqueId);
     let other = font.value(Key::UniqueId);

@@ -3,7 +3,7 @@
 
 ghost use Rattle.std.specs.Prelude.{◌≡◌};
 ghost use Rattle.t1_font.specs.Entries.{entry_view};
-ghost use Rattle.t1_rules.specs.FontRules.Values.{count_in, first_in, is_sixteen_twice, is_the_number, number_or};
+ghost use Rattle.t1_rules.specs.FontRules.Values.{count_in, first_in, is_sixteen_twice, is_so_many, is_the_number, is_whole, number_or};
 
 use t1_font::{BILLION, Entry};
 
@@ -64,5 +64,22 @@ pub(crate) fn first_in(limit: usize, value: &Entry) -> &[i64]
             }
         }
         Entry::Absent | Entry::Number(_) | Entry::Other => &[],
+    }
+}
+
+/// Whether a number has no fraction.
+pub(crate) fn is_whole(number: i64) -> bool
+    ensures { result ≡ is_whole number }
+{
+    number.unsigned_abs() % BILLION as u64 == 0
+}
+
+/// Whether a value is so many numbers.
+pub(crate) fn is_so_many(many: usize, value: &Entry) -> bool
+    ensures { result ≡ is_so_many many (entry_view value.now) }
+{
+    match value {
+        Entry::Numbers { count, .. } => *count == many,
+        Entry::Absent | Entry::Number(_) | Entry::Other => false,
     }
 }

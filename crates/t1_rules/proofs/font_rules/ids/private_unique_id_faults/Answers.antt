@@ -1,9 +1,9 @@
 use Rattle.std.proofs.Common.{refl}
-use Rattle.t1_rules.specs.FontRules.{font_rules}
+use Rattle.t1_rules.specs.FontRules.{first_font_rules}
 use Rattle.t1_rules.proofs.font_rules.ids.private_unique_id_faults.Goals as goal
 
 pub returns : goal.returns
-unfolding font_rules
+unfolding first_font_rules
 returns c = λ n.
     rw (
       c.with-2.ensures n,
