@@ -49,7 +49,13 @@ fn reason_of<'a>(font: &'a Font<'a>, sidebearings: &Sidebearings, fault: &Fault)
 {
     if fault.unit == 0 {
         let key = u8::try_from(fault.step / INDEXES).ok()?;
-        return font_reason(font, fault.rule, key, fault.step % INDEXES);
+        return font_reason(
+            font,
+            fault.rule,
+            key,
+            fault.step % INDEXES,
+            sidebearings.edition(),
+        );
     }
     let glyph = fault.unit as usize - 1;
     if glyph >= font.glyphs().len() {

@@ -1,6 +1,7 @@
 //! The groups of a font.
 
 ghost use Rattle.std.specs.Prelude.{◌≡◌, vec_len};
+ghost use Rattle.t1_rules.specs.Book.{last_number};
 
 use crate::group::Group;
 
@@ -8,5 +9,5 @@ use crate::group::Group;
 #[derive(Drop)]
 pub struct Groups {
     pub(crate) groups: Vec<Group>,
-    ghost each: { vec_len groups ≡ 70 },
+    ghost each: { vec_len groups ≡ last_number },
 }

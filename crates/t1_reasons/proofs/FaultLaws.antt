@@ -87,7 +87,7 @@ faults_have_reasons font glyph step rule m of =
 
 broken_in_font : (font : CheckedFont) (step : ℕ) (rule : Rule) → is_broken font zero step (number_of rule) ≡ true → HasReason font zero step rule
 unfolding is_broken
-broken_in_font font step rule broken = sym (fonts_broken_where_reason font.value rule (step / index_count) (step % index_count)) ∙ broken
+broken_in_font font step rule broken = sym (fonts_broken_where_reason font.edition font.value rule (step / index_count) (step % index_count)) ∙ broken
 
 pub reported_places_have_reasons : ReportedPlacesHaveReasons
 reported_places_have_reasons font waivers p within told = go p.unit within told

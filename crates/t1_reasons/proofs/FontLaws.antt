@@ -14,8 +14,8 @@ use Rattle.t1_font.specs.Values.{Value, absent, number as one_number, numbers as
 use Rattle.t1_scan.specs.Numbers.{billion}
 use Rattle.t1_rules.specs.declared.rule.Rule.{Rule}
 use Rattle.t1_rules.specs.declared.rule.Rule.TheVariants.{F03, F04, F05, F06, F07, F08, F11, F14, Z01, Z02, Z03, Z04, Z05, Z06, Z07, Z08, Z09, Z10, Z11}
-use Rattle.t1_rules.specs.Book.{number_of}
-use Rattle.t1_rules.specs.FontRules.{FontRule, each, each_of, font_rules, says, violated}
+use Rattle.t1_rules.specs.Book.{last_number_before, number_of}
+use Rattle.t1_rules.specs.FontRules.{FontRule, each, each_of, first_font_rules, font_rules, says, violated}
 use Rattle.t1_rules.specs.FontRules.Encoding.{is_no_form}
 use Rattle.t1_rules.specs.FontRules.Hints.{falls_at, has_too_many, hint_keys, is_of_another_kind, is_of_kind, number_at, numbers_at}
 use Rattle.t1_rules.specs.FontRules.Ids.{differ, id_keys, is_past_range}
@@ -25,6 +25,7 @@ use Rattle.t1_rules.specs.FontRules.Values.{count_in, first_in, is_absent, is_nu
 use Rattle.t1_rules.specs.FontRules.Zones.{begins_zone, come_near, comes_near_high, distance, has_odd_count, high_of, is_too_high, is_too_near, low_zone_keys, meets, scale, zone_keys, zones}
 use Rattle.t1_rules.specs.Keys.{index_count, key_number, list_limit_of, value_at}
 use Rattle.t1_rules.proofs.Lemmas.Book.{both}
+use Rattle.t1_rules.proofs.Lemmas.FontRules.{later_rules_change_no_other}
 use Rattle.t1_reasons.specs.declared.reason.Edges.{Edges}
 use Rattle.t1_reasons.specs.declared.reason.EntryKind.TheVariants.{Number as OneNumber, Numbers as ManyNumbers}
 use Rattle.t1_reasons.specs.declared.reason.Reason.{Reason}
@@ -285,81 +286,104 @@ snapped font k index =
     (among (first_in 1 (value_at font (width_of k))) (numbers_at font k))
 
 compared_decides : (font : FontValue) (rule : Rule) (key index : ℕ) → compares_in_fonts rule ≡ true
-    → violated font_rules (number_of rule) font key index ≡ is_some (first_in_font_row (compared_font_row rule) font key index)
-unfolding font_rules
+    → violated first_font_rules (number_of rule) font key index ≡ is_some (first_in_font_row (compared_font_row rule) font key index)
+unfolding first_font_rules
 compared_decides font F03 key index e =
-    font_row_decides 3 font_rules 2 _ refl refl refl refl font key index
+    font_row_decides 3 first_font_rules 2 _ refl refl refl refl font key index
     ∙ keys_agree is_not_one (λ font k index. index == 0 && not (is_the_number 1 (value_at font k))) entries_at typed (FontType ∷ []) font key index
 compared_decides font F04 key index e =
-    font_row_decides 4 font_rules 3 _ refl refl refl refl font key index
+    font_row_decides 4 first_font_rules 3 _ refl refl refl refl font key index
     ∙ keys_agree is_neither_fill_nor_stroke (λ font k index. index == 0 && not (is_the_number 0 (value_at font k) || is_the_number 2 (value_at font k))) entries_at painted (PaintType ∷ []) font key index
 compared_decides font F05 key index e =
-    font_row_decides 5 font_rules 4 _ refl refl refl refl font key index
+    font_row_decides 5 first_font_rules 4 _ refl refl refl refl font key index
     ∙ keys_agree is_past_ids (λ font k index. index == 0 && is_past_range (value_at font k)) entries_at past_ids id_keys font key index
 compared_decides font F06 key index e =
-    font_row_decides 6 font_rules 5 _ refl refl refl refl font key index
+    font_row_decides 6 first_font_rules 5 _ refl refl refl refl font key index
     ∙ keys_agree are_two_ids (λ font k index. index == 0 && differ (value_at font UniqueId) (value_at font k)) ids_at differing (PrivateUniqueId ∷ []) font key index
 compared_decides font F07 key index e =
-    font_row_decides 7 font_rules 6 _ refl refl refl refl font key index
+    font_row_decides 7 first_font_rules 6 _ refl refl refl refl font key index
     ∙ keys_agree is_not_5839 (λ font k index. index == 0 && not (is_the_number 5839 (value_at font k))) entries_at passed (Password ∷ []) font key index
 compared_decides font F08 key index e =
-    font_row_decides 8 font_rules 7 _ refl refl refl refl font key index
+    font_row_decides 8 first_font_rules 7 _ refl refl refl refl font key index
     ∙ keys_agree is_unusual_feature (λ font k index. index == 0 && not (is_sixteen_twice (value_at font k))) features_at unusual (MinFeature ∷ []) font key index
 compared_decides font F11 key index e =
-    font_row_decides 11 font_rules 10 _ refl refl refl refl font key index
+    font_row_decides 11 first_font_rules 10 _ refl refl refl refl font key index
     ∙ key_agrees is_unknown_form (λ font index. index == 0 && is_no_form font.encoding) forms_at formed 4 font key index
 compared_decides font F14 key index e =
-    font_row_decides 14 font_rules 13 _ refl refl refl refl font key index ∙ key_agrees is_wrong_subr wrong_subr subrs_in wrong 20 font key index
+    font_row_decides 14 first_font_rules 13 _ refl refl refl refl font key index ∙ key_agrees is_wrong_subr wrong_subr subrs_in wrong 20 font key index
 compared_decides font Z01 key index e =
-    font_row_decides 15 font_rules 14 _ refl refl refl refl font key index
+    font_row_decides 15 first_font_rules 14 _ refl refl refl refl font key index
     ∙ keys_agree is_misfit (λ font k index. is_of_another_kind k (value_at font k) index) kinds_at of_kind hint_keys font key index
 compared_decides font Z02 key index e =
-    font_row_decides 16 font_rules 15 _ refl refl refl refl font key index
+    font_row_decides 16 first_font_rules 15 _ refl refl refl refl font key index
     ∙ keys_agree is_excess (λ font k index. has_too_many k (value_at font k) index) excess_at many zone_keys font key index
 compared_decides font Z03 key index e =
-    font_row_decides 17 font_rules 16 _ refl refl refl refl font key index
+    font_row_decides 17 first_font_rules 16 _ refl refl refl refl font key index
     ∙ keys_agree is_odd (λ font k index. has_odd_count (value_at font k) index) counts_at odd zone_keys font key index
 compared_decides font Z04 key index e =
-    font_row_decides 18 font_rules 17 _ refl refl refl refl font key index
+    font_row_decides 18 first_font_rules 17 _ refl refl refl refl font key index
     ∙ keys_agree falls (λ font k index. falls_at (numbers_at font k) index) (λ font k index. falls_in (numbers_at font k) index) (λ font k index. fallen (numbers_at font k) index) zone_keys font key index
 compared_decides font Z05 key index e =
-    font_row_decides 19 font_rules 18 _ refl refl refl refl font key index
+    font_row_decides 19 first_font_rules 18 _ refl refl refl refl font key index
     ∙ keys_agree is_near (λ font k index. is_too_near (distance font) (numbers_at font k) index) (λ font k index. gap_in (distance font) (numbers_at font k) index) (λ font k index. near (distance font) (numbers_at font k) index) zone_keys font key index
 compared_decides font Z06 key index e =
-    font_row_decides 20 font_rules 19 _ refl refl refl refl font key index
+    font_row_decides 20 first_font_rules 19 _ refl refl refl refl font key index
     ∙ keys_agree are_near comes_near_high meetings_at (λ font k index. met (distance font) (numbers_at font k) (numbers_at font (high_of k)) index) low_zone_keys font key index
 compared_decides font Z07 key index e =
-    font_row_decides 21 font_rules 20 _ refl refl refl refl font key index
+    font_row_decides 21 first_font_rules 20 _ refl refl refl refl font key index
     ∙ keys_agree reaches_one (λ font k index. is_too_high (scale font) (numbers_at font k) index) (λ font k index. zone_in (scale font) (numbers_at font k) index) (λ font k index. high (scale font) (numbers_at font k) index) zone_keys font key index
 compared_decides font Z08 key index e =
-    font_row_decides 22 font_rules 21 _ refl refl refl refl font key index
+    font_row_decides 22 first_font_rules 21 _ refl refl refl refl font key index
     ∙ keys_agree is_no_width (λ font k index. index == 0 && is_not_one_width (value_at font k)) entries_at no_width width_keys font key index
 compared_decides font Z09 key index e =
-    font_row_decides 23 font_rules 22 _ refl refl refl refl font key index
+    font_row_decides 23 first_font_rules 22 _ refl refl refl refl font key index
     ∙ keys_agree is_excess (λ font k index. has_too_many k (value_at font k) index) excess_at many snap_keys font key index
 compared_decides font Z10 key index e =
-    font_row_decides 24 font_rules 23 _ refl refl refl refl font key index
+    font_row_decides 24 first_font_rules 23 _ refl refl refl refl font key index
     ∙ keys_agree falls (λ font k index. falls_at (numbers_at font k) index) (λ font k index. falls_in (numbers_at font k) index) (λ font k index. fallen (numbers_at font k) index) snap_keys font key index
 compared_decides font Z11 key index e =
-    font_row_decides 25 font_rules 24 _ refl refl refl refl font key index
+    font_row_decides 25 first_font_rules 24 _ refl refl refl refl font key index
     ∙ keys_agree is_apart (λ font k index. index == 0 && width_is_apart font k) widths_at snapped snap_keys font key index
 compared_decides font _ key index e = let no : false ≡ true = e in cc
 
+-- A rule that compares numbers is one up to number 70.
+compared_few : (rule : Rule) → compares_in_fonts rule ≡ true → number_of rule ≤ last_number_before
+compared_few F03 e = omega arith
+compared_few F04 e = omega arith
+compared_few F05 e = omega arith
+compared_few F06 e = omega arith
+compared_few F07 e = omega arith
+compared_few F08 e = omega arith
+compared_few F11 e = omega arith
+compared_few F14 e = omega arith
+compared_few Z01 e = omega arith
+compared_few Z02 e = omega arith
+compared_few Z03 e = omega arith
+compared_few Z04 e = omega arith
+compared_few Z05 e = omega arith
+compared_few Z06 e = omega arith
+compared_few Z07 e = omega arith
+compared_few Z08 e = omega arith
+compared_few Z09 e = omega arith
+compared_few Z10 e = omega arith
+compared_few Z11 e = omega arith
+compared_few _ e = let no : false ≡ true = e in cc
+
 pub fonts_broken_where_reason : FontsBreakWhereThereIsAReason
-fonts_broken_where_reason font rule key index = go (compares_in_fonts rule) refl
+fonts_broken_where_reason edition font rule key index = go (compares_in_fonts rule) refl
   where
     is_broken : Bool
-    is_broken = violated font_rules (number_of rule) font key index
+    is_broken = violated (font_rules edition) (number_of rule) font key index
 
     go : (b : Bool) → compares_in_fonts rule ≡ b → is_broken
-        ≡ is_some (first_in_font_row (if b then compared_font_row rule else font_reason_row (told_in_fonts rule) is_any) font key index)
-    go true is = compared_decides font rule key index is
+        ≡ is_some (first_in_font_row (if b then compared_font_row rule else font_reason_row (told_in_fonts edition rule) is_any) font key index)
+    go true is = later_rules_change_no_other edition (number_of rule) font key index (compared_few rule is) ∙ compared_decides font rule key index is
     go false is = and_true is_broken ∙ sym (such_where is_broken is_any (told_in_font rule font index))
 
 pub reasons_are_against : FontReasonsAreAgainstTheirRules
-reasons_are_against font rule key index reason e = record {
-  there = found_there (font_row_of rule).is_against ((font_row_of rule).candidates font key index) reason e;
-  against = found_such (font_row_of rule).is_against ((font_row_of rule).candidates font key index) reason e;
+reasons_are_against edition font rule key index reason e = record {
+  there = found_there (font_row_of edition rule).is_against ((font_row_of edition rule).candidates font key index) reason e;
+  against = found_such (font_row_of edition rule).is_against ((font_row_of edition rule).candidates font key index) reason e;
 }
 
 -- ---- what would do

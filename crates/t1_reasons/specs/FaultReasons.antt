@@ -25,7 +25,7 @@ FaultsHaveReasons =
 
 -- There is a reason at a unit and a step: in the font at the key and the index of the step, in a glyph at one of its steps.
 abbrev pub HasReason : CheckedFont → ℕ → ℕ → Rule → Type 0
-HasReason font zero step rule = is_some (font_reason font.value rule (step / index_count) (step % index_count)) ≡ true
+HasReason font zero step rule = is_some (font_reason font.edition font.value rule (step / index_count) (step % index_count)) ≡ true
 HasReason font (suc glyph) step rule = (m : MachineView) → IsOf font glyph m → is_some (reason_at m rule step) ≡ true
 
 -- Each place of a report has a reason, but for the waivers that aren't used.

@@ -4,6 +4,7 @@ use Rattle.std.specs.List.{find}
 use Rattle.std.specs.Map.{lookup}
 use Rattle.std.specs.Option.{unwrap_or}
 use Rattle.std.specs.Ordering.{int_eq}
+use Rattle.t1_char.specs.declared.edition.Edition.{Edition}
 use Rattle.t1_font.specs.declared.key.Key.{Key}
 use Rattle.t1_font.specs.declared.key.Key.TheVariants.{FontType, PaintType, UniqueId, PrivateUniqueId, Password, MinFeature, BlueScale, BlueShift, BlueFuzz}
 use Rattle.t1_font.specs.Fonts.{FontValue, is_subr_twice}
@@ -318,15 +319,16 @@ told_in_font F10 font index = Glyph index
 told_in_font F13 font index = Code index
 told_in_font _ font index = Nothing
 
-abbrev pub told_in_fonts : Rule → FontValue → ℕ → ℕ → List Reason
-told_in_fonts rule font key index = only_where (violated font_rules (number_of rule) font key index) (told_in_font rule font index)
+abbrev pub told_in_fonts : Edition → Rule → FontValue → ℕ → ℕ → List Reason
+told_in_fonts edition rule font key index =
+    only_where (violated (font_rules edition) (number_of rule) font key index) (told_in_font rule font index)
 
-abbrev pub font_row_of : Rule → FontReasonRow
-font_row_of rule = if compares_in_fonts rule then compared_font_row rule else font_reason_row (told_in_fonts rule) is_any
+abbrev pub font_row_of : Edition → Rule → FontReasonRow
+font_row_of edition rule = if compares_in_fonts rule then compared_font_row rule else font_reason_row (told_in_fonts edition rule) is_any
 
 -- The first candidate that is against the rule.
 abbrev pub first_in_font_row : FontReasonRow → FontValue → ℕ → ℕ → Option Reason
 first_in_font_row row font key index = find row.is_against (row.candidates font key index)
 
-abbrev pub font_reason : FontValue → Rule → ℕ → ℕ → Option Reason
-font_reason font rule key index = first_in_font_row (font_row_of rule) font key index
+abbrev pub font_reason : Edition → FontValue → Rule → ℕ → ℕ → Option Reason
+font_reason edition font rule key index = first_in_font_row (font_row_of edition rule) font key index

@@ -40,18 +40,18 @@ ReasonsAreAgainstTheirRules =
 -- A font breaks a rule at a key and an index exactly where it has a reason.
 abbrev pub FontsBreakWhereThereIsAReason : Type 0
 FontsBreakWhereThereIsAReason =
-    (font : FontValue) (rule : Rule) (key index : ℕ) →
-    violated font_rules (number_of rule) font key index ≡ is_some (font_reason font rule key index)
+    (edition : Edition) (font : FontValue) (rule : Rule) (key index : ℕ) →
+    violated (font_rules edition) (number_of rule) font key index ≡ is_some (font_reason edition font rule key index)
 
 -- The same of reasons of a font.
-pub record IsFontReason (font : FontValue) (rule : Rule) (key index : ℕ) (reason : Reason) : Type 0 where
-  pub there : Contains ((font_row_of rule).candidates font key index) reason
-  pub against : (font_row_of rule).is_against reason ≡ true
+pub record IsFontReason (edition : Edition) (font : FontValue) (rule : Rule) (key index : ℕ) (reason : Reason) : Type 0 where
+  pub there : Contains ((font_row_of edition rule).candidates font key index) reason
+  pub against : (font_row_of edition rule).is_against reason ≡ true
 
 abbrev pub FontReasonsAreAgainstTheirRules : Type 0
 FontReasonsAreAgainstTheirRules =
-    (font : FontValue) (rule : Rule) (key index : ℕ) (reason : Reason) → font_reason font rule key index ≡ Some reason →
-    IsFontReason font rule key index reason
+    (edition : Edition) (font : FontValue) (rule : Rule) (key index : ℕ) (reason : Reason) → font_reason edition font rule key index ≡ Some reason →
+    IsFontReason edition font rule key index reason
 
 -- The BlueScale that would do does, and no greater one.
 abbrev pub ScalesDo : Type 0

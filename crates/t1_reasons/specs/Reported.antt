@@ -19,13 +19,13 @@ waiver_reason font None = None
 waiver_reason font (Some w) = Some (WaiverReason (unused_reason font w.0))
 
 -- Of a key and an index of the font, which the step says.
-abbrev pub key_reason : FontValue → Rule → ℕ → Option Reason
-key_reason font rule step = font_reason font rule (step / index_count) (step % index_count)
+abbrev pub key_reason : CheckedFont → Rule → ℕ → Option Reason
+key_reason font rule step = font_reason font.edition font.value rule (step / index_count) (step % index_count)
 
 -- Of a fault in the font, in a glyph, or of a waiver that isn't used.
 abbrev pub fault_reason : CheckedFont → List Waiver → FaultValue → Option Reason
 fault_reason font waivers fault =
-    if fault.unit == 0 then key_reason font.value fault.rule fault.step
+    if fault.unit == 0 then key_reason font fault.rule fault.step
     else (if fault.unit == length font.value.glyphs + 1 then waiver_reason font.value (slice_get waivers (fault.step - 1))
     else glyph_reason font.value font.edition (fault.unit - 1) fault.rule fault.step)
 

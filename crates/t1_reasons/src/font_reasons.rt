@@ -15,6 +15,7 @@ ghost use Rattle.t1_rules.specs.FontRules.Hints.{hint_keys};
 ghost use Rattle.t1_rules.specs.Keys.{encoding_key, list_limit_of, subrs_key};
 
 use crate::reason::{Edges, EntryKind, Found, Reason};
+use t1_char::Edition;
 use t1_font::{BILLION, Encoding, Entry, Font, Key};
 use t1_rules::{INDEXES, Rule, distance, font_faults, numbers_at, scale};
 
@@ -24,15 +25,26 @@ const PRODUCT_ONE: i128 = BILLION as i128 * BILLION as i128;
 /// The greatest UniqueID.
 const LAST_ID: i64 = 16_777_215;
 
-/// Returns why a font breaks a rule at a key and an index, or None where it doesn't: the first of what the rule compares that is
+/// Returns why a font breaks a rule at a key and an index by an edition, or None where it doesn't: the first of what the rule compares that is
 /// against it.
-pub fn font_reason(font: &Font<'_>, rule: Rule, key: u8, index: u32) -> Option<Reason>
-    ensures { result ≡ font_reason font.now rule key index }
+pub fn font_reason(
+    font: &Font<'_>,
+    rule: Rule,
+    key: u8,
+    index: u32,
+    edition: Edition,
+) -> Option<Reason>
+    ensures { result ≡ font_reason edition font.now rule key index }
 {
     if compares_in_fonts(rule) {
         compared(font, rule, key, index)
     } else {
-        told_where(font_faults(font, key, index).has(rule), rule, font, index)
+        told_where(
+            font_faults(font, key, index, edition).has(rule),
+            rule,
+            font,
+            index,
+        )
     }
 }
 

@@ -71,9 +71,15 @@ impl<'a> ReportReasons<'a> {
     /// Why a rule is broken at the key and the index of a step of the font.
     fn key_reason(&self, rule: Rule, step: u32) -> Option<Reason>
         requires { step / index_count < key_count }
-        ensures { result ≡ key_reason self.now.value rule step }
+        ensures { result ≡ key_reason self.now rule step }
     {
-        font_reason(self.font, rule, (step / INDEXES) as u8, step % INDEXES)
+        font_reason(
+            self.font,
+            rule,
+            (step / INDEXES) as u8,
+            step % INDEXES,
+            self.sidebearings.edition(),
+        )
     }
 
     /// Why the waiver of a number, from 1, isn't used.

@@ -23,30 +23,30 @@ use Rattle.t1_report.specs.Reports.{is_broken, path_in, rules_of, step_breaks, p
 
 -- ---- the font
 
-pub in_font : (font : CheckedFont) (key index n : ℕ) → index < 65536 → is_broken font 0 (65536 * key + index) n ≡ violated font_rules n font.value key index
+pub in_font : (font : CheckedFont) (key index n : ℕ) → index < 65536 → is_broken font 0 (65536 * key + index) n ≡ violated (font_rules font.edition) n font.value key index
 unfolding is_broken
 in_font font key index n few =
     let at : (65536 * key + index) / 65536 ≡ key = omega arith in
     let place : (65536 * key + index) % 65536 ≡ index = omega arith in
-    ap (λ (k : ℕ). violated font_rules n font.value k ((65536 * key + index) % 65536)) at ∙ ap (λ (i : ℕ). violated font_rules n font.value key i) place
+    ap (λ (k : ℕ). violated (font_rules font.edition) n font.value k ((65536 * key + index) % 65536)) at ∙ ap (λ (i : ℕ). violated (font_rules font.edition) n font.value key i) place
 
 pub no_path : (font : FontValue) (step : ℕ) → path_in font 0 step ≡ []
 unfolding path_in
 no_path font step = refl
 
 -- past the places of a key, up to the next key
-pub past_key : (font : CheckedFont) (key step n : ℕ) → 65536 * key + places_of font.value key ≤ step → step < 65536 * (key + 1)
+pub past_key : (font : CheckedFont) (key step n : ℕ) → 65536 * key + places_of font.edition font.value key ≤ step → step < 65536 * (key + 1)
     → is_broken font 0 step n ≡ false
 unfolding is_broken
 past_key font key step n past less =
     let at : step / 65536 ≡ key = omega arith in
-    let beyond : places_of font.value key ≤ step % 65536 = omega arith in
-    ap (λ (k : ℕ). violated font_rules n font.value k (step % 65536)) at ∙ past_places font.value key (step % 65536) beyond n
+    let beyond : places_of font.edition font.value key ≤ step % 65536 = omega arith in
+    ap (λ (k : ℕ). violated (font_rules font.edition) n font.value k (step % 65536)) at ∙ past_places font.edition font.value key (step % 65536) beyond n
 
 -- past the last key
 pub past_keys : (font : CheckedFont) (step n : ℕ) → index_count * key_count ≤ step → is_broken font 0 step n ≡ false
 unfolding is_broken
-past_keys font step n past = past_last (step / 65536) (omega arith) font.value (step % 65536) n
+past_keys font step n past = past_last font.edition (step / 65536) (omega arith) font.value (step % 65536) n
 
 -- ---- glyphs
 

@@ -332,10 +332,10 @@ hand_done s new found mark none ahead font waivers unit quiet =
 -- ---- the measure
 
 steps_of_part : (font : CheckedFont) (waivers : List Waiver) (from first unit passed checked : ℕ) (part : Part) → IsPart font waivers from first unit passed
-    checked part → step_of_part part ≤ 1600000
+    checked part → step_of_part part ≤ 1800000
 steps_of_part font waivers from first unit passed checked (Font places) (is, none) = omega (arith, is.places_are.key, is.places_are.index)
-steps_of_part font waivers from first unit passed checked (Glyph run) (is, none) = few_steps (executed run.machine) run.machine.glyph
-    run.machine.counted is.runs.counted
+steps_of_part font waivers from first unit passed checked (Glyph run) (is, none) =
+    omega (arith, few_steps (executed run.machine) run.machine.glyph run.machine.counted is.runs.counted)
 steps_of_part font waivers from first unit passed checked (Waivers next) is = omega (arith, is.within, is.few_waivers)
 steps_of_part font waivers from first unit passed checked Over is = omega arith
 
@@ -344,11 +344,11 @@ pub fewer_places : (s new : Search) (place : Found) → IsSearch s → checked_i
     → (length new.font.now.glyphs + 2 - new.unit) * 2000000 + (2000000 - step_of_part new.part) < (length s.font.now.glyphs + 2 - s.unit) *
     2000000 + (2000000 - step_of_part s.part)
 fewer_places s new place search font first (unit, step) =
-    let few : step_of_part s.part ≤ 1600000 = steps_of_part (checked_in s) s.waivers.now s.from s.first s.unit s.passed s.checked s.part search.part_is in
+    let few : step_of_part s.part ≤ 1800000 = steps_of_part (checked_in s) s.waivers.now s.from s.first s.unit s.passed s.checked s.part search.part_is in
     let count : length new.font.now.glyphs ≡ length s.font.now.glyphs = ap (λ (f : CheckedFont). length f.value.glyphs) font in
     by_place few count first.behind
   where
-    by_place : step_of_part s.part ≤ 1600000 → length new.font.now.glyphs ≡ length s.font.now.glyphs → IsFrom s.unit (step_of_part s.part) place.unit place.step
+    by_place : step_of_part s.part ≤ 1800000 → length new.font.now.glyphs ≡ length s.font.now.glyphs → IsFrom s.unit (step_of_part s.part) place.unit place.step
         → (length new.font.now.glyphs + 2 - new.unit) * 2000000 + (2000000 - step_of_part new.part) < (length s.font.now.glyphs + 2 - s.unit) *
         2000000 + (2000000 - step_of_part s.part)
     by_place few count (inl less) = omega (arith, few, count, less, unit, step, first.within)
@@ -357,5 +357,5 @@ fewer_places s new place search font first (unit, step) =
 pub fewer_steps : (s new : Search) (place : Found) → IsSearch s → IsFirstTold (checked_in s) s.waivers.now s.unit (step_of_part s.part) place
     → step_of_part new.part ≡ place.step + 1 → 2000000 - step_of_part new.part < 2000000 - step_of_part s.part
 fewer_steps s new place search first step =
-    let few : step_of_part s.part ≤ 1600000 = steps_of_part (checked_in s) s.waivers.now s.from s.first s.unit s.passed s.checked s.part search.part_is in
+    let few : step_of_part s.part ≤ 1800000 = steps_of_part (checked_in s) s.waivers.now s.from s.first s.unit s.passed s.checked s.part search.part_is in
     omega (arith, few, first.behind, step)

@@ -20,7 +20,7 @@ use Rattle.t1_rules.proofs.Lemmas.Book.{both, one_rule}
 use Rattle.t1_report.proofs.Told.{first_waiver, no_waiver, told_in_font, told_of_waiver, told_within}
 use Rattle.t1_rules.specs.Keys.{index_count, key_count}
 
-key_within : (font : CheckedFont) (waivers : List Waiver) (unit step n : ℕ) → unit ≡ 0 → is_told font waivers unit step n ≡ true → step / 65536 ≤ 21
+key_within : (font : CheckedFont) (waivers : List Waiver) (unit step n : ℕ) → unit ≡ 0 → is_told font waivers unit step n ≡ true → step / 65536 ≤ 25
 key_within font waivers unit step n first is =
     elim (cases_lt step (index_count * key_count)) [
       | inl less ↦ omega arith

@@ -17,31 +17,31 @@ use Rattle.t1_report.proofs.Broken.{in_font, no_path, past_key, past_keys}
 use Rattle.t1_rules.specs.Keys.{key_count}
 
 -- An index that is tested is below 65,536.
-pub few_index : (font : FontValue) (p : FontPlaces) → IsFontPlaces font p → p.index < p.places → p.index < 65536
-few_index font p is less = let few = few_places font p.key in omega (arith, few, is.places, less)
+pub few_index : (font : CheckedFont) (p : FontPlaces) → IsFontPlaces font p → p.index < p.places → p.index < 65536
+few_index font p is less = let few = few_places font.edition font.value p.key in omega (arith, few, is.places, less)
 
 -- The set of a place is what is broken there.
-place_agrees : (font : CheckedFont) (p : FontPlaces) (mask : Mask) → p.index < 65536 → ((n : ℕ) → has mask n ≡ violated font_rules n font.value p.key p.index)
+place_agrees : (font : CheckedFont) (p : FontPlaces) (mask : Mask) → p.index < 65536 → ((n : ℕ) → has mask n ≡ violated (font_rules font.edition) n font.value p.key p.index)
     → (n : ℕ) → has mask n ≡ is_broken font 0 (font_step p) n
 place_agrees font p mask few answers n = answers n ∙ sym (in_font font p.key p.index n few)
 
-pub first_place : (font : CheckedFont) (from : ℕ) (p : FontPlaces) (found : Found) → IsFontPlaces font.value p → p.index < p.places → from ≤ font_step p
+pub first_place : (font : CheckedFont) (from : ℕ) (p : FontPlaces) (found : Found) → IsFontPlaces font p → p.index < p.places → from ≤ font_step p
     → IsQuiet font 0 from (font_step p)
-    → found.unit ≡ 0 → found.step ≡ font_step p → found.path.items ≡ [] → ((n : ℕ) → has found.rules n ≡ violated font_rules n font.value p.key p.index)
+    → found.unit ≡ 0 → found.step ≡ font_step p → found.path.items ≡ [] → ((n : ℕ) → has found.rules n ≡ violated (font_rules font.edition) n font.value p.key p.index)
     → IsFirst font 0 from found
 first_place font from p found is less behind quiet unit step path answers =
     record {
       unit_is = unit;
       behind = subst (λ s. from ≤ s) (sym step) behind;
       quiet = subst (λ s. IsQuiet font 0 from s) (sym step) quiet;
-      rules = λ n. place_agrees font p found.rules (few_index font.value p is less) answers n ∙ ap (λ s. is_broken font 0 s n) (sym step);
+      rules = λ n. place_agrees font p found.rules (few_index font p is less) answers n ∙ ap (λ s. is_broken font 0 s n) (sym step);
       path = path ∙ sym (no_path font.value found.step);
     }
 
 -- A place where nothing is broken, and the place after it.
-pub place_passed : (font : CheckedFont) (from : ℕ) (p next : FontPlaces) (mask : Mask) → IsFontPlaces font.value p → p.index < p.places
+pub place_passed : (font : CheckedFont) (from : ℕ) (p next : FontPlaces) (mask : Mask) → IsFontPlaces font p → p.index < p.places
     → IsQuiet font 0 from (font_step p)
-    → ((n : ℕ) → has mask n ≡ violated font_rules n font.value p.key p.index) → HasNoneAbove mask 0 → font_step next ≡ font_step p + 1
+    → ((n : ℕ) → has mask n ≡ violated (font_rules font.edition) n font.value p.key p.index) → HasNoneAbove mask 0 → font_step next ≡ font_step p + 1
     → IsQuiet font 0 from (font_step next)
 place_passed font from p next mask is less quiet answers none at = λ s rule past before.
     elim (cases_lt s (font_step p)) [
@@ -49,12 +49,12 @@ place_passed font from p next mask is less quiet answers none at = λ s rule pas
       | inr here ↦
           let same : s ≡ font_step p = omega (arith, here, before, at) in
           ap (λ (t : ℕ). is_broken font 0 t (number_of rule)) same
-          ∙ sym (place_agrees font p mask (few_index font.value p is less) answers (number_of rule))
+          ∙ sym (place_agrees font p mask (few_index font p is less) answers (number_of rule))
           ∙ none (number_of rule) (in_book rule).0 (in_book rule).1
     ]
 
 -- The rest of a key, past its places.
-pub key_passed : (font : CheckedFont) (from : ℕ) (p next : FontPlaces) → IsFontPlaces font.value p → p.places ≤ p.index → IsQuiet font 0 from (font_step p)
+pub key_passed : (font : CheckedFont) (from : ℕ) (p next : FontPlaces) → IsFontPlaces font p → p.places ≤ p.index → IsQuiet font 0 from (font_step p)
     → next.key ≡ p.key + 1 → next.index ≡ 0 → IsQuiet font 0 from (font_step next)
 key_passed font from p next is past quiet key index = λ s rule behind before.
     elim (cases_lt s (font_step p)) [

@@ -21,7 +21,7 @@ use Rattle.t1_report.proofs.Broken.{no_path_behind}
 use Rattle.t1_report.proofs.Told.{no_waiver, quiet_told, told_in_font, told_in_glyph, told_of_waiver}
 
 -- The search's part, by its kind.
-part_as : (s : Search) (part : Part) → s.part ≡ part → IsSearch s → IsPart (checked_in s) s.waivers.now s.from s.first s.unit s.passed s.checked part
+pub part_as : (s : Search) (part : Part) → s.part ≡ part → IsSearch s → IsPart (checked_in s) s.waivers.now s.from s.first s.unit s.passed s.checked part
 part_as s part is search = subst (λ p. IsPart (checked_in s) s.waivers.now s.from s.first s.unit s.passed s.checked p) is search.part_is
 
 -- ---- the font

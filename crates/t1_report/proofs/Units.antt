@@ -389,7 +389,7 @@ none_when_over s is over t rule past = past_waivers (checked_in s) s.waivers.now
 
 -- A search begins in the font, with a glyph, or with the waivers.
 pub font_begun : (s : Search) (places : FontPlaces) → AreOf s.font.now s.sidebearings.now → s.from ≡ 0 → s.unit ≡ 0 → s.passed ≡ 0 → s.checked ≡ 0
-    → s.part ≡ Font places → IsFontPlaces s.font.now places → IsSearch s
+    → s.part ≡ Font places → IsFontPlaces (checked_in s) places → IsSearch s
 font_begun s places components begins unit passed checked part are =
     record {
       part_is = subst (λ part. IsPart (checked_in s) s.waivers.now s.from s.first s.unit s.passed s.checked part) (sym part)

@@ -55,7 +55,7 @@ rules_of font = charstring_rules font.edition (components_of (step_limit font) f
 -- The rule of a number is broken at a unit and a step: in the font at the key and the index of the step, in a
 -- glyph at one of its steps, which count from 1.
 unfoldable pub is_broken : CheckedFont → ℕ → ℕ → ℕ → Bool
-is_broken font zero step n = violated font_rules n font.value (step / index_count) (step % index_count)
+is_broken font zero step n = violated (font_rules font.edition) n font.value (step / index_count) (step % index_count)
 is_broken font (suc glyph) zero n = false
 is_broken font (suc glyph) (suc i) n =
     nat_lt glyph (length font.value.glyphs)

@@ -1,7 +1,7 @@
 //! Laws above the definitions: each is the contract of a function without a body.
 
 ghost use Rattle.t1_report.specs.Laws.Editions.{CleanFontsStayClean, UsualFontsHaveOneReport};
-ghost use Rattle.t1_char.specs.declared.edition.Edition.TheVariants.{One, Two};
+ghost use Rattle.t1_char.specs.declared.edition.Edition.TheVariants.{One, Three, Two};
 ghost use Rattle.t1_report.specs.Laws.Limits.{AreCheckedTo};
 ghost use Rattle.t1_report.specs.Laws.PassedLines.{PassedLinesBreakNoRule, WatchersMoveOnByLines};
 ghost use Rattle.t1_report.specs.Laws.PassedNumbers.{CalmIsBehindNoReplacement, CalmWatchersStandBehindNumbers, PassedNumbersBreakNoRule};
@@ -56,11 +56,12 @@ pub fn faults_of_a_unit_are_the_reports()
     ensures end { AllOfUnitAreGivenAtLast }
 {}
 
-/// The first edition applies the table of rules to each of a glyph's first 100,000 steps, the second to the first
+/// The first edition applies the table of rules to each of a glyph's first 100,000 steps, the others to the first
 /// 1,000,000. At the step after these, if there is one, L01 alone is broken. Further on nothing is.
 pub fn the_limit_is_one_step()
     ensures first { AreCheckedTo 100000 One }
     ensures second { AreCheckedTo 1000000 Two }
+    ensures third { AreCheckedTo 1000000 Three }
 {}
 
 /// Numbers that a machine passes break no rule, unless the first of them is directly after a hint replacement or the

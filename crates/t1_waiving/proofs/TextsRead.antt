@@ -5,7 +5,7 @@ use Rattle.std.proofs.lemmas.List.Folds.{list_all-append}
 use Rattle.std.specs.List.{All, AllByRecursion, list_all}
 use Rattle.t1_char.specs.Steps.{StepView, steps_of}
 use Rattle.t1_char.specs.declared.edition.Edition.{Edition}
-use Rattle.t1_char.specs.declared.edition.Edition.TheVariants.{One, Two}
+use Rattle.t1_char.specs.declared.edition.Edition.TheVariants.{One, Three, Two}
 use Rattle.t1_font.specs.Fonts.{FontValue, glyph_name, name_in}
 use Rattle.t1_lines.specs.Lines.{FaultLineValue, IsFaultLine, at_step, line_in}
 use Rattle.t1_lines.specs.Names.{HasNames}
@@ -42,6 +42,7 @@ step_waivable : (edition : Edition) → all_waivable (step_rules edition) ≡ tr
 unfolding step_rules argument_rules call_rules path_rules stem_rules flex_rules othersubr_rules seac_rules
 step_waivable One = refl
 step_waivable Two = refl
+step_waivable Three = refl
 
 component_waivable : (components : List Component) → all_waivable (component_rules components) ≡ true
 unfolding component_rules

@@ -106,7 +106,7 @@ pub record IsFontPart (font : CheckedFont) (from unit passed : ℕ) (places : Fo
   pub begins : from ≡ 0
   pub unit_is : unit ≡ 0
   pub none_passed : passed ≡ 0
-  pub places_are : IsFontPlaces font.value places
+  pub places_are : IsFontPlaces font places
 
 pub record IsGlyphPart (font : CheckedFont) (from unit passed : ℕ) (run : GlyphRun) : Type 0 where
   pub begins : from ≤ unit

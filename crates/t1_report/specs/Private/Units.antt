@@ -37,10 +37,10 @@ pub record IsFirst (font : CheckedFont) (unit from : ℕ) (found : Found) : Type
 abbrev pub font_step : FontPlaces → ℕ
 font_step p = index_count * p.key + p.index
 
-pub record IsFontPlaces (font : FontValue) (p : FontPlaces) : Type 0 where
+pub record IsFontPlaces (font : CheckedFont) (p : FontPlaces) : Type 0 where
   pub key : p.key ≤ key_count
   pub index : p.index ≤ index_count
-  pub places : p.places ≡ places_of font p.key
+  pub places : p.places ≡ places_of font.edition font.value p.key
 
 -- What a machine executes.
 abbrev pub executed : MachineView → CheckedFont

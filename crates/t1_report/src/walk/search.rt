@@ -71,16 +71,11 @@ impl<'a> Search<'a> {
         ensures behind { (p : Place) → IsTold (checked font.now sidebearings.now.edition) waivers.now p → p.unit ≡ unit →
             step ≤ p.step → step_of_part result.part ≤ p.step }
     {
+        let edition = sidebearings.edition();
         let part = if unit == 0 {
-            Part::Font(FontPlaces::from(font, step))
+            Part::Font(FontPlaces::from(font, edition, step))
         } else {
-            unit_part(
-                font,
-                waivers,
-                unit as usize - 1,
-                step,
-                sidebearings.edition(),
-            )
+            unit_part(font, waivers, unit as usize - 1, step, edition)
         };
         Search {
             font,
@@ -146,8 +141,9 @@ impl<'a> Search<'a> {
         ensures unit { self.new.unit ≡ self.old.unit }
         ensures aim { aim_of self.new ≡ aim_of self.old }
     {
+        let edition = self.sidebearings.edition();
         match &mut self.part {
-            Part::Font(places) => places.next(self.font),
+            Part::Font(places) => places.next(self.font, edition),
             Part::Glyph(run) => match run.next(self.sidebearings, self.unit) {
                 Some(found) => Some(told_of(found, self.font, self.waivers)),
                 None => None,

@@ -1,4 +1,4 @@
-use Rattle.t1_char.specs.declared.edition.Edition.TheVariants.{One, Two}
+use Rattle.t1_char.specs.declared.edition.Edition.TheVariants.{One, Three, Two}
 use Rattle.t1_report.proofs.StepLimit.{are_checked}
 use Rattle.t1_report.proofs.laws.the_limit_is_one_step.Goals as goal
 
@@ -7,3 +7,6 @@ returns-clause-first c = are_checked One
 
 pub returns-clause-second : goal.returns-clause-second
 returns-clause-second c = are_checked Two
+
+pub returns-clause-third : goal.returns-clause-third
+returns-clause-third c = are_checked Three

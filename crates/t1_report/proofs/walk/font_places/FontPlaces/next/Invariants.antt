@@ -1,5 +1,4 @@
 use Rattle.std.proofs.Common.{◌≤◌, ◌+◌, ◌-◌, ◌*◌}
-use Rattle.t1_char.specs.declared.edition.Edition.{Edition}
 use Rattle.t1_report.specs.Checked.{checked}
 use Rattle.t1_report.specs.Private.Units.{IsFontPlaces, IsQuiet, font_step}
 use Rattle.t1_report.proofs.walk.font_places.FontPlaces.next.Given as goal
@@ -7,8 +6,8 @@ use Rattle.t1_rules.specs.Keys.{key_count}
 
 abbrev pub invariant-loop-self : goal.invariant-loop-self
 invariant-loop-self l = record {
-  places : IsFontPlaces l.font l.self;
-  quiet : (edition : Edition) → IsQuiet (checked l.font edition) 0 (font_step l.fn.self) (font_step l.self);
+  places : IsFontPlaces (checked l.font l.edition) l.self;
+  quiet : IsQuiet (checked l.font l.edition) 0 (font_step l.fn.self) (font_step l.self);
   behind : font_step l.fn.self ≤ font_step l.self;
 }
 

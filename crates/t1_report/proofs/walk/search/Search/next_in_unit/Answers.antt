@@ -1,12 +1,28 @@
-use Rattle.std.proofs.Common.{◌∙◌, ap, arith}
+use Rattle.std.proofs.Common.{MatchOption, ◌∙◌, ap, arith, refl, subst, sym}
+use Rattle.t1_report.specs.Checked.{checked}
+use Rattle.t1_report.specs.Private.Units.{IsFirst, IsFontPlaces, IsQuietFrom, font_step}
 use Rattle.t1_report.specs.Private.Searches.{is_over}
-use Rattle.t1_report.proofs.ToldInUnit.{next_asked, none_of_glyph, none_of_waivers, told_of_font, told_of_glyph, told_of_next}
-use Rattle.t1_report.proofs.Units.{few_passed, none_when_over}
+use Rattle.t1_report.specs.declared.walk.search.Part.TheVariants.{Font}
+use Rattle.t1_report.proofs.ToldInUnit.{next_asked, none_of_glyph, none_of_waivers, part_as, told_of_font, told_of_glyph, told_of_next}
+use Rattle.t1_report.proofs.Units.{few_passed, font_begun, none_when_over}
 use Rattle.t1_report.proofs.walk.search.Search.next_in_unit.Goals as goal
+
+pub next-requires : goal.next-requires
+next-requires c = record {
+  places = subst (λ e. IsFontPlaces (checked c.args.self.now.font.now e) c.in-Font.places) (sym c.edition-edition.ensures)
+      (part_as c.args.self.now (Font c.in-Font.places) c.in-Font.is c.requires.search).0.places_are;
+}
+
+pub returns-in-Font-clause-search : goal.returns-in-Font-clause-search
+returns-in-Font-clause-search c =
+    let at = part_as c.args.self.now (Font c.in-Font.places) c.in-Font.is c.requires.search in
+    font_begun _ c.next.new.self c.requires.search.components_are at.0.begins at.0.unit_is at.0.none_passed at.1 refl
+    (subst (λ e. IsFontPlaces (checked c.args.self.now.font.now e) c.next.new.self) c.edition-edition.ensures c.next.ensures.places)
 
 pub returns-in-Font-clause-found : goal.returns-in-Font-clause-found
 returns-in-Font-clause-found c = told_of_font c.args.self.now c.in-Font.places c.next.result c.in-Font.is c.requires.search
-    (c.next.ensures.found c.args.self.now.sidebearings.now.edition)
+    (subst (λ e. MatchOption c.next.result (IsQuietFrom (checked c.args.self.now.font.now e) 0 (font_step c.in-Font.places))
+    (λ found. IsFirst (checked c.args.self.now.font.now e) 0 (font_step c.in-Font.places) found)) c.edition-edition.ensures c.next.ensures.found)
 
 pub returns-in-Some-clause-found : goal.returns-in-Some-clause-found
 returns-in-Some-clause-found c =
