@@ -2,6 +2,7 @@
 
 use std::alloc::Global;
 use std::test::Fail;
+use t1_char::Edition;
 use t1_font::Encoding;
 use t1_reasons::{
     Edges, EntryKind, Found, Reason, Unused, font_reason, fuzz_across, fuzz_that_does,
@@ -340,7 +341,7 @@ fn reason_of(
     let sample = Sample::new(alloc)?.key(lines.as_bytes())?;
     let mut file = opened(alloc, &sample)?;
     let font = font_of(alloc, &mut file)?;
-    Ok(font_reason(&font, rule, key, index))
+    Ok(font_reason(&font, rule, key, index, Edition::One))
 }
 
 #[test]
@@ -485,7 +486,7 @@ fn reasons_of_what_the_clear_text_says(rt: HostRuntime) -> Result<(), Fail> {
             .glyph(b"B", NOTDEF)?;
         let mut file = opened(rt.alloc(), &sample)?;
         let font = font_of(rt.alloc(), &mut file)?;
-        let found = font_reason(&font, *rule, *key, *index);
+        let found = font_reason(&font, *rule, *key, *index, Edition::One);
         assert_eq!(rt; found, *reason, "{clear} {lines}");
     }
     Ok(())

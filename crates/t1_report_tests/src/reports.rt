@@ -22,7 +22,7 @@ fn has_line(font: &Font<'_>, waivers: &Waivers<'_>, fault: &Fault) -> bool
     let unit = fault.unit as usize;
     let glyphs = font.glyphs().len();
     if unit == 0 {
-        fault.step / 65_536 <= 21 && fault.path.is_empty()
+        fault.step / 65_536 <= 25 && fault.path.is_empty()
     } else if unit > glyphs {
         unit == glyphs + 1
             && matches!(fault.rule, Rule::U01)

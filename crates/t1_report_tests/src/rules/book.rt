@@ -12,6 +12,8 @@ const TEXTS: &[(Rule, u8, &str)] = &[
     (Rule::GE02, 40, "tokens after the end"),
     (Rule::X06, 57, "setcurrentpoint outside flex"),
     (Rule::L01, 69, "step limit"),
+    (Rule::F15, 71, "FontMatrix is not six numbers"),
+    (Rule::Z19, 85, "BlueFuzz out of range"),
 ];
 
 #[test]

@@ -4,8 +4,9 @@
 use std::alloc::{AllocError, Global};
 use std::process::Abort;
 use std::test::Fail;
+use t1_char::Edition;
 use t1_font::{Font, OpenFont, Unread};
-use t1_rules::{KEYS, Mask, Rule, font_faults, key_text, places, rule_code};
+use t1_rules::{KEYS, Mask, RULE_COUNT, font_faults, key_text, places, rule_code};
 use t1_samples::{FontFile, add_fault, font_of};
 
 /// A clear text that breaks no rule.
@@ -41,7 +42,7 @@ fn add_faults(
     mask: Mask,
 ) -> Result<(), AllocError> {
     let mut floor = 0;
-    for _ in 0..Rule::U01.number() {
+    for _ in 0..RULE_COUNT {
         let Some(rule) = mask.above(floor) else {
             break;
         };
@@ -58,13 +59,13 @@ fn add_faults(
 fn faults_of(alloc: Global, font: &Font<'_>) -> Result<String, AllocError> {
     let mut faults = String::new(alloc);
     for key in 0..KEYS {
-        for index in 0..places(font, key) {
+        for index in 0..places(font, key, Edition::One) {
             add_faults(
                 alloc,
                 &mut faults,
                 key,
                 index,
-                font_faults(font, key, index),
+                font_faults(font, key, index, Edition::One),
             )?;
         }
     }

@@ -10,7 +10,10 @@ const TEXTS: &[(u8, &str)] = &[
     (12, "FamilyOtherBlues"),
     (16, "StdHW"),
     (21, "CharStrings"),
-    (22, ""),
+    (22, "FontMatrix"),
+    (24, "XUID"),
+    (25, "LanguageGroup"),
+    (26, ""),
     (255, ""),
 ];
 
