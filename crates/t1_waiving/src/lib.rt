@@ -14,7 +14,7 @@
 //!   glyph, and no waiver is unused.
 //!
 //! ```
-//! let status = waive_all(alloc, names, open_font, |_| None, Edition::One, &mut waiving)?;
+//! let status = waive_all(alloc, names, WaiverFiles::LeftAside, &mut files, Edition::One, &mut waiving)?;
 //! let too_many = tell_too_many(&mut errors, &waiving.kept)?;
 //! for font in waiving.kept.fonts() { .. }
 //! ```
