@@ -200,8 +200,8 @@ still_of part m m' run same = record {
   edition = same.edition ∙ run.edition;
 }
 
-pub one_executed : (part : PartView) (m m' : MachineView) (next : DrawnStep) (old new new' : DrawingSoFar)
-    (known known' : Composition) (n : ℕ) → IsRunOf part m → IsOfSameGlyph m m' → m.counted ≡ n → HasDrawn part old new known n → n < part.last
+pub one_executed : (part : PartView) (m m' : MachineView) (next : DrawnStep) (old new new' : DrawingSoFar) (known known' : Composition)
+    (n : ℕ) → IsRunOf part m → IsOfSameGlyph m m' → m.counted ≡ n → HasDrawn part old new known n → n < part.last
     → IsDrawnNext m m' next
     → new'.layers ≡ with_step part m'.step.number next.leaves_open next.segments.items new.layers
     → new'.notes ≡ new.notes ++ flex_note part.label m'.step.number m'.step.step next.segments.items
