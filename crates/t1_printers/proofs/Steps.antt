@@ -1,13 +1,19 @@
 -- Steps of loops over rules and groups.
-use Rattle.std.proofs.Common.{◌≡◌, ◌-◌, ◌<◌, ℕ, List, Option, [], ◌++◌, ap, append-nil, append_assoc, arith, get_or, length, map, set, sym, ◌∙◌}
+use Rattle.std.proofs.Common.{◌≡◌, ◌-◌, ◌<◌, ◌≤◌, ℕ, List, Option, [], ◌++◌, ap, append-nil, append_assoc, arith, flat_map, get_or, length, map, set, sym, take, ◌∙◌}
 use Rattle.std.proofs.Math.ListN.{get_or-map}
-use Rattle.std.proofs.lemmas.List.{get_or_default, length-map, map-set}
+use Rattle.std.proofs.lemmas.List.{get_or_default, length-map, map-set, take_all}
 use Rattle.t1_printers.specs.Groups.{added, empty_group, group_value}
 use Rattle.t1_printers.specs.RuleGroups.{with_line}
 use Rattle.t1_printers.specs.declared.group.Group.{Group}
 use Rattle.t1_printers.specs.declared.unit.UnitNumber.{UnitNumber}
 use Rattle.t1_rules.specs.Book.{number_of}
 use Rattle.t1_rules.specs.declared.rule.Rule.{Rule}
+
+-- the lines of all rules are those of a loop over them
+pub each_line : (old new : List ℕ) (line : Rule → List ℕ) (given all : List Rule) (i : ℕ) → new ≡ old ++ flat_map line (take i given) → given ≡ all
+    → length all ≤ i → new ≡ old ++ flat_map line all
+each_line old new line given all i is same past =
+    is ∙ ap (λ rs. old ++ flat_map line rs) (ap (take i) same ∙ take_all i all past)
 
 -- three texts
 pub three_texts : (none first second third a b c : List ℕ) → none ≡ [] → first ≡ none ++ a → second ≡ first ++ b → third ≡ second ++ c
