@@ -38,10 +38,16 @@ const ABSENT: &[InThird] = &[
     ),
 ];
 
-/// The words are more of the clear text of a font that has these entries; a later one of a name counts.
-const IN_CLEAR: &str = "A: 0 500 hsbw endchar | key: /BlueValues [] def | \
+/// A font that has these entries. The words that follow are more of its clear text; a later entry of a name counts.
+const SOUND: &str = "A: 0 500 hsbw endchar | key: /BlueValues [] def | \
 encoding: /Encoding StandardEncoding def /FontMatrix [0.001 0 0 0.001 0 0] def \
 /FontBBox {0 0 1000 1000} def ";
+
+/// The same of such a font with one more part, of which the words are the end.
+fn assert_part(rt: &impl Abort, alloc: Global, part: &str, rows: &[InThird]) -> Result<(), Fail> {
+    let front = format!(in alloc; "{SOUND}{part}")?;
+    assert_third(rt, alloc, front.as_str(), rows)
+}
 
 /// Entries of the clear text.
 const CLEAR_ENTRIES: &[InThird] = &[
@@ -80,13 +86,8 @@ const CLEAR_ENTRIES: &[InThird] = &[
 #[test]
 fn entries_of_the_clear_text(rt: HostRuntime) -> Result<(), Fail> {
     assert_third(&rt, rt.alloc(), ALONE, ABSENT)?;
-    assert_third(&rt, rt.alloc(), IN_CLEAR, CLEAR_ENTRIES)
+    assert_third(&rt, rt.alloc(), SOUND, CLEAR_ENTRIES)
 }
-
-/// The words are more of the private text.
-const IN_PRIVATE: &str = "A: 0 500 hsbw endchar | \
-encoding: /Encoding StandardEncoding def /FontMatrix [0.001 0 0 0.001 0 0] def \
-/FontBBox {0 0 1000 1000} def | key: /BlueValues [] def ";
 
 /// Entries of the Private dictionary.
 const PRIVATE_ENTRIES: &[InThird] = &[
@@ -127,13 +128,8 @@ const PRIVATE_ENTRIES: &[InThird] = &[
 
 #[test]
 fn entries_of_the_private_dictionary(rt: HostRuntime) -> Result<(), Fail> {
-    assert_third(&rt, rt.alloc(), IN_PRIVATE, PRIVATE_ENTRIES)
+    assert_part(&rt, rt.alloc(), "| key: ", PRIVATE_ENTRIES)
 }
-
-/// The words are Subr 5, which no glyph calls.
-const IN_SUBR: &str = "A: 0 500 hsbw endchar | \
-encoding: /Encoding StandardEncoding def /FontMatrix [0.001 0 0 0.001 0 0] def \
-/FontBBox {0 0 1000 1000} def | key: /BlueValues [] def | 5: ";
 
 /// A return counts wherever it is.
 const SUBRS: &[InThird] = &[
@@ -147,5 +143,5 @@ const SUBRS: &[InThird] = &[
 
 #[test]
 fn subrs_without_return(rt: HostRuntime) -> Result<(), Fail> {
-    assert_third(&rt, rt.alloc(), IN_SUBR, SUBRS)
+    assert_part(&rt, rt.alloc(), "| 5: ", SUBRS)
 }
