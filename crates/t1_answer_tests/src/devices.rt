@@ -1,7 +1,7 @@
 //! Devices that fail at each place of a run.
 
 ghost use Rattle.std.specs.Prelude.{◌≡◌, true};
-ghost use Rattle.t1_io.specs.Limits.{lets_some_through};
+ghost use Rattle.t1_samples.specs.Limits.{lets_some_through};
 
 use crate::files::{Made, file_of};
 use crate::runs::{RUNS, Run, run_of};
@@ -12,9 +12,9 @@ use std::io::Read;
 use std::process::Abort;
 use std::test::Fail;
 use t1_answer::Options;
-use t1_io::{Fuse, In, Limit, Out};
+use t1_io::{In, Out};
 use t1_run::{Status, run};
-use t1_samples::END_SEGMENT;
+use t1_samples::{END_SEGMENT, Fuse, Limit};
 
 /// A reader that returns a byte a read, without end.
 #[derive(Drop)]

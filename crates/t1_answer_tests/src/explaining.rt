@@ -1,15 +1,16 @@
 //! What is printed for words that parse to no options.
 
 ghost use Rattle.std.specs.Prelude.{◌≡◌, true};
-ghost use Rattle.t1_io.specs.Limits.{lets_some_through};
+ghost use Rattle.t1_samples.specs.Limits.{lets_some_through};
 
 use crate::command_line::{HELP, help_of};
 use crate::devices::FAR;
 use crate::shared::Answer;
 use std::alloc::Global;
 use std::test::Fail;
-use t1_io::{Fuse, Limit, Out};
+use t1_io::Out;
 use t1_run::{Status, UsageError, explain};
+use t1_samples::{Fuse, Limit};
 
 /// What is printed for words that parse to no options, over an output with this limit.
 fn explained(alloc: Global, error: &UsageError, output: Limit) -> Answer

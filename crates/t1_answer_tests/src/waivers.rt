@@ -1,7 +1,7 @@
 //! Waivers: what is written with them, when they are read, and readers of them that fail.
 
 ghost use Rattle.std.specs.Prelude.{◌≡◌, true};
-ghost use Rattle.t1_io.specs.Limits.{lets_some_through};
+ghost use Rattle.t1_samples.specs.Limits.{lets_some_through};
 
 use crate::devices::FAR;
 use crate::files::{Made, file_of};
@@ -9,9 +9,9 @@ use crate::runs::options_of;
 use crate::shared::{Answer, answer_over};
 use std::alloc::{AllocError, Global};
 use std::test::Fail;
-use t1_io::{Fuse, In, Limit};
+use t1_io::In;
 use t1_run::Status;
-use t1_samples::NOTDEF;
+use t1_samples::{Fuse, Limit, NOTDEF};
 
 /// How the waivers are read.
 #[derive(Clone, Copy, Debug)]

@@ -3,7 +3,8 @@
 
 use std::io;
 use std::io::{Read, Write};
-use t1_io::{Fuse, In, Limit, Out, Sink, Source, put_all, put_parts};
+use t1_io::{In, Out, Sink, Source, put_all, put_parts};
+use t1_samples::{Fuse, Limit};
 
 /// A device whose calls all fail.
 #[derive(Drop)]

@@ -1,3 +1,2 @@
 pub mod Devices
-pub mod Limits
 pub mod Private

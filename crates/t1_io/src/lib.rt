@@ -1,8 +1,7 @@
 //! Devices that may fail: a [`Source`] to read bytes from and a [`Sink`] to write them to. Both
 //! know whether a call of theirs has failed.
 //!
-//! [`In`] and [`Out`] wrap std's readers and writers. [`Fuse`] makes a device of tests fail at a
-//! chosen place or move a few bytes a call. [`put_all`] is the loop that writes a whole slice.
+//! [`In`] and [`Out`] wrap std's readers and writers. [`put_all`] is the loop that writes a whole slice.
 //!
 //! Promised of every device:
 //!
@@ -23,15 +22,11 @@
 
 mod broken;
 mod counts;
-mod fuse;
-mod limit;
 mod sink;
 mod source;
 mod writing;
 
 pub use broken::Broken;
-pub use fuse::Fuse;
-pub use limit::Limit;
 pub use sink::{Out, Sink};
 pub use source::{In, Source};
 pub use writing::{deliver, put_all, put_parts};

@@ -2,8 +2,9 @@
 
 use std::alloc::Global;
 use std::test::Fail;
-use t1_io::{Broken, Fuse, Limit, Out};
+use t1_io::{Broken, Out};
 use t1_rules::Rule;
+use t1_samples::{Fuse, Limit};
 use t1_summary::{FontClass, Tally, summary};
 
 /// The tally of fonts and lines.

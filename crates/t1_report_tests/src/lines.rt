@@ -5,10 +5,10 @@ use arrayvec::ArrayVec;
 use std::alloc::Global;
 use std::test::Fail;
 use t1_font::{Font, OpenFont, Unread};
-use t1_io::{Fuse, Limit, Out};
+use t1_io::Out;
 use t1_report::{Fault, Waivers};
 use t1_rules::Rule;
-use t1_samples::{Sample, font_of, opened};
+use t1_samples::{Fuse, Limit, Sample, font_of, opened};
 
 /// The file of a font with the glyphs `.notdef`, `A` and one without a name.
 fn of_three_glyphs(alloc: Global) -> Result<OpenFont, Unread> {

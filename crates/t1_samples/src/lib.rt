@@ -7,6 +7,7 @@
 //! - [`assembled`] makes a charstring of words, as a trace writes them; [`eexec`] and [`charstring`] encrypt.
 //! - [`opened`] and [`font_of`] read a font back; [`long_glyph`] has one of many steps.
 //! - [`add_fault`] lists the rules that a font breaks, as the tables of all tests do.
+//! - [`Fuse`] is a device that fails at a chosen place or moves a few bytes a call, by its [`Limit`].
 //!
 //! What is promised: what is encrypted is what the standard's formula says, and deciphering it yields the bytes
 //! again. Each call returns, and fails only when out of memory. `opened` and `font_of` also fail where t1_font
@@ -25,6 +26,8 @@ mod assembly;
 mod cipher;
 mod faults;
 mod file;
+mod fuse;
+mod limit;
 mod long;
 mod reading;
 mod sample;
@@ -33,6 +36,8 @@ pub use assembly::assembled;
 pub use cipher::{charstring, eexec};
 pub use faults::add_fault;
 pub use file::{END_SEGMENT, FontFile, TRAILER};
+pub use fuse::Fuse;
+pub use limit::Limit;
 pub use long::{add_times, long_glyph};
 pub use reading::{boxed, font_of, opened};
 pub use sample::{CLEAR, Charstrings, NOTDEF, Sample};

@@ -1,13 +1,13 @@
-//! Devices that fail on purpose, for tests.
+//! Devices that fail on purpose.
 
 ghost use Rattle.std.specs.Prelude.{◌≡◌, ◌≤◌, true, length, IfOk};
 ghost use Rattle.t1_io.specs.Devices.{Flushes, Puts, Takes};
-ghost use Rattle.t1_io.specs.Limits.{Burns, count_of, held, let_through, lets_some_through};
+ghost use Rattle.t1_samples.specs.Limits.{Burns, count_of, held, let_through, lets_some_through};
 
-use crate::counts::{PutCounts, TakeCounts};
-use crate::{Broken, Limit, Sink, Source};
+use crate::Limit;
+use t1_io::{Broken, Sink, Source};
 
-/// A device over another one that fails at a chosen place, or moves few bytes a call: for tests.
+/// A device over another one that fails at a chosen place, or moves few bytes a call.
 ///
 /// A fuse that has blown fails every call, a flush too, and leaves the device as it is.
 #[derive(Drop)]
@@ -16,8 +16,10 @@ pub struct Fuse<D> {
     pub device: D,
     /// What is left of the fuse.
     pub limit: Limit,
-    taken: TakeCounts,
-    put: PutCounts,
+    takes: u64,
+    late_takes: u64,
+    failed_puts: u64,
+    failed: bool,
     ghost moves: { lets_some_through limit ≡ true },
 }
 
@@ -56,30 +58,27 @@ impl<D> Fuse<D> {
         requires { lets_some_through limit ≡ true }
         ensures device { result.device ≡ device }
         ensures limit { result.limit ≡ limit }
-        ensures taken { result.taken ≡ record { takes = 0; late_takes = 0; failed = failed } }
-        ensures put { result.put ≡ record { failed_puts = 0; failed = failed } }
+        ensures takes { result.takes ≡ 0 }
+        ensures late_takes { result.late_takes ≡ 0 }
+        ensures failed_puts { result.failed_puts ≡ 0 }
+        ensures failed { result.failed ≡ failed }
     {
         Fuse {
             device,
             limit,
-            taken: TakeCounts {
-                takes: 0,
-                late_takes: 0,
-                failed,
-            },
-            put: PutCounts {
-                failed_puts: 0,
-                failed,
-            },
+            takes: 0,
+            late_takes: 0,
+            failed_puts: 0,
+            failed,
         }
     }
 }
 
 impl<D: Source> Source for Fuse<D> {
     ghost state = { λ fuse. record (D.state fuse.device) {
-      takes = fuse.taken.takes;
-      late_takes = fuse.taken.late_takes;
-      failed = fuse.taken.failed;
+      takes = fuse.takes;
+      late_takes = fuse.late_takes;
+      failed = fuse.failed;
     } };
 
     fn take(&mut self, buffer: &mut [u8]) -> Result<usize, Broken>
@@ -90,10 +89,13 @@ impl<D: Source> Source for Fuse<D> {
             (held self.new.limit self.new.device (D.state self.new.device).failed) (count_of result) result }
         ensures moved { IfOk result (λ n. n ≤ let_through self.old.limit (length buffer.new)) }
     {
-        self.taken.count();
+        self.takes = self.takes.saturating_add(1);
+        if self.failed {
+            self.late_takes = self.late_takes.saturating_add(1);
+        }
         if self.limit.has_blown() {
             self.limit = self.limit.burnt(0);
-            self.taken.failed = true;
+            self.failed = true;
             return Err(Broken);
         }
         let room = self.limit.let_through(buffer.len());
@@ -104,21 +106,21 @@ impl<D: Source> Source for Fuse<D> {
             }
             Err(broken) => {
                 self.limit = self.limit.burnt(0);
-                self.taken.failed = true;
+                self.failed = true;
                 Err(broken)
             }
         }
     }
 
     fn has_failed(&self) -> bool {
-        self.taken.failed
+        self.failed
     }
 }
 
 impl<D: Sink> Sink for Fuse<D> {
     ghost state = { λ fuse. record (D.state fuse.device) {
-      failed_puts = fuse.put.failed_puts;
-      failed = fuse.put.failed;
+      failed_puts = fuse.failed_puts;
+      failed = fuse.failed;
     } };
 
     fn put(&mut self, bytes: &[u8]) -> Result<usize, Broken>
@@ -131,7 +133,8 @@ impl<D: Sink> Sink for Fuse<D> {
     {
         if self.limit.has_blown() {
             self.limit = self.limit.burnt(0);
-            self.put.fail();
+            self.failed_puts = self.failed_puts.saturating_add(1);
+            self.failed = true;
             return Err(Broken);
         }
         let room = self.limit.let_through(bytes.len());
@@ -142,7 +145,8 @@ impl<D: Sink> Sink for Fuse<D> {
             }
             Err(broken) => {
                 self.limit = self.limit.burnt(0);
-                self.put.fail();
+                self.failed_puts = self.failed_puts.saturating_add(1);
+                self.failed = true;
                 Err(broken)
             }
         }
@@ -158,17 +162,17 @@ impl<D: Sink> Sink for Fuse<D> {
         let blown = self.limit.has_blown();
         self.limit = self.limit.burnt(0);
         if blown {
-            self.put.failed = true;
+            self.failed = true;
             return Err(Broken);
         }
         let flushed = self.device.flush();
         if flushed.is_err() {
-            self.put.failed = true;
+            self.failed = true;
         }
         flushed
     }
 
     fn has_failed(&self) -> bool {
-        self.put.failed
+        self.failed
     }
 }

@@ -1,7 +1,7 @@
 -- When a fuse blows, and how much it lets through.
 use Rattle.std.specs.Prelude.{◌≡◌, ◌⊎◌, ℕ, ◌-◌, ◌==◌, nat_lt, min, Bool, true, false, Result, Ok, Err, IsErr, OnErr}
-use Rattle.t1_io.specs.declared.limit.Limit.{Limit}
-use Rattle.t1_io.specs.declared.limit.Limit.TheVariants.{Bytes, Calls, BytesPerCall}
+use Rattle.t1_samples.specs.declared.limit.Limit.{Limit}
+use Rattle.t1_samples.specs.declared.limit.Limit.TheVariants.{Bytes, Calls, BytesPerCall}
 
 -- whether every further call fails
 abbrev pub has_blown : Limit → Bool

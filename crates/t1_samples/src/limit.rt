@@ -1,7 +1,7 @@
 //! When a device fails on purpose.
 
 ghost use Rattle.std.specs.Prelude.{◌≡◌};
-ghost use Rattle.t1_io.specs.Limits.{has_blown, let_through, burnt};
+ghost use Rattle.t1_samples.specs.Limits.{has_blown, let_through, burnt};
 
 /// When a [`Fuse`](crate::Fuse) fails, or how much it moves.
 #[derive(Clone, Copy, Debug, PartialEq, Eq)]
