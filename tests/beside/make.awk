@@ -44,7 +44,7 @@ function spread(text,    count, words, i, n, parts, all) {
         if (words[i] ~ /^\[?[0-9]+\*/) {
             split(words[i], parts, "*")
             if (sub(/^\[/, "", parts[1])) all = all " ["
-            for (n = 0; n < parts[1]; n++) all = all " " parts[2]
+            for (n = 0; n < parts[1] + 0; n++) all = all " " parts[2]
         } else all = all " " words[i]
     return substr(all, 2)
 }
