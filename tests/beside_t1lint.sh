@@ -45,8 +45,14 @@ fail() {
 # `[-.5]` without end.
 read_messages() {
     # The shell reports a program that a signal ends, which is left out here.
-    (exec 2>/dev/null && ulimit -v 1000000 && timeout 60 t1lint "$1" >"$scratch/printed" </dev/null) 2>/dev/null
-    [ $? -le 1 ] || echo "skipped: t1lint doesn't read $1 to its end"
+    # shellcheck disable=SC3045
+    (
+        exec 2>/dev/null
+        ulimit -v 1000000
+        timeout 60 t1lint "$1" >"$scratch/printed" </dev/null
+        exit $?
+    )
+    [ $? -le 1 ] || echo "skipped: t1lint doesn't read ${1#"$top"/} to its end"
     awk -v font="$1: " '
         index($0, font) == 1 { $0 = substr($0, length(font) + 1) }
         /^While interpreting / {

@@ -96,7 +96,7 @@ function has_line(text,    pattern, row, keys, count, words, i) {
 }
 
 # A line of the report.
-NR == FNR {
+FILENAME == ARGV[1] {
     split($0, w, " ")
     if (w[2] == "font") {
         lines["font " w[3], w[5]] = 1
