@@ -1,33 +1,35 @@
 # Prints each message of the second file that has no line in the report, the first file: none of the same entry, glyph or Subr by a rule of
 # its row below. Of a row's rules the first ones say what the message says; why others do, is in the comment above it.
 BEGIN {
-    # Of the font: message | entries, by name or as the number of the message's word that names one | rules.
+    # Of the font: message | entries, by name or as the number of the message's word that names one | rules. A number with an exponent, and what
+    # t1lint takes for two numbers (`1.5.5`), is a word here: Z01 or F18.
     font["UniqueID not in the range"] = "UniqueID|F05"
     font["Private UniqueID not in the range"] = "PrivateUniqueID|F05"
     font["Private UniqueID does not equal"] = "PrivateUniqueID|F06"
     font["UniqueID not an? (integer|number)"] = "UniqueID PrivateUniqueID|F05"
     font["XUID not an array"] = font["empty XUID"] = "XUID|F18"
-    font["element of XUID not an integer"] = "XUID|F19"
+    font["element of XUID not an integer"] = "XUID|F19 F18"
     font["Blue(Scale|Shift|Fuzz) not a (real )?number"] = "1|Z01"
-    font["BlueScale less than|suspiciously large BlueScale"] = "BlueScale|Z17"
-    font["BlueShift (not an integer|less than)"] = "BlueShift|Z18"
-    font["BlueFuzz (not an integer|less than)|suspiciously large BlueFuzz"] = "BlueFuzz|Z19"
-    font["BlueValues not defined"] = "BlueValues|Z12"
+    font["BlueScale less than|suspiciously large BlueScale"] = "BlueScale|Z17 Z01"
+    font["BlueShift (not an integer|less than)"] = "BlueShift|Z18 Z01"
+    font["BlueFuzz (not an integer|less than)|suspiciously large BlueFuzz"] = "BlueFuzz|Z19 Z01"
+    # t1lint takes no entry whose array has a string.
+    font["BlueValues not defined"] = "BlueValues|Z12 Z01"
     font["(Blues|Values|Std[HV]W|StemSnap[HV]) not an array of numbers"] = "1|Z01"
-    font["has an odd number of entries"] = "1|Z03"
+    font["has an odd number of entries"] = "1|Z03 Z01"
     # Of a list's numbers past those that are kept Z02 speaks, or Z09.
-    font["some .* entries are not integers"] = "2|Z14 Z02"
-    font["in the wrong order"] = "1|Z04 Z02"
+    font["some .* entries are not integers"] = "2|Z14 Z02 Z01"
+    font["in the wrong order"] = "1|Z04 Z02 Z01"
     # t1lint takes 0.039625 where BlueScale is 0 or less, and 1 where BlueFuzz is negative.
-    font["too large in relation to BlueScale"] = "1 BlueScale|Z07 Z02 Z17"
-    font["too many zones in"] = "5|Z02"
+    font["too large in relation to BlueScale"] = "1 BlueScale|Z07 Z02 Z17 Z01"
+    font["too many zones in"] = "5|Z02 Z01"
     # t1lint compares zones that fall, and an odd list's last number as a zone.
-    font["zone [0-9]+ overlap"] = "1 5 BlueFuzz|Z05 Z06 Z02 Z03 Z04 Z19"
-    font["has more than 12 entries"] = "1|Z09"
-    font["is not sorted in increasing order"] = "1|Z10 Z15 Z09"
-    font["not in StemSnap"] = "4|Z11 Z16"
-    font["exactly one required"] = "1|Z08"
-    font["entry less than or equal to 0"] = "1|Z13"
+    font["zone [0-9]+ overlap"] = "1 5 BlueFuzz|Z05 Z06 Z02 Z03 Z04 Z19 Z01"
+    font["has more than 12 entries"] = "1|Z09 Z01"
+    font["is not sorted in increasing order"] = "1|Z10 Z15 Z09 Z01"
+    font["not in StemSnap"] = "4|Z11 Z16 Z01"
+    font["exactly one required"] = "1|Z08 Z01"
+    font["entry less than or equal to 0"] = "1|Z13 Z01"
 
     # Of a glyph: message | rules.
     glyph["small delta-"] = "H03 H05"
@@ -42,7 +44,8 @@ BEGIN {
     glyph["duplicate 'hsbw'"] = "W02"
     glyph["commands past end"] = "GE01 C02 S04"
     glyph["stack underflow"] = "C04 O04"
-    glyph["stack overflow"] = "C06"
+    # Points of flex past the eleventh are too many for t1lint's own stack.
+    glyph["stack overflow"] = "C06 X04"
     # A second hsbw takes away t1lint's point.
     glyph["no current point"] = "P01 W02"
     glyph["bad subroutine number"] = "S01"
@@ -51,8 +54,8 @@ BEGIN {
     glyph["unknown callothersubr"] = "O01 O03"
     glyph["wrong number of arguments to"] = "O03"
     glyph["flex error|no Flex in progress"] = "X02"
-    # Counter control empties t1lint's points.
-    glyph["Flex needs 16 arguments"] = "X04 O05"
+    # Other calls and pops take away t1lint's points.
+    glyph["Flex needs 16 arguments"] = "X04 O01 O03 O04 O05"
     glyph["Flex control points must be separated"] = "X04"
     glyph["duplicate counter control"] = "O06"
     glyph["counter control must appear"] = "O05"
@@ -64,9 +67,9 @@ BEGIN {
     subr["does not return|commands past end"] = "F21 C03"
     subr["stack overflow"] = "C06"
 
-    # What t1lint executes in another way than t1check, so that what comes after it in the glyph differs: commands of Type 2, numbers past 24,
-    # a bad count, and counter control that leaves numbers.
-    other = "C03 C06 O02 O07"
+    # What t1lint executes in another way than t1check, so that what comes after it in the glyph differs: commands of Type 2, numbers past 24 or
+    # past 32000, division by zero, a bad count, and counter control that leaves numbers.
+    other = "C03 C06 C07 C08 C09 O02 O07"
     FS = "\t"
 }
 
