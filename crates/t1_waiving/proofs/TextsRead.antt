@@ -21,7 +21,7 @@ use Rattle.t1_report.specs.Waivers.{Waiver, is_waivable, waivers_of, with_waiver
 use Rattle.t1_rules.specs.Book.{number_of}
 use Rattle.t1_rules.specs.Components.{components_of}
 use Rattle.t1_rules.specs.Mask.{has}
-use Rattle.t1_rules.specs.StepRules.{StepRule, argument_rules, breaks, breaks_next, call_rules, charstring_rules, component_rules, flex_rules, othersubr_rules, path_rules, seac_rules, stem_rules, step_rules}
+use Rattle.t1_rules.specs.StepRules.{StepRule, argument_rules, breaks, breaks_next, call_rules, charstring_rules, component_rules, flex_rules, othersubr_rules, path_rules, seac_rules, stem_rules, step_rules, triple_rules, counter_rules}
 use Rattle.t1_rules.specs.declared.sidebearings.Component.{Component}
 use Rattle.t1_rules.specs.declared.mask.Mask.{Mask}
 use Rattle.t1_rules.specs.declared.rule.Rule.{Rule}
@@ -39,7 +39,7 @@ abbrev all_waivable : List StepRule → Bool
 all_waivable rules = list_all (λ (r : StepRule). is_waivable r.rule) rules
 
 step_waivable : (edition : Edition) → all_waivable (step_rules edition) ≡ true
-unfolding step_rules argument_rules call_rules path_rules stem_rules flex_rules othersubr_rules seac_rules
+unfolding step_rules argument_rules call_rules path_rules stem_rules flex_rules othersubr_rules seac_rules triple_rules counter_rules
 step_waivable One = refl
 step_waivable Two = refl
 step_waivable Three = refl
