@@ -67,11 +67,7 @@ impl<'a> Waivers<'a> {
 
     /// The waivers of a text of at most 1,048,576 bytes: a line each, as in `A C05`. The edition says which rules can be
     /// waived: those from C01 to L01, and from H05 to W03 where it has them.
-    pub fn read(
-        alloc: Global,
-        text: &'a [u8],
-        edition: Edition,
-    ) -> Result<Waivers<'a>, WaiverError>
+    pub fn read(alloc: Global, text: &'a [u8], edition: Edition) -> Result<Waivers<'a>, WaiverError>
         requires { length text.now ≤ largest_waivers }
         ensures { IsReadAs (λ w. w) (waivers_of edition text.now) result }
     {

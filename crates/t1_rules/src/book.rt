@@ -198,12 +198,7 @@ static BOOK: [Row; RULE_COUNT] = [
         "O07",
         "counter control leaves numbers",
     ),
-    (
-        Rule::O08,
-        Level::Must,
-        "O08",
-        "counter control has no end",
-    ),
+    (Rule::O08, Level::Must, "O08", "counter control has no end"),
     (
         Rule::W03,
         Level::Must,

@@ -76,7 +76,8 @@ pub use laws::{
     setcurrentpoint_follows_flex, short_forms_lead_as_far, sound_calls_go_in,
     standard_encoding_names_149_codes, stems_are_late_behind_drawing,
     stems_overlap_where_they_share_a_place, stems_stand_beside_three_once,
-    step_rules_have_their_numbers, three_stems_are_even, zones_are_pairs, zones_come_near_both_ways,
+    step_rules_have_their_numbers, three_stems_are_even, zones_are_pairs,
+    zones_come_near_both_ways,
 };
 pub use level::Level;
 pub use mask::Mask;

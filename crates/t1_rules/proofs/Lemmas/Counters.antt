@@ -1,20 +1,20 @@
 -- What the watcher of counter control keeps, one step further, and what its rules say of a step.
-use Rattle.std.proofs.Common.{◌≡◌, ℕ, ◌<◌, ◌≤◌, ◌-◌, ◌&&◌, ◌||◌, not, nat_le, if◌then◌else◌, Bool, true, false, Option, Some, None, is_some, List, [], ◌∷◌, ◌++◌, length, refl, sym, ap, ◌∙◌, arith}
-use Rattle.std.proofs.Math.Bool.{and-false, and-true, or-false}
+use Rattle.std.proofs.Common.{◌≡◌, ℕ, ◌<◌, ◌≤◌, ◌-◌, ◌&&◌, ◌||◌, not, nat_le, if◌then◌else◌, Bool, true, false, Some, is_some, List, [], ◌∷◌, ◌++◌, length, refl, sym, ap, ◌∙◌, arith}
+use Rattle.std.proofs.Math.Bool.{and-false, or-false}
 use Rattle.std.proofs.lemmas.Bool.{le-leb}
 use Rattle.t1_char.specs.declared.command.Command.TheVariants.{Callothersubr}
 use Rattle.t1_char.specs.declared.edition.Edition.{Edition}
 use Rattle.t1_char.specs.Arguments.{is_callothersubr}
 use Rattle.t1_char.specs.Editions.{has_later_rules}
 use Rattle.t1_char.specs.Numbers.{natural}
-use Rattle.t1_char.specs.Since.{any_so_far, is_some_such, last_of}
+use Rattle.t1_char.specs.Since.{is_some_such, last_of}
 use Rattle.t1_char.specs.Stacks.{from_top}
 use Rattle.t1_char.specs.Steps.{StepView}
 use Rattle.t1_char.proofs.LookingBack.{any_goes_on, last_goes_on}
 use Rattle.t1_rules.specs.declared.rule.Rule.TheVariants.{O05, O06, O07, O08, W03}
 use Rattle.t1_rules.specs.declared.step_rules.counters.CounterWatcher.{CounterWatcher}
 use Rattle.t1_rules.specs.StepRules.{breaks, counter_rules}
-use Rattle.t1_rules.specs.StepRules.Counters.{ends_counting, goes_on_counting, is_below, is_counted, is_counting, is_told, last_told_is, opens_counting}
+use Rattle.t1_rules.specs.StepRules.Counters.{ends_counting, goes_on_counting, is_below, is_counting, is_told, last_told_is, opens_counting}
 use Rattle.t1_rules.specs.StepRules.Othersubrs.{calls_by_numbers}
 use Rattle.t1_rules.specs.StepRules.Paths.{clearing_step}
 use Rattle.t1_rules.specs.StepRules.Tokens.{IsCommand, clears, sets_width}

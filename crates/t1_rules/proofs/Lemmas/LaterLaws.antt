@@ -1,5 +1,5 @@
 -- What the rules after number 70 change, and where a stem stands beside three of one command.
-use Rattle.std.proofs.Common.{◌≡◌, ℕ, zero, suc, ◌<◌, ◌≤◌, ◌&&◌, ◌||◌, ◌⊎◌, inl, inr, not, if◌then◌else◌, Bool, true, false, Option, Some, None, is_some, List, [], ◌∷◌, ◌++◌, take, slice_get, refl, sym, ap, ◌∙◌, arith}
+use Rattle.std.proofs.Common.{◌≡◌, ℕ, zero, suc, ◌<◌, ◌≤◌, ◌&&◌, ◌||◌, ◌⊎◌, inl, inr, not, if◌then◌else◌, Bool, true, false, Some, None, is_some, List, [], ◌∷◌, ◌++◌, take, slice_get, refl, sym, ap, ◌∙◌, arith}
 use Rattle.std.specs.List.{list_any}
 use Rattle.std.proofs.Math.Bool.{or-false}
 use Rattle.t1_char.specs.declared.command.Command.{Command as Commands}
@@ -12,20 +12,17 @@ use Rattle.t1_char.specs.Arguments.{is_callothersubr, is_hint_replacement}
 use Rattle.t1_char.specs.Editions.{has_later_rules, limit_of}
 use Rattle.t1_char.specs.Since.{last_of}
 use Rattle.t1_char.specs.Steps.{StepView}
-use Rattle.t1_font.specs.Fonts.{FontValue}
 use Rattle.t1_rules.specs.declared.rule.Rule.TheVariants.{H06, H07}
 use Rattle.t1_rules.specs.declared.sidebearings.Component.{Component}
 use Rattle.t1_rules.specs.declared.step_rules.triples.Triple.{Triple}
 use Rattle.t1_rules.specs.Book.{last_number, last_number_before}
 use Rattle.t1_rules.specs.Components.{components_of}
-use Rattle.t1_rules.specs.Laws.Editions.{rules_in}
 use Rattle.t1_rules.specs.Laws.Later.{EarlierEditionsBreakNoLaterRule, HasNoSay, OneStemStandsBeside, ReplacementsHaveNoSay, StandsBesideAt, ThirdAgreesWithSecond}
-use Rattle.t1_rules.specs.Laws.StepRules.{violates}
-use Rattle.t1_rules.specs.Laws.Stems.{AreOf, across, upright}
-use Rattle.t1_rules.specs.StepRules.{StepRule, argument_rules, breaks, call_rules, component_rules, counter_rules, flex_rules, othersubr_rules, path_rules, seac_rules, stem_rules, step_rules, triple_rules}
+use Rattle.t1_rules.specs.Laws.Stems.{across, upright}
+use Rattle.t1_rules.specs.StepRules.{breaks, component_rules, counter_rules, step_rules, triple_rules}
 use Rattle.t1_rules.specs.StepRules.Stems.{lies_across, stands_upright}
 use Rattle.t1_rules.specs.StepRules.Tokens.{is_command}
-use Rattle.t1_rules.specs.StepRules.Triples.{came, is_first_beside, is_hstem, is_hstem3, is_vstem, is_vstem3, last_triple, changes_by, sets_another, sets_beside, stands_beside, triple_of}
+use Rattle.t1_rules.specs.StepRules.Triples.{came, is_first_beside, is_hstem, is_hstem3, is_vstem, is_vstem3, last_triple, changes_by, sets_beside, stands_beside, triple_of}
 use Rattle.t1_rules.proofs.Lemmas.Counters.{some_goes_on}
 use Rattle.t1_rules.proofs.Lemmas.Editions.{all_rules}
 use Rattle.t1_rules.proofs.Lemmas.OthersubrCalls.{is_called}
@@ -54,7 +51,7 @@ earlier_editions_break_no_later_rule edition none font n before step broken =
     go true is some = of_steps (broken_have_these_numbers edition n before step is)
     go false is some =
         let numbers = component_number (components_of (limit_of edition) font) n before step
-            (sym (ap (λ b. b || breaks (component_rules (components_of (limit_of edition) font)) n before step) is) ∙ some) in
+        (sym (ap (λ b. b || breaks (component_rules (components_of (limit_of edition) font)) n before step) is) ∙ some) in
         omega (arith, numbers.1)
 
 -- The later part says nothing of such numbers.
@@ -170,8 +167,8 @@ not_other_later : (kind other : CharToken → Bool) (steps : List StepView) (pla
     → place < later → ⊥
 not_other_later kind other steps place later a b less =
     let came_there : came other (take later steps) ≡ true =
-        some_such (λ s. other s.token) (take later steps)
-        ∙ kept (λ s. other s.token) steps place later less (sym (some_such (λ s. other s.token) (take place steps)) ∙ a.some) in
+    some_such (λ s. other s.token) (take later steps)
+    ∙ kept (λ s. other s.token) steps place later less (sym (some_such (λ s. other s.token) (take place steps)) ∙ a.some) in
     let no : false ≡ true = sym b.none ∙ came_there in
     cc
 

@@ -1,6 +1,6 @@
 -- Thin stems, and stems beside three of one command: where a step breaks H05 to H07. Type 1 Font Format 1.1, chapter 6:
 -- a glyph that uses hstem3 has no hstem, and has the same hstem3 in each of its hint sets. H05 is this project's own.
-use Rattle.std.specs.Prelude.{ℕ, ℤ, pos, neg_ℤ, ◌*ℤ◌, ◌&&◌, not, int_lt, Bool, true, false, Option, Some, None, is_some, option_map, List}
+use Rattle.std.specs.Prelude.{pos, neg_ℤ, ◌*ℤ◌, ◌&&◌, not, int_lt, Bool, true, false, Option, Some, None, is_some, option_map, List}
 use Rattle.std.specs.List.{list_any}
 use Rattle.std.specs.Ordering.{int_eq}
 use Rattle.t1_char.specs.declared.command.Command.TheVariants.{Hstem, Vstem, Hstem3, Vstem3}

@@ -138,7 +138,10 @@ fn three_faults(came: bool, last: Option<Triple>, step: &Step) -> Mask
     Mask::empty()
         .with(Rule::H07, differs_from(last, triple))
         .with(Rule::H06, last.is_none() & came)
-        .with(Rule::H05, any_is_thin(&[triple.one, triple.two, triple.three]))
+        .with(
+            Rule::H05,
+            any_is_thin(&[triple.one, triple.two, triple.three]),
+        )
 }
 
 /// The three stems of a step.

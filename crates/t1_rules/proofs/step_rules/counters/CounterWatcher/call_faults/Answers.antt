@@ -12,7 +12,7 @@ returns-then-len-lt2 c = λ edition before st on n.
 pub returns-then-goes_on_counting-ends_counting : goal.returns-then-goes_on_counting-ends_counting
 returns-then-goes_on_counting-ends_counting c = λ edition before st on n.
     let counts : is_counting (step_view c.args.step.now) ≡ true =
-        sym (counted _ _ (step_view c.args.step.now) c.goes_on_counting.ensures c.ends_counting.ensures) ∙ c.if-goes_on_counting-ends_counting.true in
+    sym (counted _ _ (step_view c.args.step.now) c.goes_on_counting.ensures c.ends_counting.ensures) ∙ c.if-goes_on_counting-ends_counting.true in
     rw (
       c.with-then-goes_on_counting-ends_counting-2.ensures n,
       c.with-then-goes_on_counting-ends_counting.ensures n,
@@ -25,7 +25,7 @@ pub returns-else-goes_on_counting-ends_counting : goal.returns-else-goes_on_coun
 returns-else-goes_on_counting-ends_counting c = λ edition before st on n.
     let there : 2 ≤ length c.args.step.now.stack = omega (arith, c.if-len-lt2.false, c.len.ensures.len) in
     let other : is_counting (step_view c.args.step.now) ≡ false =
-        sym (counted _ _ (step_view c.args.step.now) c.goes_on_counting.ensures c.ends_counting.ensures) ∙ c.if-goes_on_counting-ends_counting.false in
+    sym (counted _ _ (step_view c.args.step.now) c.goes_on_counting.ensures c.ends_counting.ensures) ∙ c.if-goes_on_counting-ends_counting.false in
     rw (
       c.with-else-goes_on_counting-ends_counting-2.ensures n,
       c.with-else-goes_on_counting-ends_counting.ensures n,

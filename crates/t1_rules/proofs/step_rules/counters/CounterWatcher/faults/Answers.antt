@@ -14,6 +14,6 @@ returns-then-is_callothersubr c = λ edition before st n. c.call_faults.ensures 
 pub returns-else-is_callothersubr : goal.returns-else-is_callothersubr
 returns-else-is_callothersubr c = λ edition before st n.
     let no_call : is_callothersubr c.args.step.now.token ≡ false =
-        ap is_callothersubr c.requires.token ∙ sym c.is_callothersubr.ensures ∙ c.if-is_callothersubr.false in
+    ap is_callothersubr c.requires.token ∙ sym c.is_callothersubr.ensures ∙ c.if-is_callothersubr.false in
     rw (c.with.ensures n, c.empty-else-is_callothersubr.ensures n, c.clears.ensures, sym c.requires.token)
     (sym (at_command edition c.args.self.now before (step_view c.args.step.now) st c.if-not-self.false no_call n))

@@ -1,4 +1,4 @@
-use Rattle.std.proofs.Common.{◌<◌, ◌≤◌, length, refl, ap, ◌||◌, ◌∙◌, arith}
+use Rattle.std.proofs.Common.{◌<◌, ◌≤◌, length, refl, ap, ◌||◌, arith}
 use Rattle.t1_char.specs.StepValues.{step_view}
 use Rattle.t1_rules.proofs.Lemmas.Counters.{counted, counters_at_call, few_untold, stays_untold}
 use Rattle.t1_rules.proofs.step_rules.counters.CounterWatcher.go_on_by_call.Goals as goal

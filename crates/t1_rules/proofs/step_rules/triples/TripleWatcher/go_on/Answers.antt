@@ -1,4 +1,4 @@
-use Rattle.std.proofs.Common.{◌||◌, refl, ap}
+use Rattle.std.proofs.Common.{refl}
 use Rattle.t1_char.specs.StepValues.{step_view}
 use Rattle.t1_rules.proofs.Lemmas.Triples.{one_more_triple}
 use Rattle.t1_rules.proofs.step_rules.triples.TripleWatcher.go_on.Goals as goal
