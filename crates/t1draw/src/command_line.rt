@@ -111,6 +111,10 @@ impl Program for Options {
         borrowed(&self.waive)
     }
 
+    fn edition(&self) -> Edition {
+        self.edition
+    }
+
     fn show<W: Sink, E: Sink>(
         &self,
         alloc: Global,
