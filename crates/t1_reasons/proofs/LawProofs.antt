@@ -324,7 +324,7 @@ compared_decides edition components K01 before step e =
 compared_decides edition components K02 before step e =
     row_decides 63 (charstring_rules edition components) 37 _ refl refl refl refl before step ∙ without_name step
 compared_decides edition components K05 before step e =
-    row_decides 66 (charstring_rules edition components) 41 _ refl refl refl refl before step ∙ told_otherwise components step
+    row_decides 66 (charstring_rules edition components) 49 _ refl refl refl refl before step ∙ told_otherwise components step
 compared_decides edition components _ before step e = let no : false ≡ true = e in cc
 
 pub broken_where_reason : StepsBreakWhereThereIsAReason
