@@ -43,7 +43,8 @@ file_below folder value = option_map (path_join folder) (option_and_then file_in
 abbrev pub edition_text : ℤ → Option (List ℕ)
 edition_text number =
     if int_eq number (pos 1) then Some (codes "1")
-    else (if int_eq number (pos 2) then Some (codes "2") else None)
+    else (if int_eq number (pos 2) then Some (codes "2")
+    else (if int_eq number (pos 3) then Some (codes "3") else None))
 
 abbrev pub edition_in : Data → Option (List ℕ)
 edition_in value = option_and_then edition_text (as_integer value)

@@ -39,6 +39,8 @@ fn edition_text(number: i64) -> Option<&'static str>
         Some("1")
     } else if number == 2 {
         Some("2")
+    } else if number == 3 {
+        Some("3")
     } else {
         None
     }
