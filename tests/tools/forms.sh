@@ -272,7 +272,7 @@ try_document 'a rule of edition 3 as sarif' 1 "$all" -q --edition 3 --format sar
 wanted <<'END'
 group.pfb: 1: font LanguageGroup 0 F20 LanguageGroup is not 0 or 1
 --
-1 font: 0 clean, 1 with faults, 0 refused
+1 font: 0 clean, 1 with faults, 0 refused, 0 not checked
       1 F20 LanguageGroup is not 0 or 1 (should)
 END
 try 'a rule of edition 3 as lines' 1 "$all" --edition 3 group.pfb
