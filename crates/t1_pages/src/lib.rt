@@ -997,7 +997,7 @@ static O07: Page = Page {
     code: "O07",
     anchor: "o07-counter-control-leaves-numbers",
     title: "counter control leaves numbers",
-    text: "Level *must*: a number is left over, which a later command takes.\n\nThe count has to be that of all numbers on the stack. A rasteriser takes so many from the top, and the others stay below for the next command. Here\nthere are two numbers, and the count is 1.\n\n    A: 0 500 hsbw 7 5 1 13 callothersubr endchar\n    1: glyph A - 8 O07 counter control leaves numbers\n    2: glyph A - 9 C05 too many arguments\n       endchar takes 0 numbers, 1 is on the stack\n\nCure: write the count of all numbers, here 2; or leave out the number that is too many.",
+    text: "Level *must*: a number is left over, which a later command takes.\n\nThe count has to be that of all numbers on the stack. A rasteriser takes so many from the top, and the others stay below for the next command. Here\nthere are two numbers, and the count is 1.\n\n    A: 0 500 hsbw 7 5 1 13 callothersubr endchar\n    1: glyph A - 8 O07 counter control leaves numbers\n    2: glyph A - 9 C05 too many arguments\n       endchar takes no numbers, 1 is on the stack\n\nCure: write the count of all numbers, here 2; or leave out the number that is too many.",
 };
 
 fn o07() -> &'static Page {
