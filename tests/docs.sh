@@ -281,10 +281,16 @@ codes_in() {
     grep -ohw '[A-Z][A-Z]*[0-9][0-9]' "$@" | sort -u | grep -xF -f "$scratch/codes"
 }
 
-# The rows of the tables of specs/, each with the comment above it.
+# The rows of the tables of specs/, each with the comment above it, in one line.
 list_rows() {
-    awk '/^ *(∷ )?(font_row|row|of_step) [A-Z]+[0-9]+ / { sub(/^ *(∷ )?/, ""); print above; print }
-        { above = $0 }' "$specs/FontRules.antt" "$specs/StepRules.antt"
+    awk '/^ *(∷ )?(font_row|row|of_step|later_row edition) [A-Z]+[0-9]+ / {
+            sub(/^ *(∷ )?/, "")
+            sub(/^later_row edition/, "row")
+            print above
+            print
+        }
+        !/^ *-- / { above = "" }
+        /^ *-- / { sub(/^ *-- /, above == "" ? "-- " : ""); above = above (above == "" ? "" : " ") $0 }' "$specs/FontRules.antt" "$specs/StepRules.antt"
 }
 
 # What says where a rule is violated: its row, and of L01 and U01 the definition that names it.
@@ -343,7 +349,7 @@ list_breaches >"$scratch/breaches"
 cut -d ' ' -f 1 "$scratch/breaches" | sort >"$scratch/list"
 compare_codes 'crates/t1_rules/specs: FontRules.antt, StepRules.antt; crates/t1_report/specs/Reports.antt' sorted <"$scratch/list"
 {
-    list_rows | sed -n '/^ *-- .*\(Type 1 Font Format, chapter [0-9]*\|Technical Note [0-9]*, section [0-9.]*\|Own\)\.$/{ n; p; }' |
+    list_rows | sed -n '/^ *-- .*\(Type 1 Font Format, chapter [0-9]*\|Technical Note [0-9]*\(, section [0-9.]*\)\{0,1\}\|Own\)\.$/{ n; p; }' |
         sed 's/^[a-z_]* \([A-Z]*[0-9][0-9]\) .*/\1/'
     printf 'L01\nU01\n'
 } | sort >"$scratch/list"
