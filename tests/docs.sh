@@ -17,7 +17,7 @@
 #   a library those of the modules of which it hands on more than a constant; one that isn't handed on itself may cite words of private functions.
 #   These are in specs/Private, and no definition elsewhere rests on them; there the relations of watchers and pens are in Standing, with
 #   nothing else.
-# - The README's lines for an editor are lines of crates/example.
+# - The README's lines for an editor are lines of crates/example. web/host.mjs counts rules and refusals as they are.
 # - Each link between the pages leads to a file, and to a heading where it names one. Each file of crates/, docs/ and tests/ that a page
 #   names is there.
 #
@@ -240,6 +240,9 @@ done <"$scratch/refusals"
 last=$(sed -n 's/^last_number = \([0-9]*\)$/\1/p' "$top/crates/t1_rules/specs/Book.antt")
 [ "$(wc -l <"$scratch/book")" -eq "${last:-0}" ] || fail "the book's rows aren't read: $(wc -l <"$scratch/book"), wanted $last"
 [ "$(wc -l <"$scratch/refusals")" -eq 15 ] || fail "the refusals' texts aren't read: $(wc -l <"$scratch/refusals")"
+# The page has room for as many counts as the module keeps.
+codes=$(sed -n 's/^const CODES = \([0-9]*\) + \([0-9]*\);$/\1 \2/p' "$top/web/host.mjs")
+if [ "$codes" = "$last $(wc -l <"$scratch/refusals" | tr -d ' ')" ]; then pass; else fail "web/host.mjs: rules and refusals aren't so many: $codes"; fi
 
 # The version of the changes and of the manual pages is that of the programs.
 version=$(sed -n 's/^pub const VERSION: &str = "\(.*\)";$/\1/p' "$top/crates/t1_forms/src/version.rt")
