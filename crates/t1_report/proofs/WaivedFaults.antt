@@ -81,7 +81,7 @@ module _ (One Other : Place → Type 0) (path_of : Place → List ℕ) (one othe
   paths : (xs : List FaultValue) → IsReportOf One path_of xs → HavePaths path_of (filter (left_by one) xs)
   paths xs of_one i d less = (All-filter (left_by one) (IsViolationOf One path_of) xs of_one.violations i d less).path
 
-same_left : (One Other : Place → Type 0) (path_of : Place → List ℕ) (one other : Place → Bool) (xs ys : List FaultValue) → IsReportOf One path_of xs
+pub same_left : (One Other : Place → Type 0) (path_of : Place → List ℕ) (one other : Place → Bool) (xs ys : List FaultValue) → IsReportOf One path_of xs
     → IsReportOf Other path_of ys
     → ((p : Place) → One p → one p ≡ true → Other p × (other p ≡ true)) → ((p : Place) → Other p → other p ≡ true → One p × (one p ≡ true))
     → faults_at one xs ≡ faults_at other ys

@@ -1,5 +1,5 @@
 //! The rule book of Type 1 fonts: what may be wrong with a font, and where it is. Adobe Type 1 Font
-//! Format 1.1, chapters 2 and 5 to 8, and Technical Note 5040.
+//! Format 1.1, chapters 2 and 5 to 8, and Technical Notes 5015 and 5040.
 //!
 //! [`Rule`] has all rules, with their numbers, codes and texts. [`rule_level`] says how much each matters.
 //! [`font_faults`] returns, as a [`Mask`], which rules a font breaks at a key and an index. A key is the file or an
@@ -8,10 +8,10 @@
 //! have to be tested.
 //!
 //! [`Watches`] sees the steps of a glyph one after another. It returns of each which rules on charstrings it breaks, as
-//! far as the glyph's own steps decide. It is seven watchers as one: [`ArgumentWatcher`], [`CallWatcher`],
-//! [`PathWatcher`], [`StemWatcher`], [`FlexWatcher`], [`OthersubrWatcher`] and [`SeacWatcher`]. [`Watch`] is what
-//! watchers have in common. [`Sidebearings`] has the components of accented characters. It returns of each step which
-//! of K03 to K05 and K07 it breaks.
+//! far as the glyph's own steps decide. It is nine watchers as one: [`ArgumentWatcher`], [`CallWatcher`],
+//! [`PathWatcher`], [`StemWatcher`], [`FlexWatcher`], [`OthersubrWatcher`], [`SeacWatcher`], and for the third edition
+//! [`TripleWatcher`] and [`CounterWatcher`]. [`Watch`] is what watchers have in common. [`Sidebearings`] has the
+//! components of accented characters. It returns of each step which of K03 to K05 and K07 it breaks.
 //!
 //! What is promised, for all fonts:
 //!
