@@ -17,7 +17,7 @@
 #   a library those of the modules of which it hands on more than a constant; one that isn't handed on itself may cite words of private functions.
 #   These are in specs/Private, and no definition elsewhere rests on them; there the relations of watchers and pens are in Standing, with
 #   nothing else.
-# - The README's lines for an editor are lines of crates/example.
+# - The README's lines for an editor are lines of crates/example. web/host.mjs counts rules and refusals as they are.
 # - Each link between the pages leads to a file, and to a heading where it names one. Each file of crates/, docs/ and tests/ that a page
 #   names is there.
 #
@@ -127,12 +127,12 @@ agree() {
 
 # Whether a case is of a font alone, or of one by an edition: other words make another report, or none.
 is_plain() {
-    sed -n 's/^word: //p' "$1" | tr '\n' ' ' | grep -qx '\(--edition [12] \)\{0,1\}[^ -][^ ]* \(--edition [12] \)\{0,1\}'
+    sed -n 's/^word: //p' "$1" | tr '\n' ' ' | grep -qx '\(--edition [123] \)\{0,1\}[^ -][^ ]* \(--edition [123] \)\{0,1\}'
 }
 
 # The font of such a case.
 font_of() {
-    sed -n 's/^word: //p' "$1" | grep -vx -e --edition -e '[12]'
+    sed -n 's/^word: //p' "$1" | grep -vx -e --edition -e '[123]'
 }
 
 # The case of an example: the rule's own for the first, else the first plain one that wants the same lines.
@@ -149,7 +149,7 @@ case_of() {
 # The lines of the report on a case's font with their reasons, by the case's edition and with its waivers.
 report_with_reasons() {
     font=$(font_of "$1")
-    edition=$(sed -n 's/^word: //p' "$1" | grep -x '[12]')
+    edition=$(sed -n 's/^word: //p' "$1" | grep -x '[123]')
     waivers=$(sed -n 's/^waivers: //p' "$1")
     rm -rf "$scratch/fonts"
     mkdir "$scratch/fonts" && cp "$cases/fonts/$font" "$scratch/fonts/$font" || exit 1
@@ -209,9 +209,6 @@ done <"$scratch/examples"
 sed -n '/^static BOOK/,/^];$/p' "$top/crates/t1_rules/src/book.rt" | tr '\n' ' ' | sed 's/,* *),/\n/g' |
     sed -n 's/^.*Rule::\([A-Z0-9]*\), *Level::\([A-Z][a-z]*\), *"\1", *"\(.*\)"$/\1 \2 \3/p' >"$scratch/levels"
 sed 's/^\([^ ]*\) [^ ]*/\1/' "$scratch/levels" >"$scratch/book"
-# Those that a program reports: the rules behind these are of the third edition, which the libraries have and no program takes. They have no
-# page and no case.
-head -n 70 "$scratch/book" >"$scratch/reported"
 while read -r code text; do
     level=$(sed -n "s/^$code \\([A-Z][a-z]*\\) .*/\\1/p" "$scratch/levels" | tr '[:upper:]' '[:lower:]')
     if ! grep -qF "| $code | $text | $level |" "$rules"; then
@@ -225,7 +222,7 @@ while read -r code text; do
     else
         pass
     fi
-done <"$scratch/reported"
+done <"$scratch/book"
 sed -n 's/^.*=> "\(E[0-9]*\) \(.*\)",$/\1 \2/p' "$top/crates/t1_refusals/src/refusal.rt" >"$scratch/refusals"
 while read -r code text; do
     # A file's size and the waivers aren't t1_font's.
@@ -240,8 +237,12 @@ while read -r code text; do
         pass
     fi
 done <"$scratch/refusals"
-[ "$(wc -l <"$scratch/book")" -eq 85 ] || fail "the book's rows aren't read: $(wc -l <"$scratch/book")"
+last=$(sed -n 's/^last_number = \([0-9]*\)$/\1/p' "$top/crates/t1_rules/specs/Book.antt")
+[ "$(wc -l <"$scratch/book")" -eq "${last:-0}" ] || fail "the book's rows aren't read: $(wc -l <"$scratch/book"), wanted $last"
 [ "$(wc -l <"$scratch/refusals")" -eq 15 ] || fail "the refusals' texts aren't read: $(wc -l <"$scratch/refusals")"
+# The page has room for as many counts as the module keeps.
+codes=$(sed -n 's/^const CODES = \([0-9]*\) + \([0-9]*\);$/\1 \2/p' "$top/web/host.mjs")
+if [ "$codes" = "$last $(wc -l <"$scratch/refusals" | tr -d ' ')" ]; then pass; else fail "web/host.mjs: rules and refusals aren't so many: $codes"; fi
 
 # The version of the changes and of the manual pages is that of the programs.
 version=$(sed -n 's/^pub const VERSION: &str = "\(.*\)";$/\1/p' "$top/crates/t1_forms/src/version.rt")
@@ -266,8 +267,6 @@ told=$top/crates/t1_report/specs/Reports.antt
 tests=$top/crates/t1_report_tests/src
 cut -d ' ' -f 1 "$scratch/book" >"$scratch/codes"
 sort "$scratch/codes" >"$scratch/sorted"
-cut -d ' ' -f 1 "$scratch/reported" >"$scratch/paged"
-sort "$scratch/paged" >"$scratch/paged.sorted"
 
 # Compares the codes of a place, on standard input, with those of a file of $scratch, as codes or sorted.
 compare_codes() {
@@ -285,10 +284,16 @@ codes_in() {
     grep -ohw '[A-Z][A-Z]*[0-9][0-9]' "$@" | sort -u | grep -xF -f "$scratch/codes"
 }
 
-# The rows of the tables of specs/, each with the comment above it.
+# The rows of the tables of specs/, each with the comment above it, in one line.
 list_rows() {
-    awk '/^ *(∷ )?(font_row|row|of_step) [A-Z]+[0-9]+ / { sub(/^ *(∷ )?/, ""); print above; print }
-        { above = $0 }' "$specs/FontRules.antt" "$specs/StepRules.antt"
+    awk '/^ *(∷ )?(font_row|row|of_step|later_row edition) [A-Z]+[0-9]+ / {
+            sub(/^ *(∷ )?/, "")
+            sub(/^later_row edition/, "row")
+            print above
+            print
+        }
+        !/^ *-- / { above = "" }
+        /^ *-- / { sub(/^ *-- /, above == "" ? "-- " : ""); above = above (above == "" ? "" : " ") $0 }' "$specs/FontRules.antt" "$specs/StepRules.antt"
 }
 
 # What says where a rule is violated: its row, and of L01 and U01 the definition that names it.
@@ -334,7 +339,7 @@ list_cases() {
         case=$cases/$code.case
         [ -f "$cases/fonts/$code.pfb" ] && grep -qx "word: $code.pfb" "$case" &&
             sed -n 's/^out: [0-9][0-9]*: .* \([A-Z][A-Z]*[0-9][0-9] .*\)/\1/p' "$case" | grep -qxF "$code $text" && echo "$code"
-    done <"$scratch/reported"
+    done <"$scratch/book"
 }
 
 sed -n '/^pub enum Rule {$/,/^}$/s/^    \([A-Z]*[0-9][0-9]\).*,$/\1/p' "$top/crates/t1_rules/src/rule.rt" >"$scratch/list"
@@ -347,7 +352,7 @@ list_breaches >"$scratch/breaches"
 cut -d ' ' -f 1 "$scratch/breaches" | sort >"$scratch/list"
 compare_codes 'crates/t1_rules/specs: FontRules.antt, StepRules.antt; crates/t1_report/specs/Reports.antt' sorted <"$scratch/list"
 {
-    list_rows | sed -n '/^ *-- .*\(Type 1 Font Format, chapter [0-9]*\|Technical Note [0-9]*, section [0-9.]*\|Own\)\.$/{ n; p; }' |
+    list_rows | sed -n '/^ *-- .*\(Type 1 Font Format, chapter [0-9]*\|Technical Note [0-9]*\(, section [0-9.]*\)\{0,1\}\|Own\)\.$/{ n; p; }' |
         sed 's/^[a-z_]* \([A-Z]*[0-9][0-9]\) .*/\1/'
     printf 'L01\nU01\n'
 } | sort >"$scratch/list"
@@ -359,22 +364,22 @@ compare_codes 'the code in crates/t1_rules/src and crates/t1_report/src' sorted 
 find "$tests" -name '*.rt' ! -name book.rt ! -name mask.rt ! -name faults.rt -exec cat {} + | codes_in >"$scratch/list"
 compare_codes 'the tests in crates/t1_report_tests/src' sorted <"$scratch/list"
 sed -n 's/^| \([A-Z]*[0-9][0-9]\) | .* | .* | .* | .* | .* |$/\1/p' "$rules" >"$scratch/list"
-compare_codes 'docs/RULES.md, the table' paged <"$scratch/list"
+compare_codes 'docs/RULES.md, the table' codes <"$scratch/list"
 sed -n 's/^### \([A-Z]*[0-9][0-9]\) .*/\1/p' "$rules" | grep -v '^E[0-9]' >"$scratch/list"
-compare_codes 'docs/RULES.md, the headings' paged <"$scratch/list"
+compare_codes 'docs/RULES.md, the headings' codes <"$scratch/list"
 list_contents >"$scratch/list"
-compare_codes 'docs/RULES.md, the contents' paged <"$scratch/list"
+compare_codes 'docs/RULES.md, the contents' codes <"$scratch/list"
 sed -n 's/^    code: "\(.*\)",$/\1/p' "$top/crates/t1_pages/src/lib.rt" | grep -v '^E[0-9]' >"$scratch/list"
-compare_codes crates/t1_pages/src/lib.rt paged <"$scratch/list"
+compare_codes crates/t1_pages/src/lib.rt codes <"$scratch/list"
 list_cases >"$scratch/list"
-compare_codes 'tests/program, cases of the rules and their fonts' paged <"$scratch/list"
+compare_codes 'tests/program, cases of the rules and their fonts' codes <"$scratch/list"
 
-# Other files that have all rules, or all that a program reports.
+# Other files that have all rules.
 sed -n '/^## From a rule/,$p' "$top/docs/ARCHITECTURE.md" >"$scratch/passage"
 (cd "$top" && find README.md bin completions crates docs man tests bench -name out -prune -o -type f -exec grep -lw U01 {} +) >"$scratch/files"
 while IFS= read -r file; do
     codes_in "$top/$file" >"$scratch/place"
-    cmp -s "$scratch/place" "$scratch/sorted" || cmp -s "$scratch/place" "$scratch/paged.sorted" || continue
+    cmp -s "$scratch/place" "$scratch/sorted" || continue
     if grep -qF -e "$file" "$scratch/passage"; then
         pass
     else
@@ -404,7 +409,7 @@ try_definitions() {
 list_definitions >"$scratch/definitions"
 while read -r code; do
     try_definitions "$code"
-done <"$scratch/paged"
+done <"$scratch/codes"
 
 # The files whose public functions others call.
 list_public() {
@@ -568,7 +573,7 @@ while IFS= read -r word; do
         *) fail "specs/Private/Standing: $word is no relation of a watcher or a pen" ;;
     esac
 done <"$scratch/relations"
-[ "$(wc -l <"$scratch/relations")" -eq 8 ] || fail "the relations of watchers and pens aren't read"
+[ "$(wc -l <"$scratch/relations")" -eq 10 ] || fail "the relations of watchers and pens aren't read"
 
 # The README's lines for an editor are in the example.
 sed -n '/^## In an editor$/,/^## /s/^    //p' "$top/README.md" >"$scratch/editor"

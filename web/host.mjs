@@ -4,11 +4,15 @@
 // How a call ended; crates/t1_web/specs/Numbers.antt has the same numbers.
 const LAST = 0, MORE = 1, NO_ROOM = 2, REFUSED = 3, MEMORY = 4, NO_GLYPH = 5, BAD_NAME = 6;
 
-// The forms of a report: the export that hands it over, its words for the form, and how many bytes are kept between two calls.
+// How many rules and refusals there are.
+const CODES = 93 + 15;
+
+// The forms of a report: the export that hands it over, its words for the form, and how many bytes are kept between two calls. Of a document
+// these have a count of 8 bytes for each code.
 const FORMS = {
   text: { name: 't1_web_lines', words: [0], size: 24 },
   json: { name: 't1_web_lines', words: [1], size: 24 },
-  sarif: { name: 't1_web_document', words: [], size: 704 },
+  sarif: { name: 't1_web_document', words: [], size: 24 + 8 * CODES },
 };
 
 // How much is handed over at once, if the next line isn't longer.

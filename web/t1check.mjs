@@ -30,7 +30,7 @@ function number(text, option, least, most) {
 }
 
 const OPTIONS = {
-  '--edition': (options, text) => { options.edition = Number(number(text, '--edition', 1n, 2n)); },
+  '--edition': (options, text) => { options.edition = Number(number(text, '--edition', 1n, 3n)); },
   '--waive': (options, text) => { options.waive = text; },
   '--after': (options, text) => { options.after = number(text, '--after', 0n, MOST); },
   '--max': (options, text) => { options.max = number(text, '--max', 0n, MOST); },

@@ -1,5 +1,5 @@
 #!/bin/sh
-# Tries that t1check-all prints the lines of the rules that are requested, in either edition, and loses none; that the shards of a list are
+# Tries that t1check-all prints the lines of the rules that are requested, in each edition, and loses none; that the shards of a list are
 # together all of it; and that its status is the greatest of its fonts.
 
 # shellcheck source=tests/tools/common.sh
@@ -21,11 +21,11 @@ wanted <<'END'
 t1check-all: --only wants codes of rules or their letters, as H02,Z
 t1check-all: 't1check-all --help' says how it is used
 END
-for codes in E03 E H05 '' ','; do
+for codes in E03 E H08 '' ','; do
     try "codes '$codes'" 3 "$all" --only "$codes" .
 done
 
-# Editions: the second takes a stem of width -20 for one of one edge, which overlaps nothing.
+# Editions: the second takes a stem of width -20 for one of one edge, which overlaps nothing; the third has more rules.
 cd "$scratch" || exit 1
 cp "$top/tests/program/fonts/stem_of_one_edge.pfb" edge20.pfb
 wanted <<'END'
@@ -44,6 +44,23 @@ edge20.pfb: 1: waiver A C05 U01 waiver not used
 --
 END
 try 'edition 2 with waivers' 1 "$all" -q --edition 2 edge20.pfb
+rm edge20.pfb.waivers
+cp "$fonts/Z14.pfb" fraction.pfb
+wanted <<'END'
+fraction.pfb: 1: font BlueValues 0 Z14 zone number is not whole
+--
+END
+try 'edition 3' 1 "$all" -q --edition 3 fraction.pfb
+try 'edition 3, and one of its rules' 1 "$all" -q --edition 3 --only z14,H07 fraction.pfb
+try 'edition 3, and the level of its rule' 1 "$all" -q --edition 3 --level should fraction.pfb
+wanted <<'END'
+--
+END
+try 'edition 3 takes a stem as edition 2 does' 0 "$all" -q --edition 3 --only H edge20.pfb
+try 'edition 3, and its rule left out' 0 "$all" -q --edition 3 --except Z14 fraction.pfb
+try 'edition 3, and another level' 0 "$all" -q --edition 3 --level must,tidy fraction.pfb
+try 'a rule of edition 3 in edition 2' 0 "$all" -q --edition 2 --only Z14 fraction.pfb
+try 'a rule of edition 3 in edition 1' 0 "$all" -q --only Z14 --except F15,W03 fraction.pfb
 
 # Levels: H02 is should. What is reported stays, and so do refusals, which are must.
 wanted <<'END'
@@ -115,7 +132,7 @@ for sums in 'sums.0' 'sums.[1-5]'; do
 done
 try 'summaries of shards' 0 cmp added.6 added.10
 wanted <<'END'
-159 fonts
+189 fonts
 --
 END
 try 'the fonts of all shards' 0 grep -x '[0-9]* fonts' added.10

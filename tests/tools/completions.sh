@@ -50,16 +50,16 @@ done
 END
     wanted <<END
 t1check,--ed:--edition
-t1check,--edition,:1,2
+t1check,--edition,:1,2,3
 t1check,--edition,=,2:2
 t1check,f:font.pfb
 t1check,tw:two words.PFA
 t1check,--waive,f:
 t1check-all,--u:--update-baseline
-t1check-all,--only,h0:H01,H02,H03,H04
-t1check-all,--only,=,H02,Z1:H02,Z10,H02,Z11
+t1check-all,--only,h0:H01,H02,H03,H04,H05,H06,H07
+t1check-all,--only,=,H02,Z1:H02,Z10,H02,Z11,H02,Z12,H02,Z13,H02,Z14,H02,Z15,H02,Z16,H02,Z17,H02,Z18,H02,Z19
 t1check-all,--except,L:L,L01
-t1explain,H0:H01,H02,H03,H04
+t1explain,H0:H01,H02,H03,H04,H05,H06,H07
 $prefix/bin/t1explain,H02,e0:E01,E02,E03,E04,E05,E06,E07,E08,E09
 t1check-all,--format,s:sarif
 t1check-all,--format,=,:jsonl,sarif,github
@@ -67,7 +67,7 @@ t1check-all,--docs,f:
 t1check-all,--fi:--files-from
 t1check-all,--files-from,f:
 t1check-all,--exclude,f:
-t1draw,--edition,:1,2
+t1draw,--edition,:1,2,3
 t1draw,A,f:font.pfb
 t1draw,--step,f:
 --
@@ -97,16 +97,28 @@ if command -v fish >/dev/null; then
 --edition	Check by this edition of the rule book
 1	Check by this edition of the rule book
 2	Check by this edition of the rule book
+3	Check by this edition of the rule book
 font.pfb
 two words.PFA
 font.afm
 font.pfb
 H02,Z10	stem snaps fall (should)
 H02,Z11	standard width not among the snaps (should)
+H02,Z12	no BlueValues (must)
+H02,Z13	standard width is not above 0 (should)
+H02,Z14	zone number is not whole (should)
+H02,Z15	stem snaps equal (should)
+H02,Z16	no stem snap beside a standard width (tidy)
+H02,Z17	BlueScale out of range (should)
+H02,Z18	BlueShift out of range (should)
+H02,Z19	BlueFuzz out of range (should)
 H01	stem after drawing (should)
 H02	stems overlap (should)
 H03	stem of zero width (should)
 H04	unequal stem3 (should)
+H05	stem below half a unit (should)
+H06	stem beside stem3 (must)
+H07	another stem3 (must)
 github	Write lines in a form for other programs
 jsonl	Write lines in a form for other programs
 sarif	Write lines in a form for other programs

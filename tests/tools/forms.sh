@@ -251,6 +251,32 @@ awk -F ' *[|] *' '
     sh -c '"$2" -q --format sarif --only L01 glyphs.pfb >rules.sarif && "$1" "$0/read" rules.sarif | awk -f "$0/rules.awk"' \
     "$scratch" "$reader" "$all"
 
+# A rule and a key of the third edition.
+cp "$fonts/F20.pfb" group.pfb
+wanted <<'END'
+{"code":"F20","file":"group.pfb","index":0,"key":"LanguageGroup","level":"should","number":1,"text":"LanguageGroup is not 0 or 1","unit":"font"}
+--
+END
+try 'a rule of edition 3 as jsonl' 1 "$all" -q --edition 3 --format jsonl group.pfb
+wanted <<'END'
+::warning file=group.pfb,line=1,title=F20 LanguageGroup is not 0 or 1::F20 LanguageGroup is not 0 or 1 × 1: LanguageGroup
+--
+END
+try 'a rule of edition 3 as a command' 1 "$all" -q --edition 3 --format github group.pfb
+wanted <<'END'
+2.1.0 t1check true 0 listed
+F20 warning
+--
+END
+try_document 'a rule of edition 3 as sarif' 1 "$all" -q --edition 3 --format sarif group.pfb
+wanted <<'END'
+group.pfb: 1: font LanguageGroup 0 F20 LanguageGroup is not 0 or 1
+--
+1 font: 0 clean, 1 with faults, 0 refused, 0 not checked
+      1 F20 LanguageGroup is not 0 or 1 (should)
+END
+try 'a rule of edition 3 as lines' 1 "$all" --edition 3 group.pfb
+
 # Of fonts that were not checked a run of SARIF names a thousand, then the next run begins.
 cat >"$scratch/runs.awk" <<'AWK'
 $1 ~ /^\.runs\.[0-9]+\..*\.uri$/ {

@@ -74,6 +74,19 @@ edge20.pfb: 1: glyph A - 9 H02 stems overlap
 --
 END
 try 'another edition' 1 "$all" -q --edition 1 edge20.pfb
+cp "$fonts/Z14.pfb" fraction.pfb
+echo 'edition = 3' >.t1check.toml
+wanted <<'END'
+fraction.pfb: 1: font BlueValues 0 Z14 zone number is not whole
+--
+END
+try 'the third edition' 1 "$all" -q fraction.pfb
+echo 'only = "Z14"' >>.t1check.toml
+try 'the third edition and one of its rules' 1 "$all" -q fraction.pfb
+wanted <<'END'
+--
+END
+try 'a rule of the third edition in the second' 0 "$all" -q --edition 2 fraction.pfb
 
 # Known faults.
 echo 'baseline = "known"' >fonts/.t1check.toml
@@ -120,7 +133,7 @@ wrong ':3: not TOML' 'only = [
 "H"
 edition = 1'
 wrong ': unknown key jobs' 'jobs = 2'
-wrong ': edition wants 1 or 2' 'edition = 3'
+wrong ': edition wants 1, 2 or 3' 'edition = 4'
 wrong ': level wants levels, as ["must", "should"]' 'level = 1'
 wrong ': --only wants codes of rules or their letters, as H02,Z' 'only = ["H02", "E03"]'
 wrong ': --level wants must, should or tidy' 'level = "all"'

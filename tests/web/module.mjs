@@ -1,5 +1,5 @@
 // Compares the page's module, in node, with the programs, byte for byte: reports, JSON lines, refusals and pictures of the fonts in tests/,
-// in both editions, and t1check.mjs with t1check.
+// in each edition, and t1check.mjs with t1check.
 //
 //     node module.mjs MODULE FOLDER        FOLDER takes files that are made
 import fs from 'fs';
@@ -11,7 +11,7 @@ import { finish, fontOfTests, fontsOfTests, formWords, run, same, test, top } fr
 
 const [file, folder] = process.argv.slice(2);
 const module = await host.compile(fs.readFileSync(file));
-const EDITIONS = [1, 2];
+const EDITIONS = [1, 2, 3];
 const NONE = new Uint8Array();
 // Of each font so many pictures are compared.
 const PICTURES_A_FONT = 3;
@@ -185,6 +185,7 @@ function exampleOf(font) {
     ['--waive', waivers, letter], ['--after', '1', letter],
     ['--max', '2', letter], ['--after', '1', '--max', '1', letter], ['--after', '9', letter], ['--waive', made('malformed', 'A B\n'), letter],
     ['--waive', waivers, '--after', '1', '--max', '0', letter], [path.join(folder, 'missing')], ['--edition=2', letter],
+    ['--edition', '3', clean], ['--edition=+3', fontOfTests('Z14.pfb')],
   ];
   const named = (words) => `t1check.mjs ${words.map((it) => path.basename(it)).join(' ')}`;
   for (const words of runs) {
@@ -194,7 +195,7 @@ function exampleOf(font) {
   }
   const { stdout, status } = spawnSync(process.execPath, [script], { input: fs.readFileSync(letter) });
   same('t1check.mjs of standard input', [stdout.toString('latin1'), status], [run('t1check', [letter]).out.toString('latin1'), 1]);
-  for (const words of [['--trace', 'A', letter], ['--edition', '3', letter], ['--max', letter], [letter, letter]]) {
+  for (const words of [['--trace', 'A', letter], ['--edition', '4', letter], ['--max', letter], [letter, letter]]) {
     const { stdout, stderr, status } = spawnSync(process.execPath, [script, ...words]);
     test(`${named(words)} is a usage error`, stdout.length === 0 && stderr.length > 0 && status === 3, `status ${status}`);
   }

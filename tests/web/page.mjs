@@ -209,6 +209,9 @@ const tests = {
     await page.select('#edition', '2');
     await page.until(CHECKED);
     same('edition 2', await row(), 'no fault');
+    await page.select('#edition', '3');
+    await page.until(CHECKED);
+    same('edition 3', await row(), '3 faults');
     await page.select('#edition', '1');
     await page.until(CHECKED);
     same('edition 1 again', await row(), '1 fault');

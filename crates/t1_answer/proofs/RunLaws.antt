@@ -188,25 +188,25 @@ module _ (options : Options) (source texts : Transition SourceState) (sinks : Tr
 
   -- both were read so
   of-both : (answer : Answer) (read : Result FontValue Reason) (waived : Result (List Waiver) Reason) → AreRead left read
-      → AreWaived (asks_waivers options) waivers.left waived → IsAnswerTo options read waived answer → Answering answer
+      → AreWaived options.edition (asks_waivers options) waivers.left waived → IsAnswerTo options read waived answer → Answering answer
   of-both answer read waived are is holds =
-      of-read (λ r. IfWaived (asks_waivers options) waivers.left (λ w. IsAnswerTo options r w answer)) left read are
-      (of-waived (λ w. IsAnswerTo options read w answer) (asks_waivers options) waivers.left waived is holds)
+      of-read (λ r. IfWaived options.edition (asks_waivers options) waivers.left (λ w. IsAnswerTo options r w answer)) left read are
+      (of-waived options.edition (λ w. IsAnswerTo options read w answer) (asks_waivers options) waivers.left waived is holds)
 
   -- whatever the waivers are
   of-font : (answer : Answer) (read : Result FontValue Reason) → AreRead left read
       → ((waived : Result (List Waiver) Reason) → IsAnswerTo options read waived answer) → Answering answer
   of-font answer read are holds =
-      of-read (λ r. IfWaived (asks_waivers options) waivers.left (λ w. IsAnswerTo options r w answer)) left read are
-      (of-any (λ w. IsAnswerTo options read w answer) (asks_waivers options) waivers.left holds)
+      of-read (λ r. IfWaived options.edition (asks_waivers options) waivers.left (λ w. IsAnswerTo options r w answer)) left read are
+      (of-any options.edition (λ w. IsAnswerTo options read w answer) (asks_waivers options) waivers.left holds)
 
   known-weaker : (answer : Answer) (Q : Result FontValue Reason → Result (List Waiver) Reason → Type 0)
       → ((read : Result FontValue Reason) (waived : Result (List Waiver) Reason) → IsAnswerTo options read waived answer → Q read waived)
       → Answering answer → IfKnown options left waivers.left Q
   known-weaker answer Q on holds =
-      some-weaker (λ input. IfWaived (asks_waivers options) waivers.left (λ w. IsAnswerTo options (font_of input) w answer))
-      (λ input. IfWaived (asks_waivers options) waivers.left (Q (font_of input))) left
-      (λ input h. waived-weaker (λ w. IsAnswerTo options (font_of input) w answer) (Q (font_of input)) (asks_waivers options) waivers.left
+      some-weaker (λ input. IfWaived options.edition (asks_waivers options) waivers.left (λ w. IsAnswerTo options (font_of input) w answer))
+      (λ input. IfWaived options.edition (asks_waivers options) waivers.left (Q (font_of input))) left
+      (λ input h. waived-weaker options.edition (λ w. IsAnswerTo options (font_of input) w answer) (Q (font_of input)) (asks_waivers options) waivers.left
       (λ w is. on (font_of input) w is) h) holds
 
   answered : (answer : Answer) → Answering answer → result ≡ answer.status → Appends out.written out'.written answer.output
@@ -380,7 +380,7 @@ module _ (options : Options) (source texts : Transition SourceState) (sinks : Tr
   shown_by font waived answer trace name same is = subst (λ (n : Option (List ℕ)). IsShown options font waived n answer) (sym same) is
 
   after_shown : (font : FontValue) → AreRead left (Ok font) → failed ≡ false → (waived : List Waiver)
-      → AreWaived (asks_waivers options) waivers.left (Ok waived) → IsHeard (asks_waivers options) waivers waivers'
+      → AreWaived options.edition (asks_waivers options) waivers.left (Ok waived) → IsHeard (asks_waivers options) waivers waivers'
       → Shows options font waived sinks.old sinks.new result
       → KeepsFacts
   after_shown font are unfailed waived is heard (was_reported none faults report gives) =

@@ -77,7 +77,7 @@ IsAnswerTo options (Err reason) waived answer = answer ≡ refused (told_of reas
 
 -- The waivers of a text, where the options request them; else there are none.
 abbrev pub waived_by : Options → List ℕ → Result (List Waiver) Reason
-waived_by options text = if asks_waivers options then waivers_in text else Ok []
+waived_by options text = if asks_waivers options then waivers_in options.edition text else Ok []
 
 -- The program's answer to its options and the bytes of a font's file and of a file of waivers.
 abbrev pub IsAnswer : Options → List ℕ → List ℕ → Answer → Type 0

@@ -22,5 +22,6 @@ checking = record {
   Refuses = AreRefused t1check;
   font = λ (options : Options). option_map string_bytes options.file;
   waivers = waivers_named;
+  edition = λ (options : Options). options.edition;
   Shows = Shows;
 }

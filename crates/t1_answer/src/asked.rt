@@ -52,6 +52,10 @@ impl Program for Options {
         }
     }
 
+    fn edition(&self) -> Edition {
+        self.edition
+    }
+
     fn show<W: Sink, E: Sink>(
         &self,
         alloc: Global,

@@ -43,20 +43,20 @@ use Rattle.t1_answer_all.proofs.QuietAgain.{all-append, quiet_again}
 use Rattle.t1_answer_all.specs.Laws.{AnUpdateOfFilesIsQuietNextTime, AreCheckedIn, CanBeKnown, IsChecked, IsQuiet, holding}
 
 -- The waivers of a font that has this text of them, if it has one.
-abbrev waived_by : Option (List ℕ) → Result (List Waiver) Reason
-waived_by None = Ok []
-waived_by (Some text) = waivers_in text
+abbrev waived_by : Edition → Option (List ℕ) → Result (List Waiver) Reason
+waived_by edition None = Ok []
+waived_by edition (Some text) = waivers_in edition text
 
 -- How a font is found by its file's bytes and the text of its waivers, where no read fails and memory doesn't run out.
 data IsSure (edition : Edition) (bytes : List ℕ) (text : Option (List ℕ)) (name : List ℕ) (outcome : Outcome) : Type 0 where
   sure_report :
-      (report : Report) → font_of bytes ≡ Ok report.font → waived_by text ≡ Ok report.waivers → report.edition ≡ edition
+      (report : Report) → font_of bytes ≡ Ok report.font → waived_by edition text ≡ Ok report.waivers → report.edition ≡ edition
       → IsReport (checked report.font edition) report.waivers report.faults → 0 < length name → outcome ≡ reported report
       → IsSure edition bytes text name outcome
   sure_refused :
       (reason : Reason) → font_of bytes ≡ Err reason → outcome ≡ failed (error_of (failure_of reason)) → IsSure edition bytes text name outcome
   sure_waivers :
-      (font : FontValue) (reason : Reason) → font_of bytes ≡ Ok font → waived_by text ≡ Err reason
+      (font : FontValue) (reason : Reason) → font_of bytes ≡ Ok font → waived_by edition text ≡ Err reason
       → outcome ≡ failed (error_of (failure_of reason)) → IsSure edition bytes text name outcome
 
 -- The same by its name too.
@@ -76,8 +76,8 @@ module _ (bytes_of : List ℕ → List ℕ) (text_of : List ℕ → Option (List
 
   -- by the bytes of the font, and the text of its waivers where it has some
   found_so : (bytes : List ℕ) (text : Option (List ℕ)) (asked : Bool) (source source' waivers waivers' : SourceState) → source.left ≡ Some bytes
-      → ((waived : Result (List Waiver) Reason) → AreWaived asked waivers.left waived → waived_by text ≡ waived) → 0 < length name
-      → (outcome : Outcome) → IsFound edition (given_by source source' asked waivers waivers') outcome → IsChecked outcome
+      → ((waived : Result (List Waiver) Reason) → AreWaived edition asked waivers.left waived → waived_by edition text ≡ waived) → 0 < length name
+      → (outcome : Outcome) → IsFound edition (given_by edition source source' asked waivers waivers') outcome → IsChecked outcome
       → IsSure edition bytes text name outcome
   found_so bytes text asked source source' waivers waivers' is waives named outcome (reports report reads waived edition_is made same) checks =
       sure_report report (rw is at reads.0) (waives (Ok report.waivers) waived.0) edition_is made named same
@@ -98,12 +98,12 @@ module _ (bytes_of : List ℕ → List ℕ) (text_of : List ℕ → Option (List
   sure old new outcome (without_waivers plain opened asked source source' waivers waivers' opens none leaves few found) checks =
       sure_named plain
       (found_so (bytes_of name) (asked_text beside text_of name) false source source' waivers waivers' opens.1
-      (λ waived is. ap waived_by (none_asked (asks beside name) opened asked none) ∙ is) opens.0 outcome found checks)
+      (λ waived is. ap (waived_by edition) (none_asked (asks beside name) opened asked none) ∙ is) opens.0 outcome found checks)
   sure old new outcome (with_waivers plain opened asked left source source' waivers waivers' opens asks_is some leaves leaves' few few' found) checks =
       let text_is : asked_text beside text_of name ≡ Some some.0 = rw asks_is some.1 in
       sure_named plain
       (found_so (bytes_of name) (asked_text beside text_of name) true source source' waivers waivers' opens.1
-      (λ waived is. ap waived_by text_is ∙ (rw some.2 at is)) opens.0 outcome found checks)
+      (λ waived is. ap (waived_by edition) text_is ∙ (rw some.2 at is)) opens.0 outcome found checks)
 
 -- ---- the same is found again
 
@@ -138,20 +138,20 @@ module _ (edition : Edition) (bytes : List ℕ) (text : Option (List ℕ)) (name
 
   same_outcome : (a b : Outcome) → IsSure edition bytes text name a → IsSure edition bytes text name b → a ≡ b
   same_outcome a b (sure_report r font waived dated is named at) (sure_report r' font' waived' dated' is' named' at') =
-      at ∙ same_reports r r' (ok_same r.font r'.font (font_of bytes) font font') (ok_same r.waivers r'.waivers (waived_by text) waived waived')
+      at ∙ same_reports r r' (ok_same r.font r'.font (font_of bytes) font font') (ok_same r.waivers r'.waivers (waived_by edition text) waived waived')
       dated dated' is is'
       ∙ sym at'
   same_outcome a b (sure_refused why font at) (sure_refused why' font' at') =
       at ∙ ap (λ (w : Reason). failed (error_of (failure_of w))) (err_same why why' (font_of bytes) font font') ∙ sym at'
   same_outcome a b (sure_waivers f why font waived at) (sure_waivers f' why' font' waived' at') =
-      at ∙ ap (λ (w : Reason). failed (error_of (failure_of w))) (err_same why why' (waived_by text) waived waived') ∙ sym at'
+      at ∙ ap (λ (w : Reason). failed (error_of (failure_of w))) (err_same why why' (waived_by edition text) waived waived') ∙ sym at'
   same_outcome a b (sure_report r font waived dated is named at) (sure_refused why font' at') = absurd (either r.font why (font_of bytes) font font')
   same_outcome a b (sure_report r font waived dated is named at) (sure_waivers f why font' waived' at') =
-      absurd (either r.waivers why (waived_by text) waived waived')
+      absurd (either r.waivers why (waived_by edition text) waived waived')
   same_outcome a b (sure_refused why font at) (sure_report r font' waived dated is named at') = absurd (either r.font why (font_of bytes) font' font)
   same_outcome a b (sure_refused why font at) (sure_waivers f why' font' waived at') = absurd (either f why (font_of bytes) font' font)
   same_outcome a b (sure_waivers f why font waived at) (sure_report r font' waived' dated is named at') =
-      absurd (either r.waivers why (waived_by text) waived' waived)
+      absurd (either r.waivers why (waived_by edition text) waived' waived)
   same_outcome a b (sure_waivers f why font waived at) (sure_refused why' font' at') = absurd (either f why' (font_of bytes) font font')
 
   same_named : (a b : Outcome) → IsSureNamed edition bytes text name a → IsSureNamed edition bytes text name b → a ≡ b
@@ -212,34 +212,36 @@ as_waivers_of (Some ws) false reason waivers is = (let same : ws ≡ waivers = c
 as_waivers_of None true reason waivers is = cc
 as_waivers_of None false reason waivers is = cc
 
-waivers_are : (text : List ℕ) (waivers : List Waiver) → waivers_in text ≡ Ok waivers → waivers_of text ≡ Some waivers
+waivers_are : (edition : Edition) (text : List ℕ) (waivers : List Waiver) → waivers_in edition text ≡ Ok waivers → waivers_of edition text ≡ Some waivers
 unfolding waivers_in
-waivers_are text waivers is = as_waivers_of (waivers_of text) (nat_lt 1048576 (length text)) _ waivers is
+waivers_are edition text waivers is = as_waivers_of (waivers_of edition text) (nat_lt 1048576 (length text)) _ waivers is
 
 if_ok : {T E : Type 0} (P : T → Type 0) (r : Result T E) (x : T) → IfOk r P → r ≡ Ok x → P x
 if_ok P r x holds is = rw is at holds
 
-none_read : waivers_of [] ≡ Some []
+none_read : (edition : Edition) → waivers_of edition [] ≡ Some []
 unfolding lines_from lines_read
-none_read = refl
+none_read edition = refl
 
-read_of : (bytes : List ℕ) (text : Option (List ℕ)) (font : FontValue) (waivers : List Waiver) → font_of bytes ≡ Ok font
-    → waived_by text ≡ Ok waivers → IsRead font waivers
-read_of bytes None font waivers is waived = record {
+read_of : (edition : Edition) (bytes : List ℕ) (text : Option (List ℕ)) (font : FontValue) (waivers : List Waiver) → font_of bytes ≡ Ok font
+    → waived_by edition text ≡ Ok waivers → IsRead font waivers
+read_of edition bytes None font waivers is waived = record {
   bytes = bytes;
   font_is = font_is bytes font is;
   text = [];
-  waivers_are = (let same : [] ≡ waivers = cc in none_read ∙ ap Some same);
+  edition = edition;
+  waivers_are = (let same : [] ≡ waivers = cc in none_read edition ∙ ap Some same);
   few = if_ok HasFew (font_of bytes) font (of_file fonts_within_limits bytes) is;
   few_waivers = (let same : [] ≡ waivers = cc in subst AreFew same (omega arith));
 }
-read_of bytes (Some text) font waivers is waived = record {
+read_of edition bytes (Some text) font waivers is waived = record {
   bytes = bytes;
   font_is = font_is bytes font is;
   text = text;
-  waivers_are = waivers_are text waivers waived;
+  edition = edition;
+  waivers_are = waivers_are edition text waivers waived;
   few = if_ok HasFew (font_of bytes) font (of_file fonts_within_limits bytes) is;
-  few_waivers = if_ok AreFew (waivers_in text) waivers (of_text text) waived;
+  few_waivers = if_ok AreFew (waivers_in edition text) waivers (of_text edition text) waived;
 }
 
 readable_outcome : (rules : Mask) (edition : Edition) (bytes : List ℕ) (text : Option (List ℕ)) (name : List ℕ) (outcome : Outcome)
@@ -247,7 +249,7 @@ readable_outcome : (rules : Mask) (edition : Edition) (bytes : List ℕ) (text :
     → AllByRecursion IsReadable (outcome_readings rules name outcome)
 readable_outcome rules edition bytes text name outcome in_line (sure_report report font waived dated is named same) =
     subst (λ o. AllByRecursion IsReadable (outcome_readings rules name o)) (sym same) (
-      reports_are_readable name report.font report.waivers report.faults edition rules (read_of bytes text report.font report.waivers font waived) is named
+      reports_are_readable name report.font report.waivers report.faults edition rules (read_of edition bytes text report.font report.waivers font waived) is named
           in_line,
       tt,
     )

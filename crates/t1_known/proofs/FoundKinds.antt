@@ -91,7 +91,7 @@ reports_are_readable name font waivers faults edition rules read report named in
     let less = fewer told faults in
     let few = few_faults (checked font edition) waivers faults read.few read.few_waivers report in
     record {
-      kinds = plain_kinds font waivers (font_named read.bytes font read.font_is) (waivers_have_names read.text waivers read.waivers_are)
+      kinds = plain_kinds font waivers (font_named read.bytes font read.font_is) (waivers_have_names read.edition read.text waivers read.waivers_are)
           (told_faults rules faults) there;
       few = omega (arith, same, less, few);
       named = named;

@@ -1,5 +1,6 @@
 -- The statements of laws: how faults are written, what names were read, and that a refusal has one reason.
 use Rattle.std.specs.Prelude.{◌≡◌, ◌⊎◌, ℕ, List, ◌++◌, codes, Ok, None, Some}
+use Rattle.t1_char.specs.declared.edition.Edition.{Edition}
 use Rattle.t1_font.specs.ClearText.{clear_of}
 use Rattle.t1_font.specs.Fonts.{FontValue, Marks}
 use Rattle.t1_font.specs.Texts.{font_read}
@@ -30,7 +31,7 @@ FontsHaveNames = (marks : Marks) (text private_text : List ℕ) (clear : TextRea
 
 -- So have waivers that were read.
 abbrev pub WaiversHaveNames : Type 0
-WaiversHaveNames = (text : List ℕ) (waivers : List Waiver) → waivers_of text ≡ Some waivers → HaveNames waivers
+WaiversHaveNames = (edition : Edition) (text : List ℕ) (waivers : List Waiver) → waivers_of edition text ≡ Some waivers → HaveNames waivers
 
 -- Each number of a refusal is that of a reason.
 abbrev pub EachCodeIsOfAReason : Type 0

@@ -73,9 +73,9 @@ module _ {R : Type 0} (takes : R → R → Entry → Result FontClass Lost → T
 
   -- a report that was taken
   pub text_taken : (font : FontValue) (text : List ℕ) (waivers : List Waiver) (of : Edition) (a b : R) (taken : Result FontClass Lost)
-      → of ≡ edition → waivers_of text ≡ Some waivers → (faults : List FaultValue) × IsReport (checked font of) waivers faults
+      → of ≡ edition → waivers_of edition text ≡ Some waivers → (faults : List FaultValue) × IsReport (checked font of) waivers faults
       × takes a b (record { name = name; outcome = reported (record { font = font; edition = of; waivers = waivers; faults = faults }) }) taken
-      → Checks (recipient_by takes a b) edition name (of_text font text) (Ok taken)
+      → Checks (recipient_by takes a b) edition name (of_text edition font text) (Ok taken)
   text_taken font text waivers of a b taken same read (faults, is, took) = (
     record { font = font; edition = of; waivers = waivers; faults = faults },
     reports (record { font = font; edition = of; waivers = waivers; faults = faults }) refl (ap as_waivers read) same
@@ -86,38 +86,38 @@ module _ {R : Type 0} (takes : R → R → Entry → Result FontClass Lost → T
 -- ---- the text of waivers
 
 pub text_unread : {W : Type 0} (value : W → List Waiver) (edition : Edition) (font : FontValue) (text : List ℕ) (error : WaiverError)
-    → IsReadAs value (waivers_of text) (Err error) → IsFound edition (of_text font text) (ended (failure_of (Waivers error)))
+    → IsReadAs value (waivers_of edition text) (Err error) → IsFound edition (of_text edition font text) (ended (failure_of (Waivers error)))
 text_unread value edition font text Malformed none = waivers_refused font refl (Waivers Malformed) (ap as_waivers none) refl
 text_unread value edition font text Memory any = no_memory refl
 
 -- ---- its file
 
 pub file_unread : (edition : Edition) (font : FontValue) (asked : Bool) (old new : SourceState) (failure : Failure)
-    → IsNoWaiverText asked old new failure → IsFound edition (of_font font asked old new) (ended failure)
+    → IsNoWaiverText asked old new failure → IsFound edition (of_font edition font asked old new) (ended failure)
 file_unread edition font asked old new failure (too_large waived heard is) =
     waivers_refused font refl WaiversTooLarge (waived, heard) (ap ended is)
 file_unread edition font asked old new failure (read_failed is_asked broke is) = breaks_waivers font refl (is_asked, broke) (ap ended is)
 file_unread edition font asked old new failure (no_room kept is) = no_memory (ap ended is)
 
-pub text_of_file : (font : FontValue) (asked : Bool) (old new : SourceState) (text : List ℕ) → IsWaiverText asked old new text
-    → Widens (of_text font text) (of_font font asked old new)
-text_of_file font asked old new text is = record {
+pub text_of_file : (edition : Edition) (font : FontValue) (asked : Bool) (old new : SourceState) (text : List ℕ) → IsWaiverText asked old new text
+    → Widens (of_text edition font text) (of_font edition font asked old new)
+text_of_file edition font asked old new text is = record {
   reads = λ read same. same;
   breaks = λ never. never;
-  waives = λ waived same. (subst (λ (w : Result (List Waiver) Reason). AreWaived asked old.left w) same is.read, is.heard);
+  waives = λ waived same. (subst (λ (w : Result (List Waiver) Reason). AreWaived edition asked old.left w) same is.read, is.heard);
   breaks_waivers = λ never. absurd never;
 }
 
 -- ---- the bytes of a font
 
 pub bytes_unread : (edition : Edition) (bytes : List ℕ) (asked : Bool) (old new : SourceState) (unread : Unread)
-    → IsUnread unread (font_in bytes) → IsFound edition (of_bytes bytes asked old new) (ended (failure_of (Font unread)))
+    → IsUnread unread (font_in bytes) → IsFound edition (of_bytes edition bytes asked old new) (ended (failure_of (Font unread)))
 bytes_unread edition bytes asked old new unread (inl memory) = no_memory (ap (λ (u : Unread). ended (failure_of (Font u))) memory)
 bytes_unread edition bytes asked old new unread (inr is) = refused (Font unread) (ap with_reason is) refl
 
-pub font_of_bytes : (font : FontValue) (bytes : List ℕ) (asked : Bool) (old new : SourceState) → font_in bytes ≡ Ok font
-    → Widens (of_font font asked old new) (of_bytes bytes asked old new)
-font_of_bytes font bytes asked old new is = record {
+pub font_of_bytes : (edition : Edition) (font : FontValue) (bytes : List ℕ) (asked : Bool) (old new : SourceState) → font_in bytes ≡ Ok font
+    → Widens (of_font edition font asked old new) (of_bytes edition bytes asked old new)
+font_of_bytes edition font bytes asked old new is = record {
   reads = λ read same. ap with_reason is ∙ sym same;
   breaks = λ never. never;
   waives = λ waived heard. heard;
@@ -128,15 +128,15 @@ font_of_bytes font bytes asked old new is = record {
 
 pub font_unread : (edition : Edition) (source source' : SourceState) (asked : Bool) (old new : SourceState) (failure : Failure)
     → source.failed ≡ false → AreUnread 16777216 FontTooLarge source source' failure
-    → IsFound edition (given_by source source' asked old new) (ended failure)
+    → IsFound edition (given_by edition source source' asked old new) (ended failure)
 font_unread edition source source' asked old new failure sound (past bytes consumed large kept is) =
     refused FontTooLarge (font_past source.left source'.left bytes consumed large, kept ∙ sound, past_limit bytes consumed large) (ap ended is)
 font_unread edition source source' asked old new failure sound (broken broke is) = breaks broke (ap ended is)
 font_unread edition source source' asked old new failure sound (unroomed kept is) = no_memory (ap ended is)
 
-pub bytes_of_file : (source source' : SourceState) (bytes : List ℕ) (asked : Bool) (old new : SourceState) → source.failed ≡ false
-    → AreAll 16777216 source source' bytes → Widens (of_bytes bytes asked old new) (given_by source source' asked old new)
-bytes_of_file source source' bytes asked old new sound all = record {
+pub bytes_of_file : (edition : Edition) (source source' : SourceState) (bytes : List ℕ) (asked : Bool) (old new : SourceState) → source.failed ≡ false
+    → AreAll 16777216 source source' bytes → Widens (of_bytes edition bytes asked old new) (given_by edition source source' asked old new)
+bytes_of_file edition source source' bytes asked old new sound all = record {
   reads = λ read same. (
     subst (AreRead source.left) same (are_read source.left source'.left bytes (font_in bytes) all.consumed all.end all.few refl),
     all.kept ∙ sound,

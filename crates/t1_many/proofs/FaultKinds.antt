@@ -102,5 +102,5 @@ font_named bytes font is = clear_named (joined_of bytes) font is
 pub unit_in : (font : FontValue) (waivers : List Waiver) → IsRead font waivers → (fault : FaultValue) → IsInFont font waivers fault
     → IsUnit (counted_in font waivers fault).unit
 unit_in font waivers read fault there =
-    is_unit font waivers (font_named read.bytes font read.font_is) (waivers_have_names read.text waivers read.waivers_are) fault
+    is_unit font waivers (font_named read.bytes font read.font_is) (waivers_have_names read.edition read.text waivers read.waivers_are) fault
     (placed font waivers fault there)

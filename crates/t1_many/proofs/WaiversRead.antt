@@ -5,6 +5,7 @@ use Rattle.std.proofs.lemmas.Bool.Decides.{nat_tests}
 use Rattle.std.specs.Cmp.Lexicographic.{same_text}
 use Rattle.std.specs.List.{AllByRecursion, list_all}
 use Rattle.std.specs.Prelude.{option_and_then}
+use Rattle.t1_char.specs.declared.edition.Edition.{Edition}
 use Rattle.t1_scan.specs.Bytes.{is_regular}
 use Rattle.t1_font.specs.Keys.{same_name}
 use Rattle.t1_rules.specs.Book.{code_of, number_of}
@@ -36,8 +37,8 @@ name_is_inner (b ∷ bytes) rest all more =
     let parts = and_parts _ _ all in
     rw (regular_is_inner b parts.0) (name_is_inner bytes rest parts.1 more)
 
-line_is_inner : (w : Waiver) → CanBeWritten w → list_all is_inner (waiver_line w) ≡ true
-line_is_inner w can = name_is_inner w.0 (32 ∷ code_of w.1) can.name (code_is_inner w.1)
+line_is_inner : (edition : Edition) (w : Waiver) → CanBeWritten edition w → list_all is_inner (waiver_line w) ≡ true
+line_is_inner edition w can = name_is_inner w.0 (32 ∷ code_of w.1) can.name (code_is_inner w.1)
 
 -- it is cut off at its end
 cut_off : (front line rest : List ℕ) → list_all is_inner line ≡ true → lines_from front (line ++ (10 ∷ rest)) ≡ (front ++ line) ∷ lines_from [] rest
@@ -68,18 +69,18 @@ stays : (line : List ℕ) → list_all is_inner line ≡ true → without_return
 stays line inner = rw (no_return (drop (length line - 1) line) (inner_behind (length line - 1) line inner)) refl
 
 -- a line that isn't empty is read as its waiver
-read_at : (waivers : List Waiver) (text : List ℕ) (w : Waiver) → waiver_of text ≡ Some w → (text ≡ [] → ⊥) → text_read waivers text ≡ Some (with_waiver waivers w)
-read_at waivers [] w is some = absurd (some refl)
-read_at waivers (b ∷ text) w is some = ap (option_map (with_waiver waivers)) is
+read_at : (edition : Edition) (waivers : List Waiver) (text : List ℕ) (w : Waiver) → waiver_of edition text ≡ Some w → (text ≡ [] → ⊥) → text_read edition waivers text ≡ Some (with_waiver waivers w)
+read_at edition waivers [] w is some = absurd (some refl)
+read_at edition waivers (b ∷ text) w is some = ap (option_map (with_waiver waivers)) is
 
 line_has : (name rest : List ℕ) → name ++ (32 ∷ rest) ≡ [] → ⊥
 line_has [] rest e = cc
 line_has (b ∷ name) rest e = cc
 
-one_read : (waivers : List Waiver) (w : Waiver) → CanBeWritten w → line_read waivers (waiver_line w) ≡ Some (with_waiver waivers w)
-one_read waivers w can =
-    ap (text_read waivers) (stays (waiver_line w) (line_is_inner w can))
-    ∙ read_at waivers (waiver_line w) w ((lines_are_waivers (waiver_line w) w).1 (can, refl)) (line_has w.0 (code_of w.1))
+one_read : (edition : Edition) (waivers : List Waiver) (w : Waiver) → CanBeWritten edition w → line_read edition waivers (waiver_line w) ≡ Some (with_waiver waivers w)
+one_read edition waivers w can =
+    ap (text_read edition waivers) (stays (waiver_line w) (line_is_inner edition w can))
+    ∙ read_at edition waivers (waiver_line w) w ((lines_are_waivers edition (waiver_line w) w).1 (can, refl)) (line_has w.0 (code_of w.1))
 
 -- ---- lines
 
@@ -87,16 +88,16 @@ abbrev taken : List Waiver → List Waiver → List Waiver
 taken waivers [] = waivers
 taken waivers (w ∷ more) = taken (with_waiver waivers w) more
 
-all_read : (waivers more : List Waiver) → AllByRecursion CanBeWritten more
-    → lines_read waivers (lines_from [] (waivers_text more)) ≡ Some (taken waivers more)
+all_read : (edition : Edition) (waivers more : List Waiver) → AllByRecursion (CanBeWritten edition) more
+    → lines_read edition waivers (lines_from [] (waivers_text more)) ≡ Some (taken waivers more)
 unfolding lines_from lines_read
-all_read waivers [] can = refl
-all_read waivers (w ∷ more) can =
+all_read edition waivers [] can = refl
+all_read edition waivers (w ∷ more) can =
     let text : waivers_text (w ∷ more) ≡ waiver_line w ++ (10 ∷ waivers_text more) = append_assoc (waiver_line w) (10 ∷ []) (waivers_text more) in
-    let cut = cut_off [] (waiver_line w) (waivers_text more) (line_is_inner w can.0) in
-    ap (λ t. lines_read waivers (lines_from [] t)) text ∙ ap (lines_read waivers) cut
-    ∙ ap (λ o. option_and_then (λ so_far. lines_read so_far (lines_from [] (waivers_text more))) o) (one_read waivers w can.0)
-    ∙ all_read (with_waiver waivers w) more can.1
+    let cut = cut_off [] (waiver_line w) (waivers_text more) (line_is_inner edition w can.0) in
+    ap (λ t. lines_read edition waivers (lines_from [] t)) text ∙ ap (lines_read edition waivers) cut
+    ∙ ap (λ o. option_and_then (λ so_far. lines_read edition so_far (lines_from [] (waivers_text more))) o) (one_read edition waivers w can.0)
+    ∙ all_read edition (with_waiver waivers w) more can.1
 
 -- ---- each once
 
@@ -105,36 +106,36 @@ taken_last waivers [] w = refl
 taken_last waivers (v ∷ more) w = taken_last (with_waiver waivers v) more w
 
 -- Waivers that can be written, and are the same once each is taken anew.
-record AreWritten (waivers : List Waiver) : Type 0 where
-  pub can : AllByRecursion CanBeWritten waivers
+record AreWritten (edition : Edition) (waivers : List Waiver) : Type 0 where
+  pub can : AllByRecursion (CanBeWritten edition) waivers
   pub once : taken [] waivers ≡ waivers
 
-can_last : (waivers : List Waiver) (w : Waiver) → AllByRecursion CanBeWritten waivers → CanBeWritten w → AllByRecursion CanBeWritten (waivers ++ w ∷ [])
-can_last [] w all can = (can, tt)
-can_last (v ∷ waivers) w all can = (all.0, can_last waivers w all.1 can)
+can_last : (edition : Edition) (waivers : List Waiver) (w : Waiver) → AllByRecursion (CanBeWritten edition) waivers → CanBeWritten edition w → AllByRecursion (CanBeWritten edition) (waivers ++ w ∷ [])
+can_last edition [] w all can = (can, tt)
+can_last edition (v ∷ waivers) w all can = (all.0, can_last edition waivers w all.1 can)
 
-one_more : (waivers : List Waiver) (w : Waiver) → AreWritten waivers → CanBeWritten w → AreWritten (with_waiver waivers w)
-one_more waivers w are can = elim (cases_Bool (is_waived waivers w.0 (number_of w.1))) [
+one_more : (edition : Edition) (waivers : List Waiver) (w : Waiver) → AreWritten edition waivers → CanBeWritten edition w → AreWritten edition (with_waiver waivers w)
+one_more edition waivers w are can = elim (cases_Bool (is_waived waivers w.0 (number_of w.1))) [
   | inl there ↦ rw there are
   | inr new ↦ rw new (record {
-    can = can_last waivers w are.can can;
+    can = can_last edition waivers w are.can can;
     once = taken_last [] waivers w ∙ ap (λ v. with_waiver v w) are.once ∙ rw new refl;
   })
 ]
 
-one_place : (waivers : List Waiver) (place : PlaceValue) (rule : Rule) → AreWritten waivers → IsPlace place rule → CanBeWaived place rule
-    → AreWritten (with_place waivers place rule)
-one_place waivers (at_key key index) rule are is can = are
-one_place waivers (at_step name path step) rule are is can = one_more waivers (name, rule) are (record { name = is.0; rule = can })
-one_place waivers (at_waiver name waived) rule are is can = are
+one_place : (edition : Edition) (waivers : List Waiver) (place : PlaceValue) (rule : Rule) → AreWritten edition waivers → IsPlace place rule → CanBeWaived edition place rule
+    → AreWritten edition (with_place waivers place rule)
+one_place edition waivers (at_key key index) rule are is can = are
+one_place edition waivers (at_step name path step) rule are is can = one_more edition waivers (name, rule) are (record { name = is.0; rule = can })
+one_place edition waivers (at_waiver name waived) rule are is can = are
 
-all_places : (waivers : List Waiver) (lines : List FaultLineValue) → AreWritten waivers
-    → AllByRecursion (λ (l : FaultLineValue). IsFaultLine l × CanBeWaived l.place l.rule) lines → AreWritten (waivers_behind waivers lines)
-all_places waivers [] are all = are
-all_places waivers (l ∷ lines) are all =
-    all_places (with_place waivers l.place l.rule) lines (one_place waivers l.place l.rule are all.0.0.place all.0.1) all.1
+all_places : (edition : Edition) (waivers : List Waiver) (lines : List FaultLineValue) → AreWritten edition waivers
+    → AllByRecursion (λ (l : FaultLineValue). IsFaultLine l × CanBeWaived edition l.place l.rule) lines → AreWritten edition (waivers_behind waivers lines)
+all_places edition waivers [] are all = are
+all_places edition waivers (l ∷ lines) are all =
+    all_places edition (with_place waivers l.place l.rule) lines (one_place edition waivers l.place l.rule are all.0.0.place all.0.1) all.1
 
 pub written_are_read : WrittenWaiversAreRead
-written_are_read lines all =
-    let are = all_places [] lines (record { can = tt; once = refl }) all in
-    all_read [] (waivers_of_lines lines) are.can ∙ ap Some are.once
+written_are_read edition lines all =
+    let are = all_places edition [] lines (record { can = tt; once = refl }) all in
+    all_read edition [] (waivers_of_lines lines) are.can ∙ ap Some are.once

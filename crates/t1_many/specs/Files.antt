@@ -51,11 +51,11 @@ pub data IsFound (edition : Edition) (given : Given) (outcome : Outcome) : Type 
 
 -- What is known of the files of a font that was opened, and of its waivers where they are asked for, by their states before the first read and
 -- after the last one. The font's file was read to its end or past its limit, unless a read failed or memory ran out.
-abbrev pub given_by : SourceState → SourceState → Bool → SourceState → SourceState → Given
-given_by source source' asked waivers waivers' = record {
+abbrev pub given_by : Edition → SourceState → SourceState → Bool → SourceState → SourceState → Given
+given_by edition source source' asked waivers waivers' = record {
   Reads = λ read. AreRead source.left read × (source'.failed ≡ false) × StopsAt largest_file source source' ⊥;
   Breaks = source'.failed ≡ true;
-  Waives = λ waived. AreWaived asked waivers.left waived × IsHeard asked waivers waivers';
+  Waives = λ waived. AreWaived edition asked waivers.left waived × IsHeard asked waivers waivers';
   BreaksWaivers = (asked ≡ true) × (waivers'.failed ≡ true);
 }
 
@@ -94,7 +94,7 @@ pub data ChecksIn (files : Files) (edition : Edition) (name : List ℕ) (outcome
       has_line_end name ≡ false → (opened asked : files.Store) → (source source' waivers waivers' : SourceState)
       → files.calls.Opens files.old opened name (Ok source) → HasNoWaivers files.calls (asks files.beside name) name opened asked
       → files.calls.Leaves asked files.new name source' → ReadsAtMost (largest_file + 1) source source'
-      → IsFound edition (given_by source source' false waivers waivers') outcome
+      → IsFound edition (given_by edition source source' false waivers waivers') outcome
       → ChecksIn files edition name outcome
   with_waivers :
       has_line_end name ≡ false → (opened asked left : files.Store) → (source source' waivers waivers' : SourceState)
@@ -102,5 +102,5 @@ pub data ChecksIn (files : Files) (edition : Edition) (name : List ℕ) (outcome
       → files.calls.OpensWaivers opened asked name (Some (Ok waivers))
       → files.calls.Leaves asked left name source' → files.calls.LeavesWaivers left files.new name waivers'
       → ReadsAtMost (largest_file + 1) source source' → ReadsAtMost (largest_waivers + 1) waivers waivers'
-      → IsFound edition (given_by source source' true waivers waivers') outcome
+      → IsFound edition (given_by edition source source' true waivers waivers') outcome
       → ChecksIn files edition name outcome

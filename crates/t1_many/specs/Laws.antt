@@ -1,6 +1,7 @@
 -- The statements of laws.
 use Rattle.std.specs.Prelude.{◌≡◌, ◌<◌, ◌≤◌, ◌^◌, ℕ, Bool, true, List, [], ◌∷◌, ◌++◌, Option, None, Some, length, map}
 use Rattle.std.specs.List.{AllByRecursion, flat_map}
+use Rattle.t1_char.specs.declared.edition.Edition.{Edition}
 use Rattle.t1_lines.specs.Lines.{FaultLineValue, IsFaultLine, PlaceValue, at_key, at_step, at_waiver}
 use Rattle.t1_report.specs.Faults.{FaultValue}
 use Rattle.t1_report.specs.Waivers.{is_waivable, waivers_of}
@@ -100,17 +101,17 @@ NoRowDiffers =
     (choice : Choice) (readings : List Reading) (rows : List RowValue)
     → AreReadings choice readings → flat_map (mismatch choice readings) (updated choice readings rows) ≡ []
 
--- A line of a glyph that can be waived: its rule is one on charstrings or their steps.
-abbrev pub CanBeWaived : PlaceValue → Rule → Type 0
-CanBeWaived (at_key key index) rule = Unit {0}
-CanBeWaived (at_step name path step) rule = is_waivable rule ≡ true
-CanBeWaived (at_waiver name waived) rule = Unit {0}
+-- A line of a glyph that can be waived in an edition: its rule is one on charstrings or their steps.
+abbrev pub CanBeWaived : Edition → PlaceValue → Rule → Type 0
+CanBeWaived edition (at_key key index) rule = Unit {0}
+CanBeWaived edition (at_step name path step) rule = is_waivable edition rule ≡ true
+CanBeWaived edition (at_waiver name waived) rule = Unit {0}
 
 -- What is written of lines is read as exactly their waivers.
 abbrev pub WrittenWaiversAreRead : Type 0
 WrittenWaiversAreRead =
-    (lines : List FaultLineValue) → AllByRecursion (λ l. IsFaultLine l × CanBeWaived l.place l.rule) lines
-    → waivers_of (waivers_text (waivers_of_lines lines)) ≡ Some (waivers_of_lines lines)
+    (edition : Edition) (lines : List FaultLineValue) → AllByRecursion (λ l. IsFaultLine l × CanBeWaived edition l.place l.rule) lines
+    → waivers_of edition (waivers_text (waivers_of_lines lines)) ≡ Some (waivers_of_lines lines)
 
 -- No status of a list is greater than the greatest.
 abbrev pub NoneIsWorse : Type 0

@@ -17,12 +17,13 @@ use Rattle.t1_report.specs.Waivers.{Waiver, largest_waivers, waivers_of}
 use Rattle.t1_run.specs.declared.status.Status.{Status}
 use Rattle.t1_run.specs.declared.status.Status.TheVariants as statuses
 
--- A font that was read of a file's bytes, and waivers that were read of a text.
+-- A font that was read of a file's bytes, and waivers that were read of a text in an edition.
 pub record IsRead (font : FontValue) (waivers : List Waiver) : Type 0 where
   pub bytes : List ℕ
   pub font_is : font_in bytes ≡ Ok font
   pub text : List ℕ
-  pub waivers_are : waivers_of text ≡ Some waivers
+  pub edition : Edition
+  pub waivers_are : waivers_of edition text ≡ Some waivers
   pub few : length font.glyphs ≤ most_glyphs
   pub few_waivers : length waivers ≤ largest_waivers
 

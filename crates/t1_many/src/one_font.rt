@@ -31,7 +31,7 @@ pub(crate) fn check_opened<R: Source, V: Source, T: Policy>(
 ) -> Result<Taken, Failure>
     requires { (R.state source.old).failed ≡ false }
     ensures checks { Checks (recipient_by T.takes recipient.old recipient.new) edition name.now
-        (given_by (R.state source.old) (R.state source.new) has_waivers (V.state waivers.old) (V.state waivers.new)) result }
+        (given_by edition (R.state source.old) (R.state source.new) has_waivers (V.state waivers.old) (V.state waivers.new)) result }
     ensures font { ReadsAtMost (largest_file + 1) (R.state source.old) (R.state source.new) }
     ensures waivers { ReadsAtMost (largest_waivers + 1) (V.state waivers.old) (V.state waivers.new) }
 {
@@ -50,7 +50,7 @@ fn check_bytes<V: Source, T: Policy>(
     recipient: &mut T,
 ) -> Result<Taken, Failure>
     ensures checks { Checks (recipient_by T.takes recipient.old recipient.new) edition name.now
-        (of_bytes bytes.items has_waivers (V.state waivers.old) (V.state waivers.new)) result }
+        (of_bytes edition bytes.items has_waivers (V.state waivers.old) (V.state waivers.new)) result }
     ensures waivers { ReadsAtMost (largest_waivers + 1) (V.state waivers.old) (V.state waivers.new) }
 {
     let mut file = OpenFont::open(alloc, bytes.as_slice())?;
@@ -74,7 +74,7 @@ fn check_font<V: Source, T: Policy>(
     requires few { length font.now.glyphs ≤ most_glyphs }
     requires read { IsFont font.now }
     ensures checks { Checks (recipient_by T.takes recipient.old recipient.new) edition name.now
-        (of_font font.now has_waivers (V.state waivers.old) (V.state waivers.new)) result }
+        (of_font edition font.now has_waivers (V.state waivers.old) (V.state waivers.new)) result }
     ensures waivers { ReadsAtMost (largest_waivers + 1) (V.state waivers.old) (V.state waivers.new) }
 {
     let text = read_waivers(alloc, waivers, has_waivers)?;
@@ -93,9 +93,9 @@ fn check_waived<T: Policy>(
     requires few { length font.now.glyphs ≤ most_glyphs }
     requires read { IsFont font.now }
     requires text { length text.now ≤ largest_waivers }
-    ensures { Checks (recipient_by T.takes recipient.old recipient.new) edition name.now (of_text font.now text.now) result }
+    ensures { Checks (recipient_by T.takes recipient.old recipient.new) edition name.now (of_text edition font.now text.now) result }
 {
-    let waivers = Waivers::read(alloc, text)?;
+    let waivers = Waivers::read(alloc, text, edition)?;
     let sidebearings = Sidebearings::prepare(alloc, font, edition)?;
     let taken = recipient.report(alloc, name, font, &sidebearings, &waivers)?;
     Ok(taken)

@@ -6,7 +6,7 @@ use Rattle.std.specs.Str.Parse.{digits_value}
 use Rattle.clap.specs.Walk.{is_empty}
 use Rattle.clap.specs.Words.{Text}
 use Rattle.t1_char.specs.declared.edition.Edition.{Edition}
-use Rattle.t1_char.specs.declared.edition.Edition.TheVariants.{One, Two}
+use Rattle.t1_char.specs.Editions.{edition_numbered}
 use Rattle.t1_scan.specs.Bytes.{is_decimal_digit}
 use Rattle.t1_options.specs.declared.asked.Format.{Format}
 use Rattle.t1_options.specs.declared.asked.Format.TheVariants.{GitHub, JsonLines, Sarif}
@@ -31,9 +31,7 @@ abbrev pub number_in : Text → Option ℕ
 number_in text = if is_number text then Some (digits_value 10 text) else None
 
 abbrev pub edition_in : Text → Option Edition
-edition_in text =
-    if bytes_eq text (codes "1") then Some One
-    else (if bytes_eq text (codes "2") then Some Two else None)
+edition_in text = option_and_then edition_numbered (number_in text)
 
 -- The name of a file is not empty.
 abbrev pub file_in : Text → Option Text

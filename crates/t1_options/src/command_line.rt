@@ -27,7 +27,7 @@ refusal, is written as `NAME: LINE`; what could not be checked is told on standa
 font NAME has its waivers, lines as `A H02`. A FONT `-` is standard input.
 
   -q                 no summary and no progress
-  --edition N        check by this edition of the rule book, 1 or 2
+  --edition N        check by this edition of the rule book, 1, 2 or 3
   --only CODES       tell these rules alone: codes or their letters, as H02,Z
   --except CODES     tell all rules but these
   --level LEVELS     tell rules of these levels alone: must, should or tidy, as must,should

@@ -104,13 +104,7 @@ fn number_in(text: &str) -> Option<u32>
 fn edition_in(text: &str) -> Option<Edition>
     ensures { result ≡ edition_in text.now }
 {
-    if text == "1" {
-        Some(Edition::One)
-    } else if text == "2" {
-        Some(Edition::Two)
-    } else {
-        None
-    }
+    Edition::numbered(u64::from(number_in(text)?))
 }
 
 /// The name of a file: it is not empty.

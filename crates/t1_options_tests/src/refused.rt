@@ -20,16 +20,16 @@ const VALUES: &[Case] = &[
     (&["t1check-all", "-j0", "a.pfb"], JOBS),
     (&["t1check-all", "-qj", "4", "a.pfb"], JOBS),
     (
-        &["t1check-all", "--edition", "3", "a.pfb"],
-        "--edition wants 1 or 2",
+        &["t1check-all", "--edition", "4", "a.pfb"],
+        "--edition wants 1, 2 or 3",
     ),
     (
         &["t1check-all", "--edition=", "a.pfb"],
-        "--edition wants 1 or 2",
+        "--edition wants 1, 2 or 3",
     ),
     (
         &["t1check-all", "--edition", "2", "--edition=+1", "a.pfb"],
-        "--edition wants 1 or 2",
+        "--edition wants 1, 2 or 3",
     ),
     (
         &["t1check-all", "--baseline=", "a.pfb"],

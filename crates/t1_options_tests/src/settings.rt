@@ -36,6 +36,14 @@ const TAKEN: &[Case] = &[
     (&["t1check-all", "a.pfb"], "", PLAIN),
     (&["t1check-all", "a.pfb"], FEW, FROM_FEW),
     (
+        &["t1check-all", "a.pfb"],
+        "edition = 3",
+        Expected {
+            edition: Edition::Three,
+            ..PLAIN
+        },
+    ),
+    (
         &["t1check-all", "--level=must,should,tidy", "a.pfb"],
         ALL,
         Expected {
@@ -148,8 +156,8 @@ const REFUSED: &[Refusal] = &[
     ),
     (
         PLAIN_WORDS,
-        File::Text("edition = 3"),
-        "t1check-all: .t1check.toml: edition wants 1 or 2\n",
+        File::Text("edition = 4"),
+        "t1check-all: .t1check.toml: edition wants 1, 2 or 3\n",
     ),
     (
         PLAIN_WORDS,

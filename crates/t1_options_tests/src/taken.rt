@@ -60,6 +60,13 @@ const EDITIONS: &[Case] = &[
         },
     ),
     (
+        &["t1check-all", "--edition", "3", "a.pfb"],
+        Expected {
+            edition: Edition::Three,
+            ..PLAIN
+        },
+    ),
+    (
         &["t1check-all", "--edition", "1", "--edition", "2", "a.pfb"],
         Expected {
             edition: Edition::Two,

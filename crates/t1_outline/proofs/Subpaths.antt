@@ -15,7 +15,7 @@ use Rattle.t1_rules.specs.declared.rule.Rule.TheVariants.{P02}
 use Rattle.t1_rules.specs.declared.step_rules.flex.Point.{Point}
 use Rattle.t1_rules.specs.Book.{number_of}
 use Rattle.t1_rules.specs.Mask.{has}
-use Rattle.t1_rules.specs.StepRules.{argument_rules, call_rules, path_rules, stem_rules, flex_rules, othersubr_rules, seac_rules, step_rules, breaks}
+use Rattle.t1_rules.specs.StepRules.{argument_rules, call_rules, path_rules, stem_rules, flex_rules, othersubr_rules, seac_rules, step_rules, breaks, triple_rules, counter_rules}
 use Rattle.t1_rules.specs.StepRules.Flex.{current_point}
 use Rattle.t1_rules.specs.StepRules.Paths.{closes_nothing, closing_step, drawing, draws_unmoved, in_flex, is_moved, leaves_open, outer_move}
 use Rattle.t1_rules.specs.StepRules.Tokens.{closes, is_line}
@@ -24,15 +24,15 @@ use Rattle.t1_rules.proofs.Lemmas.StepRules.{row_decides}
 
 -- The rows of the rules on paths.
 p01_row : (edition : Edition) (before : List StepView) (t : StepView) → breaks (step_rules edition) 43 before t ≡ draws_unmoved before t
-unfolding step_rules argument_rules call_rules path_rules stem_rules flex_rules othersubr_rules seac_rules
+unfolding step_rules argument_rules call_rules path_rules stem_rules flex_rules othersubr_rules seac_rules triple_rules counter_rules
 p01_row edition before t = row_decides 43 (step_rules edition) 17 _ refl refl refl refl before t
 
 pub p02_row : (edition : Edition) (before : List StepView) (t : StepView) → breaks (step_rules edition) 44 before t ≡ leaves_open before t
-unfolding step_rules argument_rules call_rules path_rules stem_rules flex_rules othersubr_rules seac_rules
+unfolding step_rules argument_rules call_rules path_rules stem_rules flex_rules othersubr_rules seac_rules triple_rules counter_rules
 p02_row edition before t = row_decides 44 (step_rules edition) 18 _ refl refl refl refl before t
 
 p03_row : (edition : Edition) (before : List StepView) (t : StepView) → breaks (step_rules edition) 45 before t ≡ closes_nothing before t
-unfolding step_rules argument_rules call_rules path_rules stem_rules flex_rules othersubr_rules seac_rules
+unfolding step_rules argument_rules call_rules path_rules stem_rules flex_rules othersubr_rules seac_rules triple_rules counter_rules
 p03_row edition before t = row_decides 45 (step_rules edition) 19 _ refl refl refl refl before t
 
 -- A watcher of paths reports P02 just where a step leaves something open.

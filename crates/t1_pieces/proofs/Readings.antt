@@ -2,6 +2,7 @@
 use Rattle.std.proofs.Common.{◌≡◌, ◌∙◌, ◌<◌, ◌≤◌, ℕ, nat_lt, true, false, List, Option, None, Some, Result, Ok, Err, IfErr, length, inl, inr, ap, arith, refl, subst, sym}
 use Rattle.std.proofs.lemmas.Bool.Decides.{nat_tests}
 use Rattle.std.specs.Result.{IsErrAnd}
+use Rattle.t1_char.specs.declared.edition.Edition.{Edition}
 use Rattle.t1_font.specs.FontFiles.{IsUnread, font_in}
 use Rattle.t1_font.specs.Fonts.{FontValue}
 use Rattle.t1_font.specs.declared.unread.Unread.{Unread}
@@ -60,27 +61,27 @@ font_fails bytes unread small is =
 
 -- ---- waivers
 
-waivers_in-small : (text : List ℕ) → length text ≤ 1048576 → waivers_in text ≡ as_waivers (waivers_of text)
+waivers_in-small : (edition : Edition) (text : List ℕ) → length text ≤ 1048576 → waivers_in edition text ≡ as_waivers (waivers_of edition text)
 unfolding waivers_in
-waivers_in-small text small =
+waivers_in-small edition text small =
     let fits : nat_lt 1048576 (length text) ≡ false = grind (arith, nat_tests) in
     rw fits refl
 
-pub waivers_in-large : (text : List ℕ) → 1048576 < length text → waivers_in text ≡ Err WaiversTooLarge
+pub waivers_in-large : (edition : Edition) (text : List ℕ) → 1048576 < length text → waivers_in edition text ≡ Err WaiversTooLarge
 unfolding waivers_in
-waivers_in-large text large =
+waivers_in-large edition text large =
     let exceeds : nat_lt 1048576 (length text) ≡ true = grind (arith, nat_tests) in
     rw exceeds refl
 
-pub waivers_read : (text : List ℕ) (waivers : List Waiver) → length text ≤ 1048576 → waivers_of text ≡ Some waivers → waivers_in text ≡ Ok waivers
-waivers_read text waivers small is = waivers_in-small text small ∙ ap as_waivers is
+pub waivers_read : (edition : Edition) (text : List ℕ) (waivers : List Waiver) → length text ≤ 1048576 → waivers_of edition text ≡ Some waivers → waivers_in edition text ≡ Ok waivers
+waivers_read edition text waivers small is = waivers_in-small edition text small ∙ ap as_waivers is
 
-pub waivers_fail : {W : Type 0} (value : W → List Waiver) (text : List ℕ) (error : WaiverError) → length text ≤ 1048576
-    → IsReadAs value (waivers_of text) (Err error) → IsFailureOf (waivers_in text) (failure_of (Waivers error))
-waivers_fail value text errors.Malformed small none =
-    fails_for (waivers_in text) (Waivers errors.Malformed) (failure_of (Waivers errors.Malformed))
-    (waivers_in-small text small ∙ ap as_waivers none) refl
-waivers_fail value text errors.Memory small any = by_memory (waivers_in text) (failure_of (Waivers errors.Memory)) refl
+pub waivers_fail : (edition : Edition) {W : Type 0} (value : W → List Waiver) (text : List ℕ) (error : WaiverError) → length text ≤ 1048576
+    → IsReadAs value (waivers_of edition text) (Err error) → IsFailureOf (waivers_in edition text) (failure_of (Waivers error))
+waivers_fail edition value text errors.Malformed small none =
+    fails_for (waivers_in edition text) (Waivers errors.Malformed) (failure_of (Waivers errors.Malformed))
+    (waivers_in-small edition text small ∙ ap as_waivers none) refl
+waivers_fail edition value text errors.Memory small any = by_memory (waivers_in edition text) (failure_of (Waivers errors.Memory)) refl
 
 -- ---- what is handed over
 

@@ -18,8 +18,8 @@ use Rattle.t1_run.specs.WaiverFiles.{waivers_in}
 use Rattle.t1_pieces.specs.T1check.{AskAll, IsRefusedFor, T1checkRefusesThem, T1checkWritesThem}
 
 -- These options request the waivers of the text, and no trace.
-asked : (options : Options) (text : List ℕ) → asks_waivers options ≡ true → waived_by options text ≡ waivers_in text
-asked options text is = ap (λ (b : Bool). if b then waivers_in text else Ok []) is
+asked : (options : Options) (text : List ℕ) → asks_waivers options ≡ true → waived_by options text ≡ waivers_in options.edition text
+asked options text is = ap (λ (b : Bool). if b then waivers_in options.edition text else Ok []) is
 
 untraced : (options : Options) (font : FontValue) (waived : Result (List Waiver) Reason) (answer : Answer) → options.trace ≡ None
     → IsShown options font waived (option_map string_bytes options.trace) answer → IsReported options font waived answer
@@ -57,5 +57,5 @@ by_read options (Ok font) (Ok waivers) reason code answer none is coded answered
 
 pub refuses : T1checkRefusesThem
 refuses options bytes text reason code answer all why coded is =
-    by_read options (font_of bytes) (waivers_in text) reason code answer all.trace why coded
+    by_read options (font_of bytes) (waivers_in options.edition text) reason code answer all.trace why coded
     (subst (λ (w : Result (List Waiver) Reason). IsAnswerTo options (font_of bytes) w answer) (asked options text all.waivers) is)

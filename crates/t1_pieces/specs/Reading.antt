@@ -24,7 +24,7 @@ input_of edition (Ok font) (Ok waivers) = Ok (record { font = checked font editi
 
 -- What the bytes of a font and a text of waivers are read as.
 abbrev pub input_in : Edition → List ℕ → List ℕ → Result Input Reason
-input_in edition font text = input_of edition (font_of font) (waivers_in text)
+input_in edition font text = input_of edition (font_of font) (waivers_in edition text)
 
 -- Memory ran out, or the bytes are refused for their reason.
 abbrev pub IsFailureOf : {A : Type 0} → Result A Reason → Failure → Type 0

@@ -28,7 +28,7 @@ pub record AskAll (options : Options) : Type 0 where
 abbrev pub T1checkWritesThem : Type 0
 T1checkWritesThem =
     (options : Options) (bytes text : List ℕ) (font : FontValue) (waivers : List Waiver) (faults : List FaultValue) (answer : Answer)
-    → AskAll options → font_of bytes ≡ Ok font → waivers_in text ≡ Ok waivers
+    → AskAll options → font_of bytes ≡ Ok font → waivers_in options.edition text ≡ Ok waivers
     → IsReport (checked font options.edition) waivers faults → IsAnswer options bytes text answer
     → answer.output ≡ lines_as Text (checked font options.edition) waivers faults
 
@@ -41,5 +41,5 @@ IsRefusedFor (Ok font) (Ok waivers) reason = ⊥
 abbrev pub T1checkRefusesThem : Type 0
 T1checkRefusesThem =
     (options : Options) (bytes text : List ℕ) (reason : Reason) (code : RefusalCode) (answer : Answer)
-    → AskAll options → IsRefusedFor (font_of bytes) (waivers_in text) reason → refusal_code_of reason ≡ Some code
+    → AskAll options → IsRefusedFor (font_of bytes) (waivers_in options.edition text) reason → refusal_code_of reason ≡ Some code
     → IsAnswer options bytes text answer → answer.told ≡ refusal_line code

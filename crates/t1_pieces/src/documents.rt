@@ -81,12 +81,12 @@ fn document_of_font(
     room: &mut [u8],
 ) -> Result<Piece, Failure>
     ensures piece { IfOk result (IsReadDocumentPiece (subject_read request.now.name.now (pages_value request.now.pages)
-        (input_of request.now.edition (Ok font.now) (waivers_in request.now.waivers.now))) reached.old reached.new room.new) }
-    ensures failed { IfErr result (IsFailureOf (input_of request.now.edition (Ok font.now) (waivers_in request.now.waivers.now))) }
+        (input_of request.now.edition (Ok font.now) (waivers_in request.now.edition request.now.waivers.now))) reached.old reached.new room.new) }
+    ensures failed { IfErr result (IsFailureOf (input_of request.now.edition (Ok font.now) (waivers_in request.now.edition request.now.waivers.now))) }
     ensures reached { OnErr result (reached.new ≡ reached.old) }
     ensures length { length room.new ≡ length room.old }
 {
-    let waivers = read_waivers(alloc, request.waivers)?;
+    let waivers = read_waivers(alloc, request.waivers, request.edition)?;
     let sidebearings = Sidebearings::prepare(alloc, font, request.edition)?;
     Ok(fill_document(
         alloc,

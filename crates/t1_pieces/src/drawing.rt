@@ -75,10 +75,10 @@ fn text_of_font(
     request: &PictureRequest<'_>,
 ) -> Result<Option<String>, Failure>
     ensures text { IfOk result (λ text. IsReadText request.now.glyph.now request.now.step
-        (input_of request.now.edition (Ok font.now) (waivers_in request.now.waivers.now)) (option_map string_bytes text)) }
-    ensures failed { IfErr result (IsFailureOf (input_of request.now.edition (Ok font.now) (waivers_in request.now.waivers.now))) }
+        (input_of request.now.edition (Ok font.now) (waivers_in request.now.edition request.now.waivers.now)) (option_map string_bytes text)) }
+    ensures failed { IfErr result (IsFailureOf (input_of request.now.edition (Ok font.now) (waivers_in request.now.edition request.now.waivers.now))) }
 {
-    let waivers = read_waivers(alloc, request.waivers)?;
+    let waivers = read_waivers(alloc, request.waivers, request.edition)?;
     let Some(glyph) = glyph_named(font, request.glyph) else {
         return Ok(None);
     };

@@ -59,13 +59,13 @@ fn lines_of_font(
     mark: &mut Mark,
     room: &mut [u8],
 ) -> Result<Piece, Failure>
-    ensures piece { IfOk result (IsReadPiece request.now.form (input_of request.now.edition (Ok font.now) (waivers_in request.now.waivers.now))
+    ensures piece { IfOk result (IsReadPiece request.now.form (input_of request.now.edition (Ok font.now) (waivers_in request.now.edition request.now.waivers.now))
         mark.old mark.new room.new) }
-    ensures failed { IfErr result (IsFailureOf (input_of request.now.edition (Ok font.now) (waivers_in request.now.waivers.now))) }
+    ensures failed { IfErr result (IsFailureOf (input_of request.now.edition (Ok font.now) (waivers_in request.now.edition request.now.waivers.now))) }
     ensures mark { OnErr result (mark.new ≡ mark.old) }
     ensures length { length room.new ≡ length room.old }
 {
-    let waivers = read_waivers(alloc, request.waivers)?;
+    let waivers = read_waivers(alloc, request.waivers, request.edition)?;
     let sidebearings = Sidebearings::prepare(alloc, font, request.edition)?;
     Ok(fill(
         alloc,
@@ -89,13 +89,17 @@ pub(crate) fn open(alloc: Global, bytes: &[u8]) -> Result<OpenFont, Failure>
     Ok(OpenFont::open(alloc, bytes)?)
 }
 
-/// Reads the waivers of a text. More than 1,048,576 bytes are refused, by E15.
-pub(crate) fn read_waivers(alloc: Global, text: &[u8]) -> Result<Waivers<'_>, Failure>
-    ensures read { IfOk result (λ waivers. waivers_in text.now ≡ Ok waivers) }
-    ensures failed { IfErr result (IsFailureOf (waivers_in text.now)) }
+/// Reads the waivers of a text by an edition. More than 1,048,576 bytes are refused, by E15.
+pub(crate) fn read_waivers(
+    alloc: Global,
+    text: &[u8],
+    edition: Edition,
+) -> Result<Waivers<'_>, Failure>
+    ensures read { IfOk result (λ waivers. waivers_in edition text.now ≡ Ok waivers) }
+    ensures failed { IfErr result (IsFailureOf (waivers_in edition text.now)) }
 {
     if text.len() > LARGEST_WAIVERS {
         return Err(Failure::from(Reason::WaiversTooLarge));
     }
-    Ok(Waivers::read(alloc, text)?)
+    Ok(Waivers::read(alloc, text, edition)?)
 }

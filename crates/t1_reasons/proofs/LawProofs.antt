@@ -23,7 +23,7 @@ use Rattle.t1_rules.specs.declared.rule.Rule.TheVariants.{C03, C04, C05, C06, C0
 use Rattle.t1_rules.specs.declared.sidebearings.Component.{Component}
 use Rattle.t1_rules.specs.declared.step_rules.stems.Stem.{Stem}
 use Rattle.t1_rules.specs.Book.{number_of}
-use Rattle.t1_rules.specs.StepRules.{argument_rules, breaks, call_rules, path_rules, stem_rules, flex_rules, othersubr_rules, seac_rules, component_rules, step_rules, charstring_rules}
+use Rattle.t1_rules.specs.StepRules.{argument_rules, breaks, call_rules, path_rules, stem_rules, flex_rules, othersubr_rules, seac_rules, component_rules, step_rules, charstring_rules, triple_rules, counter_rules}
 use Rattle.t1_rules.specs.StepRules.Arguments.{divides, divides_by_zero, divides_past, has_argument_past, has_too_few_arguments, has_too_many_arguments, is_more_than, is_past, one_is_past, overflows, wanted_by}
 use Rattle.t1_rules.specs.StepRules.Othersubrs.{calls_by_numbers, calls_unknown, has_bad_count, has_good_count, has_wrong_count, is_effective, is_flex_or_hints, is_good_count, is_up_to}
 use Rattle.t1_rules.specs.StepRules.Calls.{calls_by_number, calls_missing, calls_too_deep, returns_from_glyph}
@@ -282,7 +282,7 @@ overlapping edition before step = go (is_command lies_across step.token) (is_com
 compared_decides : (edition : Edition) (components : List Component) (rule : Rule) (before : List StepView) (step : StepView) → compares rule ≡ true
     → breaks (charstring_rules edition components) (number_of rule) before step
     ≡ is_some (first_in_row (compared_row edition components rule) before step)
-unfolding charstring_rules step_rules argument_rules call_rules path_rules stem_rules flex_rules othersubr_rules seac_rules component_rules
+unfolding charstring_rules step_rules argument_rules call_rules path_rules stem_rules flex_rules othersubr_rules seac_rules triple_rules counter_rules component_rules
 compared_decides edition components C03 before step e =
     row_decides 28 (charstring_rules edition components) 2 _ refl refl refl refl before step ∙ unknown step.token
 compared_decides edition components C04 before step e =
@@ -324,7 +324,7 @@ compared_decides edition components K01 before step e =
 compared_decides edition components K02 before step e =
     row_decides 63 (charstring_rules edition components) 37 _ refl refl refl refl before step ∙ without_name step
 compared_decides edition components K05 before step e =
-    row_decides 66 (charstring_rules edition components) 41 _ refl refl refl refl before step ∙ told_otherwise components step
+    row_decides 66 (charstring_rules edition components) 49 _ refl refl refl refl before step ∙ told_otherwise components step
 compared_decides edition components _ before step e = let no : false ≡ true = e in cc
 
 pub broken_where_reason : StepsBreakWhereThereIsAReason

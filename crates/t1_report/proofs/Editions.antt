@@ -111,7 +111,7 @@ past_last : (font : CheckedFont) (glyph s n : ℕ) → length (steps_of font.val
 past_last font glyph zero n past = absurd (omega (arith, past))
 past_last font glyph (suc i) n past = past_steps font glyph i n (omega (arith, past))
 
-below_same : (font other : CheckedFont) (unit n : ℕ) → ((s : ℕ) → is_broken font unit s n ≡ is_broken other unit s n) → (count : ℕ)
+pub below_same : (font other : CheckedFont) (unit n : ℕ) → ((s : ℕ) → is_broken font unit s n ≡ is_broken other unit s n) → (count : ℕ)
     → is_broken_below font unit count n ≡ is_broken_below other unit count n
 unfolding is_broken_below
 below_same font other unit n same zero = refl

@@ -10,6 +10,7 @@ pub mod HasReport
 pub mod InFont
 pub mod JoinedLines
 pub mod LaterFaults
+pub mod LaterRules
 pub mod NamesOnce
 pub mod Numbered
 pub mod OneReport

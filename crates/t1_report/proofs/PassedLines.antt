@@ -64,8 +64,8 @@ steady_on : (w : Watches) (way : Way) → is_closed way.drawn ≡ false → IsSt
 steady_on w way unclosed steady = by_drawn way.drawn unclosed
   where
     by_drawn : (drawn : Drawn) → is_closed drawn ≡ false → IsSteady (record (led_by drawn w) { flex = record w.flex { point = point_on w.flex.point way; moves = w.flex.moves + way.moves } })
-    by_drawn Nothing is = record { begun = steady.begun; path_flex = steady.path_flex; moved = steady.moved; stem_flex = steady.stem_flex; flex = steady.flex; seac_flex = steady.seac_flex }
-    by_drawn Open is = record { begun = steady.begun; path_flex = steady.path_flex; moved = steady.moved; stem_flex = steady.stem_flex; flex = steady.flex; seac_flex = steady.seac_flex }
+    by_drawn Nothing is = record { begun = steady.begun; path_flex = steady.path_flex; moved = steady.moved; stem_flex = steady.stem_flex; flex = steady.flex; seac_flex = steady.seac_flex; opened = steady.opened; going_on = steady.going_on }
+    by_drawn Open is = record { begun = steady.begun; path_flex = steady.path_flex; moved = steady.moved; stem_flex = steady.stem_flex; flex = steady.flex; seac_flex = steady.seac_flex; opened = steady.opened; going_on = steady.going_on }
     by_drawn Closed is = let no : true ≡ false = is in cc
 
 undrawn_on : (w : Watches) (way : Way) → way.drawn ≡ Nothing → IsUndrawn w → IsUndrawn (moved_on w way)
@@ -161,6 +161,7 @@ none_at_line edition before w n step command token line calm steady st =
     let behind_none = calm_is_behind_none edition w before st calm in
     no_fault_at_line edition n before step command token line behind_none.0 behind_none.1
     (sym st.0.begun ∙ steady.begun) (sym st.0.in_flex ∙ steady.path_flex) (sym st.0.moved ∙ steady.moved)
+    (sym st.1.1.1.1.1.going_on ∙ steady.going_on)
 
 none_at_move : (edition : Edition) (before : List StepView) (w : Watches) (n : ℕ) (step : StepView) (command : Commands)
     → step.token ≡ Command command → IsLed is_move_command command step.stack → IsCalm w → IsSteady w → IsUndrawn w
@@ -170,6 +171,7 @@ none_at_move edition before w n step command token move calm steady undrawn st =
     let behind_none = calm_is_behind_none edition w before st calm in
     no_fault_at_move edition n before step command token move behind_none.0 behind_none.1
     (sym st.0.begun ∙ steady.begun) (sym st.0.in_flex ∙ steady.path_flex) (sym st.0.drawn ∙ undrawn.drawn)
+    (sym st.1.1.1.1.1.going_on ∙ steady.going_on)
 
 none_at_close : (edition : Edition) (before : List StepView) (w : Watches) (n : ℕ) (step : StepView) → step.token ≡ Command Closepath
     → step.stack ≡ [] → IsCalm w → IsSteady w → IsDrawn w → WatchesStandFor edition w before → breaks (step_rules edition) n before step ≡ false
@@ -178,6 +180,7 @@ none_at_close edition before w n step token alone calm steady drawn st =
     let behind_none = calm_is_behind_none edition w before st calm in
     no_fault_at_close edition n before step token alone behind_none.0 behind_none.1
     (sym st.0.begun ∙ steady.begun) (sym st.0.in_flex ∙ steady.path_flex) (sym st.0.drawn ∙ drawn.path)
+    (sym st.1.1.1.1.1.going_on ∙ steady.going_on)
 
 -- Which steps watchers match after the passed ones, and that no rule is broken at these.
 pub record PassedOver (font : CheckedFont) (glyph n taken : ℕ) (w : Watches) (way : Way) : Type 0 where

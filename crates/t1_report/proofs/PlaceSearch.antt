@@ -1,7 +1,6 @@
 -- The places of the font, one after another: what is broken at each, and that nothing is past the places of a key.
 use Rattle.std.proofs.Common.{◌≡◌, ℕ, ◌+◌, ◌-◌, ◌*◌, ◌<◌, ◌≤◌, inl, inr, [], sym, ap, subst, ◌∙◌, arith}
 use Rattle.std.proofs.lemmas.Bool.{cases_lt}
-use Rattle.t1_font.specs.Fonts.{FontValue}
 use Rattle.t1_report.specs.Checked.{CheckedFont}
 use Rattle.t1_rules.specs.declared.mask.Mask.{Mask}
 use Rattle.t1_rules.specs.Book.{number_of}

@@ -6,6 +6,7 @@ use Rattle.std.proofs.lemmas.List.Elements.{All-filter, filter_passes}
 use Rattle.std.proofs.lemmas.List.Folds.{list_any-append}
 use Rattle.std.proofs.lemmas.List.Kept.{AllPairs-filter}
 use Rattle.std.proofs.lemmas.List.Quantifiers.{position-Some}
+use Rattle.t1_char.specs.declared.edition.Edition.{Edition}
 use Rattle.t1_font.proofs.Tables.{name_exact}
 use Rattle.t1_font.specs.Fonts.{FontValue, glyph_name, name_in}
 use Rattle.t1_font.specs.Keys.{same_name}
@@ -80,7 +81,7 @@ module _ (One Other : Place → Type 0) (path_of : Place → List ℕ) (one othe
   paths : (xs : List FaultValue) → IsReportOf One path_of xs → HavePaths path_of (filter (left_by one) xs)
   paths xs of_one i d less = (All-filter (left_by one) (IsViolationOf One path_of) xs of_one.violations i d less).path
 
-same_left : (One Other : Place → Type 0) (path_of : Place → List ℕ) (one other : Place → Bool) (xs ys : List FaultValue) → IsReportOf One path_of xs
+pub same_left : (One Other : Place → Type 0) (path_of : Place → List ℕ) (one other : Place → Bool) (xs ys : List FaultValue) → IsReportOf One path_of xs
     → IsReportOf Other path_of ys
     → ((p : Place) → One p → one p ≡ true → Other p × (other p ≡ true)) → ((p : Place) → Other p → other p ≡ true → One p × (one p ≡ true))
     → faults_at one xs ≡ faults_at other ys
@@ -381,15 +382,15 @@ is_said_by : List Waiver → Option Waiver → Bool
 is_said_by waivers None = false
 is_said_by waivers (Some w) = is_waived waivers w.0 (number_of w.1)
 
-is_said : List Waiver → List ℕ → Bool
-is_said waivers [] = true
-is_said waivers (b ∷ text) = is_said_by waivers (waiver_of (b ∷ text))
+is_said : Edition → List Waiver → List ℕ → Bool
+is_said edition waivers [] = true
+is_said edition waivers (b ∷ text) = is_said_by waivers (waiver_of edition (b ∷ text))
 
 -- Then it says nothing more.
-said_again : (waivers : List Waiver) (text : List ℕ) → is_said waivers text ≡ true → text_read waivers text ≡ Some waivers
+said_again : (edition : Edition) (waivers : List Waiver) (text : List ℕ) → is_said edition waivers text ≡ true → text_read edition waivers text ≡ Some waivers
 unfolding is_said is_said_by
-said_again waivers [] said = refl
-said_again waivers (b ∷ text) said = go (waiver_of (b ∷ text)) said
+said_again edition waivers [] said = refl
+said_again edition waivers (b ∷ text) said = go (waiver_of edition (b ∷ text)) said
   where
     go : (w : Option Waiver) → is_said_by waivers w ≡ true → option_map (with_waiver waivers) w ≡ Some waivers
     go None said = let no : false ≡ true = said in cc
@@ -416,23 +417,23 @@ waived_now waivers w = go (is_waived waivers w.0 (number_of w.1)) refl
         ∙ rw (name_exact.same w.0, eq-eqb (number_of w.1) (number_of w.1) refl)
         (ends (list_any (λ v. same_name w.0 v.0 && number_of w.1 == number_of v.1) waivers))
 
-said_once : (waivers more : List Waiver) (text : List ℕ) → text_read waivers text ≡ Some more → is_said more text ≡ true
+said_once : (edition : Edition) (waivers more : List Waiver) (text : List ℕ) → text_read edition waivers text ≡ Some more → is_said edition more text ≡ true
 unfolding is_said is_said_by
-said_once waivers more [] read = refl
-said_once waivers more (b ∷ text) read = go (waiver_of (b ∷ text)) read
+said_once edition waivers more [] read = refl
+said_once edition waivers more (b ∷ text) read = go (waiver_of edition (b ∷ text)) read
   where
     go : (w : Option Waiver) → option_map (with_waiver waivers) w ≡ Some more → is_said_by more w ≡ true
     go None read = let no : None ≡ Some more = read in cc
     go (Some w) read = let same : with_waiver waivers w ≡ more = cc in subst (λ ws. is_waived ws w.0 (number_of w.1) ≡ true) same (waived_now waivers w)
 
-said_still : (waivers more : List Waiver) (text other : List ℕ) → is_said waivers text ≡ true → text_read waivers other ≡ Some more → is_said more text ≡ true
+said_still : (edition : Edition) (waivers more : List Waiver) (text other : List ℕ) → is_said edition waivers text ≡ true → text_read edition waivers other ≡ Some more → is_said edition more text ≡ true
 unfolding is_said is_said_by
-said_still waivers more [] other said read = refl
-said_still waivers more (b ∷ text) other said read = go (waiver_of (b ∷ text)) said
+said_still edition waivers more [] other said read = refl
+said_still edition waivers more (b ∷ text) other said read = go (waiver_of edition (b ∷ text)) said
   where
-    still : (other : List ℕ) → text_read waivers other ≡ Some more → (name : List ℕ) (n : ℕ) → is_waived waivers name n ≡ true → is_waived more name n ≡ true
+    still : (other : List ℕ) → text_read edition waivers other ≡ Some more → (name : List ℕ) (n : ℕ) → is_waived waivers name n ≡ true → is_waived more name n ≡ true
     still [] read name n is = let same : waivers ≡ more = cc in subst (λ ws. is_waived ws name n ≡ true) same is
-    still (c ∷ cs) read name n is = by (waiver_of (c ∷ cs)) read
+    still (c ∷ cs) read name n is = by (waiver_of edition (c ∷ cs)) read
       where
         by : (w : Option Waiver) → option_map (with_waiver waivers) w ≡ Some more → is_waived more name n ≡ true
         by None read = let no : None ≡ Some more = read in cc
@@ -448,24 +449,24 @@ then_alike : (one other : List Waiver → Option (List Waiver)) (found : Option 
 then_alike one other None same = refl
 then_alike one other (Some more) same = same more refl
 
-passed_over : (waivers : List Waiver) (middle back : List (List ℕ)) (line : List ℕ) → is_said waivers (without_return line) ≡ true
-    → lines_read waivers (middle ++ line ∷ back) ≡ lines_read waivers (middle ++ back)
+passed_over : (edition : Edition) (waivers : List Waiver) (middle back : List (List ℕ)) (line : List ℕ) → is_said edition waivers (without_return line) ≡ true
+    → lines_read edition waivers (middle ++ line ∷ back) ≡ lines_read edition waivers (middle ++ back)
 unfolding lines_read
-passed_over waivers [] back line said = ap (option_and_then (λ more. lines_read more back)) (said_again waivers (without_return line) said)
-passed_over waivers (l ∷ middle) back line said =
-    then_alike (λ more. lines_read more (middle ++ line ∷ back)) (λ more. lines_read more (middle ++ back)) (line_read waivers l)
-    (λ more read. passed_over more middle back line (said_still waivers more (without_return line) (without_return l) said read))
+passed_over edition waivers [] back line said = ap (option_and_then (λ more. lines_read edition more back)) (said_again edition waivers (without_return line) said)
+passed_over edition waivers (l ∷ middle) back line said =
+    then_alike (λ more. lines_read edition more (middle ++ line ∷ back)) (λ more. lines_read edition more (middle ++ back)) (line_read edition waivers l)
+    (λ more read. passed_over edition more middle back line (said_still edition waivers more (without_return line) (without_return l) said read))
 
-repeated : (waivers : List Waiver) (front middle back : List (List ℕ)) (line : List ℕ)
-    → lines_read waivers (front ++ line ∷ (middle ++ line ∷ back)) ≡ lines_read waivers (front ++ line ∷ (middle ++ back))
+repeated : (edition : Edition) (waivers : List Waiver) (front middle back : List (List ℕ)) (line : List ℕ)
+    → lines_read edition waivers (front ++ line ∷ (middle ++ line ∷ back)) ≡ lines_read edition waivers (front ++ line ∷ (middle ++ back))
 unfolding lines_read
-repeated waivers [] middle back line =
-    then_alike (λ more. lines_read more (middle ++ line ∷ back)) (λ more. lines_read more (middle ++ back)) (line_read waivers line)
-    (λ more read. passed_over more middle back line (said_once waivers more (without_return line) read))
-repeated waivers (l ∷ front) middle back line =
-    then_alike (λ more. lines_read more (front ++ line ∷ (middle ++ line ∷ back)))
-    (λ more. lines_read more (front ++ line ∷ (middle ++ back))) (line_read waivers l)
-    (λ more read. repeated more front middle back line)
+repeated edition waivers [] middle back line =
+    then_alike (λ more. lines_read edition more (middle ++ line ∷ back)) (λ more. lines_read edition more (middle ++ back)) (line_read edition waivers line)
+    (λ more read. passed_over edition more middle back line (said_once edition waivers more (without_return line) read))
+repeated edition waivers (l ∷ front) middle back line =
+    then_alike (λ more. lines_read edition more (front ++ line ∷ (middle ++ line ∷ back)))
+    (λ more. lines_read edition more (front ++ line ∷ (middle ++ back))) (line_read edition waivers l)
+    (λ more read. repeated edition more front middle back line)
 
 pub repeated_lines_say_nothing : RepeatedLinesSayNothing
-repeated_lines_say_nothing front middle back line = repeated [] front middle back line
+repeated_lines_say_nothing edition front middle back line = repeated edition [] front middle back line

@@ -3,6 +3,7 @@ use Rattle.std.proofs.Common.{◌≡◌, ℕ, suc, ◌+◌, ◌-◌, ◌<◌, �
 use Rattle.std.proofs.lemmas.Bool.{eq-eqb, ne_eqb}
 use Rattle.std.proofs.lemmas.List.{drop_all, get_or-drop}
 use Rattle.std.proofs.Math.Seq.{drop-cons, take-suc}
+use Rattle.t1_char.specs.declared.edition.Edition.{Edition}
 use Rattle.t1_report.specs.declared.waivers.WaiverError.{WaiverError}
 use Rattle.t1_report.specs.declared.waivers.WaiverError.TheVariants.{Malformed, Memory}
 use Rattle.t1_report.specs.WaiverViews.{IsReadAs}
@@ -46,39 +47,39 @@ line_over text start at d within over =
     ∙ ap (λ b. cond b (slice_range text start at ∷ lines_from [] (drop (at + 1) text))
     (lines_from (slice_range text start at ++ slice_index_or text at d ∷ []) (drop (at + 1) text))) (eq-eqb (slice_index_or text at d) 10 over)
 
-read_first : (waivers : List Waiver) (line : List ℕ) (lines : List (List ℕ)) → lines_read waivers (line ∷ lines) ≡ option_and_then
-    (λ more. lines_read more lines) (line_read waivers line)
+read_first : (edition : Edition) (waivers : List Waiver) (line : List ℕ) (lines : List (List ℕ)) → lines_read edition waivers (line ∷ lines) ≡ option_and_then
+    (λ more. lines_read edition more lines) (line_read edition waivers line)
 unfolding lines_read
-read_first waivers line lines = refl
+read_first edition waivers line lines = refl
 
 empty_front : (text : List ℕ) (at : ℕ) → slice_range text at at ≡ []
 empty_front text at = ap (λ n. take n (drop at text)) (let none : at - at ≡ 0 = omega arith in none)
 
-pub line_taken : (waivers more : List Waiver) (text : List ℕ) (start at d : ℕ) → at < length text → slice_index_or text at d ≡ 10
-    → line_read waivers (slice_range text start at) ≡ Some more
-    → lines_read more (lines_from (slice_range text (at + 1) (at + 1)) (drop (at + 1) text)) ≡ lines_read waivers
+pub line_taken : (edition : Edition) (waivers more : List Waiver) (text : List ℕ) (start at d : ℕ) → at < length text → slice_index_or text at d ≡ 10
+    → line_read edition waivers (slice_range text start at) ≡ Some more
+    → lines_read edition more (lines_from (slice_range text (at + 1) (at + 1)) (drop (at + 1) text)) ≡ lines_read edition waivers
     (lines_from (slice_range text start at) (drop at text))
-line_taken waivers more text start at d within over is =
-    ap (λ front. lines_read more (lines_from front (drop (at + 1) text))) (empty_front text (at + 1))
-    ∙ sym (ap (lines_read waivers) (line_over text start at d within over)
-    ∙ read_first waivers (slice_range text start at) (lines_from [] (drop (at + 1) text))
-    ∙ ap (λ read. option_and_then (λ more. lines_read more (lines_from [] (drop (at + 1) text))) read) is)
+line_taken edition waivers more text start at d within over is =
+    ap (λ front. lines_read edition more (lines_from front (drop (at + 1) text))) (empty_front text (at + 1))
+    ∙ sym (ap (lines_read edition waivers) (line_over text start at d within over)
+    ∙ read_first edition waivers (slice_range text start at) (lines_from [] (drop (at + 1) text))
+    ∙ ap (λ read. option_and_then (λ more. lines_read edition more (lines_from [] (drop (at + 1) text))) read) is)
 
-pub line_bad : (waivers : List Waiver) (text : List ℕ) (start at d : ℕ) → at < length text → slice_index_or text at d ≡ 10
-    → line_read waivers (slice_range text start at) ≡ None → lines_read waivers (lines_from (slice_range text start at) (drop at text)) ≡ None
-line_bad waivers text start at d within over is =
-    ap (lines_read waivers) (line_over text start at d within over)
-    ∙ read_first waivers (slice_range text start at) (lines_from [] (drop (at + 1) text))
-    ∙ ap (λ read. option_and_then (λ more. lines_read more (lines_from [] (drop (at + 1) text))) read) is
+pub line_bad : (edition : Edition) (waivers : List Waiver) (text : List ℕ) (start at d : ℕ) → at < length text → slice_index_or text at d ≡ 10
+    → line_read edition waivers (slice_range text start at) ≡ None → lines_read edition waivers (lines_from (slice_range text start at) (drop at text)) ≡ None
+line_bad edition waivers text start at d within over is =
+    ap (lines_read edition waivers) (line_over text start at d within over)
+    ∙ read_first edition waivers (slice_range text start at) (lines_from [] (drop (at + 1) text))
+    ∙ ap (λ read. option_and_then (λ more. lines_read edition more (lines_from [] (drop (at + 1) text))) read) is
 
 -- The last line.
-pub last_line : (waivers : List Waiver) (text : List ℕ) (start at : ℕ) → at ≡ length text
-    → lines_read waivers (lines_from (slice_range text start at) (drop at text)) ≡ line_read waivers (slice_range text start (length text))
+pub last_line : (edition : Edition) (waivers : List Waiver) (text : List ℕ) (start at : ℕ) → at ≡ length text
+    → lines_read edition waivers (lines_from (slice_range text start at) (drop at text)) ≡ line_read edition waivers (slice_range text start (length text))
 unfolding lines_from lines_read
-last_line waivers text start at all =
-    ap (λ rest. lines_read waivers (lines_from (slice_range text start at) rest)) (drop_all at text (omega (arith, all)))
-    ∙ ap (λ n. option_and_then (λ more. lines_read more []) (line_read waivers (slice_range text start n))) all
-    ∙ only (line_read waivers (slice_range text start (length text)))
+last_line edition waivers text start at all =
+    ap (λ rest. lines_read edition waivers (lines_from (slice_range text start at) rest)) (drop_all at text (omega (arith, all)))
+    ∙ ap (λ n. option_and_then (λ more. lines_read edition more []) (line_read edition waivers (slice_range text start n))) all
+    ∙ only (line_read edition waivers (slice_range text start (length text)))
   where
     only : (read : Option (List Waiver)) → option_and_then (λ more. Some more) read ≡ read
     only None = refl

@@ -4,6 +4,7 @@ use Rattle.std.specs.Borrow.{Bor}
 use Rattle.std.specs.List.{list_any}
 use Rattle.std.proofs.lemmas.List.{map-append}
 use Rattle.indexmap.specs.IndexSet.{insert_key}
+use Rattle.t1_char.specs.declared.edition.Edition.{Edition}
 use Rattle.t1_font.specs.Keys.{same_name}
 use Rattle.t1_rules.specs.declared.rule.Rule.{Rule}
 use Rattle.t1_rules.specs.Book.{number_of}
@@ -29,6 +30,6 @@ waiver_more keys k =
     ])
 
 -- A line that is a waiver.
-pub text_is : (waivers : List Waiver) (text : List ℕ) (w : Waiver) → waiver_of text ≡ Some w → text_read waivers text ≡ Some (with_waiver waivers w)
-text_is waivers [] w is = let no : None ≡ Some w = is in cc
-text_is waivers (b ∷ text) w is = ap (λ (o : Option Waiver). option_map (with_waiver waivers) o) is
+pub text_is : (edition : Edition) (waivers : List Waiver) (text : List ℕ) (w : Waiver) → waiver_of edition text ≡ Some w → text_read edition waivers text ≡ Some (with_waiver waivers w)
+text_is edition waivers [] w is = let no : None ≡ Some w = is in cc
+text_is edition waivers (b ∷ text) w is = ap (λ (o : Option Waiver). option_map (with_waiver waivers) o) is

@@ -1,5 +1,6 @@
 -- The statements of laws.
 pub mod Editions
+pub mod LaterRules
 pub mod Limits
 pub mod PassedLines
 pub mod PassedNumbers

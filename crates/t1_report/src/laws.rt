@@ -1,6 +1,7 @@
 //! Laws above the definitions: each is the contract of a function without a body.
 
 ghost use Rattle.t1_report.specs.Laws.Editions.{CleanFontsStayClean, UsualFontsHaveOneReport};
+ghost use Rattle.t1_report.specs.Laws.LaterRules.{EarlierReportsHaveNoLaterRule, ThirdReportsAsTheSecond};
 ghost use Rattle.t1_char.specs.declared.edition.Edition.TheVariants.{One, Three, Two};
 ghost use Rattle.t1_report.specs.Laws.Limits.{AreCheckedTo};
 ghost use Rattle.t1_report.specs.Laws.PassedLines.{PassedLinesBreakNoRule, WatchersMoveOnByLines};
@@ -89,6 +90,13 @@ pub fn usual_fonts_have_one_report()
 /// A font without a fault in edition 1 has none in edition 2, where nothing is waived.
 pub fn clean_fonts_stay_clean()
     ensures { CleanFontsStayClean }
+{}
+
+/// The first two editions report no rule after number 70. The third reports the others as the second does, where waivers
+/// are of these alone.
+pub fn later_rules_stand_beside()
+    ensures earlier { EarlierReportsHaveNoLaterRule }
+    ensures others { ThirdReportsAsTheSecond }
 {}
 
 /// Without waivers what is reported is what is broken, and no step is requested for one.

@@ -1,6 +1,6 @@
 //! Waivers: which rules aren't reported of which glyphs.
 
-ghost use Rattle.std.specs.Prelude.{◌≡◌, ◌≤◌, ◌+◌, ℕ, [], ◌&&◌, not, length, slice_get};
+ghost use Rattle.std.specs.Prelude.{◌≡◌, ◌≤◌, ◌+◌, ℕ, [], ◌&&◌, not, nat_le, length, slice_get};
 ghost use Rattle.indexmap.specs.IndexSet.{index_set_len};
 ghost use Rattle.t1_report.specs.WaiverViews.{IsReadAs, waiver_if_any, waivers_now};
 ghost use Rattle.t1_report.specs.Waivers.{Waiver, is_waivable, is_waived, line_read, waiver_of, waivers_of, largest_waivers};
@@ -11,6 +11,7 @@ ghost use Rattle.t1_rules.specs.Mask.{has};
 use indexmap::IndexSet;
 use std::alloc::{AllocError, AllocFailed, Global};
 use std::marker::Model;
+use t1_char::Edition;
 use t1_rules::{Mask, Rule};
 use t1_scan::run_len;
 
@@ -64,20 +65,21 @@ impl<'a> Waivers<'a> {
         Waivers { pairs: None }
     }
 
-    /// The waivers of a text of at most 1,048,576 bytes: a line each, as in `A C05`.
-    pub fn read(alloc: Global, text: &'a [u8]) -> Result<Waivers<'a>, WaiverError>
+    /// The waivers of a text of at most 1,048,576 bytes: a line each, as in `A C05`. The edition says which rules can be
+    /// waived: those from C01 to L01, and from H05 to W03 where it has them.
+    pub fn read(alloc: Global, text: &'a [u8], edition: Edition) -> Result<Waivers<'a>, WaiverError>
         requires { length text.now ≤ largest_waivers }
-        ensures { IsReadAs (λ w. w) (waivers_of text.now) result }
+        ensures { IsReadAs (λ w. w) (waivers_of edition text.now) result }
     {
         let mut pairs = IndexSet::new(alloc);
         let mut start = 0;
         for (at, byte) in text.iter().enumerate() {
             if *byte == b'\n' {
-                add_line(&mut pairs, &text[start..at])?;
+                add_line(&mut pairs, &text[start..at], edition)?;
                 start = at + 1;
             }
         }
-        add_line(&mut pairs, &text[start..])?;
+        add_line(&mut pairs, &text[start..], edition)?;
         Ok(Waivers { pairs: Some(pairs) })
     }
 
@@ -127,15 +129,19 @@ impl<'a> Waivers<'a> {
 }
 
 /// Adds the waiver of a line.
-fn add_line<'a>(pairs: &mut IndexSet<Pair<'a>>, line: &'a [u8]) -> Result<(), WaiverError>
-    ensures read { IsReadAs (λ _. waivers_now pairs.new.keys) (line_read (waivers_now pairs.old.keys) line.now) result }
+fn add_line<'a>(
+    pairs: &mut IndexSet<Pair<'a>>,
+    line: &'a [u8],
+    edition: Edition,
+) -> Result<(), WaiverError>
+    ensures read { IsReadAs (λ _. waivers_now pairs.new.keys) (line_read edition (waivers_now pairs.old.keys) line.now) result }
     ensures few { index_set_len pairs.new ≤ index_set_len pairs.old + length line.now }
 {
     let text = line.strip_suffix(b"\r").unwrap_or(line);
     if text.is_empty() {
         return Ok(());
     }
-    let Some(pair) = pair_in(text) else {
+    let Some(pair) = pair_in(text, edition) else {
         return Err(WaiverError::Malformed);
     };
     pairs.insert(pair)?;
@@ -143,23 +149,30 @@ fn add_line<'a>(pairs: &mut IndexSet<Pair<'a>>, line: &'a [u8]) -> Result<(), Wa
 }
 
 /// The waiver that a line is.
-fn pair_in(text: &[u8]) -> Option<Pair<'_>>
-    ensures { waiver_if_any result ≡ waiver_of text.now }
+fn pair_in(text: &[u8], edition: Edition) -> Option<Pair<'_>>
+    ensures { waiver_if_any result ≡ waiver_of edition text.now }
 {
     let (name, rest) = text.split_at(run_len(text));
     match rest.split_first() {
         Some((b' ', code)) => match Rule::from_code(code) {
-            Some(rule) if is_waivable(rule) => Some((name, rule)),
+            Some(rule) if is_waivable(rule, edition) => Some((name, rule)),
             _ => None,
         },
         _ => None,
     }
 }
 
-/// Whether a rule can be waived: one on charstrings, or that on their steps.
-fn is_waivable(rule: Rule) -> bool
-    ensures { result ≡ is_waivable rule }
+/// Whether an edition waives a rule: one on charstrings, or that on their steps.
+fn is_waivable(rule: Rule, edition: Edition) -> bool
+    ensures { result ≡ is_waivable edition rule }
 {
-    let number = rule.number();
-    Rule::C01.number() <= number && number <= Rule::L01.number()
+    is_from(rule, Rule::C01, Rule::L01)
+        || (edition.has_later_rules() && is_from(rule, Rule::H05, Rule::W03))
+}
+
+/// Whether a rule is one of those from the first to the last, by their numbers.
+fn is_from(rule: Rule, first: Rule, last: Rule) -> bool
+    ensures { result ≡ (nat_le (number_of first) (number_of rule) && nat_le (number_of rule) (number_of last)) }
+{
+    first.number() <= rule.number() && rule.number() <= last.number()
 }

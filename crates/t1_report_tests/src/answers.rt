@@ -31,12 +31,22 @@ pub(super) enum Asked {
     Marks(u64, Place, u32),
 }
 
+impl Asked {
+    /// The edition by which the waivers are read.
+    fn edition(self) -> Edition {
+        match self {
+            Asked::Faults | Asked::Lines | Asked::Turns(..) | Asked::Marks(..) => Edition::One,
+            Asked::Report(edition) | Asked::Walk(edition) | Asked::Unit(_, edition) => edition,
+        }
+    }
+}
+
 /// The waivers of a text.
-fn waivers_in(alloc: Global, text: &str) -> Result<Waivers<'_>, Fail> {
+fn waivers_in(alloc: Global, text: &str, edition: Edition) -> Result<Waivers<'_>, Fail> {
     if text.len() > 1_048_576 {
         return Err(Fail::from("a long text"));
     }
-    Waivers::read(alloc, text.as_bytes()).map_err(|_| Fail::from("waivers"))
+    Waivers::read(alloc, text.as_bytes(), edition).map_err(|_| Fail::from("waivers"))
 }
 
 /// Faults in short.
@@ -131,7 +141,7 @@ fn answer_with(
     text: &str,
     asked: Asked,
 ) -> Result<String, Fail> {
-    let waivers = waivers_in(alloc, text)?;
+    let waivers = waivers_in(alloc, text, asked.edition())?;
     answer_in(alloc, font, length, &waivers, asked)
 }
 

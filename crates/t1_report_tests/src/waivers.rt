@@ -31,12 +31,12 @@ fn push_pair(text: &mut Vec<u8>, name: &[u8], rule: Rule, waived: bool) -> Resul
     text.extend_from_slice(b"|")
 }
 
-/// The pairs that a text is read as, if it is read.
-fn pairs_in(alloc: Global, text: &[u8]) -> Result<Option<Vec<u8>>, AllocError> {
+/// The pairs that a text is read as in an edition, if it is read.
+fn pairs_in(alloc: Global, text: &[u8], edition: Edition) -> Result<Option<Vec<u8>>, AllocError> {
     if text.len() > 1_048_576 {
         return Ok(None);
     }
-    match Waivers::read(alloc, text) {
+    match Waivers::read(alloc, text, edition) {
         Ok(waivers) => Ok(Some(pairs_of(alloc, &waivers)?)),
         Err(WaiverError::Malformed) => Ok(None),
         Err(WaiverError::Memory) => Err(AllocError),
@@ -44,8 +44,13 @@ fn pairs_in(alloc: Global, text: &[u8]) -> Result<Option<Vec<u8>>, AllocError> {
 }
 
 /// Whether a text is read as these pairs, or isn't read.
-fn has_pairs(alloc: Global, text: &[u8], pairs: Option<&[u8]>) -> Result<bool, AllocError> {
-    let found = pairs_in(alloc, text)?;
+fn has_pairs(
+    alloc: Global,
+    text: &[u8],
+    edition: Edition,
+    pairs: Option<&[u8]>,
+) -> Result<bool, AllocError> {
+    let found = pairs_in(alloc, text, edition)?;
     Ok(found.as_deref() == pairs)
 }
 
@@ -89,8 +94,43 @@ const TEXTS: &[(&[u8], Option<&[u8]>)] = &[
 
 #[test]
 fn texts_are_waivers_or_not(rt: HostRuntime) -> Result<(), Fail> {
-    for (text, pairs) in TEXTS {
-        assert!(rt; has_pairs(rt.alloc(), text, *pairs)?, "{text:?}");
+    for edition in [Edition::One, Edition::Two, Edition::Three] {
+        for (text, pairs) in TEXTS {
+            assert!(rt; has_pairs(rt.alloc(), text, edition, *pairs)?, "{text:?}");
+        }
+    }
+    Ok(())
+}
+
+/// Waivers of rules after number 70: the third edition has those on charstrings.
+const LATER: &[(&[u8], Option<&[u8]>)] = &[
+    (b"A H05\nA H06\nA H07", Some(b"A H05|A H06|A H07|")),
+    (
+        b"A O05\nA O06\nA O07\nA O08",
+        Some(b"A O05|A O06|A O07|A O08|"),
+    ),
+    (b"A W03", Some(b"A W03|")),
+    (b"A F15", None),
+    (b"A F21", None),
+    (b"A Z12", None),
+    (b"A Z19", None),
+];
+
+#[test]
+fn later_rules_are_waived_in_the_third_edition(rt: HostRuntime) -> Result<(), Fail> {
+    for (text, pairs) in LATER {
+        assert!(rt;
+            has_pairs(rt.alloc(), text, Edition::Three, *pairs)?,
+            "{text:?}"
+        );
+        assert!(rt;
+            has_pairs(rt.alloc(), text, Edition::Two, None)?,
+            "{text:?}"
+        );
+        assert!(rt;
+            has_pairs(rt.alloc(), text, Edition::One, None)?,
+            "{text:?}"
+        );
     }
     Ok(())
 }

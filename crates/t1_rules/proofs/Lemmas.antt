@@ -7,6 +7,7 @@ pub mod Book
 pub mod CallLaws
 pub mod ComponentLaws
 pub mod Components
+pub mod Counters
 pub mod Divisions
 pub mod Editions
 pub mod Flex
@@ -16,6 +17,8 @@ pub mod FontRules
 pub mod GlyphPlaces
 pub mod KeyRows
 pub mod Keys
+pub mod Later
+pub mod LaterLaws
 pub mod Levels
 pub mod Lines
 pub mod KnownCalls
@@ -36,5 +39,6 @@ pub mod StemLaws
 pub mod Stems
 pub mod StepRules
 pub mod Tokens
+pub mod Triples
 pub mod Watches
 pub mod Zones

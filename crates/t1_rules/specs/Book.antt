@@ -4,7 +4,7 @@ use Rattle.t1_font.specs.Keys.{same_name}
 use Rattle.t1_rules.specs.declared.level.Level.{Level}
 use Rattle.t1_rules.specs.declared.level.Level.TheVariants.{Must, Should, Tidy}
 use Rattle.t1_rules.specs.declared.rule.Rule.{Rule}
-use Rattle.t1_rules.specs.declared.rule.Rule.TheVariants.{F01, F02, F03, F04, F05, F06, F07, F08, F09, F10, F11, F12, F13, F14, Z01, Z02, Z03, Z04, Z05, Z06, Z07, Z08, Z09, Z10, Z11, C01, C02, C03, C04, C05, C06, C07, C08, C09, S01, S02, S03, S04, GE01, GE02, W01, W02, P01, P02, P03, H01, H02, H03, H04, R01, R02, X01, X02, X03, X04, X05, X06, O01, O02, O03, O04, K01, K02, K03, K04, K05, K06, K07, L01, U01, F15, F16, F17, F18, F19, F20, F21, Z12, Z13, Z14, Z15, Z16, Z17, Z18, Z19}
+use Rattle.t1_rules.specs.declared.rule.Rule.TheVariants.{F01, F02, F03, F04, F05, F06, F07, F08, F09, F10, F11, F12, F13, F14, Z01, Z02, Z03, Z04, Z05, Z06, Z07, Z08, Z09, Z10, Z11, C01, C02, C03, C04, C05, C06, C07, C08, C09, S01, S02, S03, S04, GE01, GE02, W01, W02, P01, P02, P03, H01, H02, H03, H04, R01, R02, X01, X02, X03, X04, X05, X06, O01, O02, O03, O04, K01, K02, K03, K04, K05, K06, K07, L01, U01, F15, F16, F17, F18, F19, F20, F21, Z12, Z13, Z14, Z15, Z16, Z17, Z18, Z19, H05, H06, H07, O05, O06, O07, O08, W03}
 
 -- An entry of the book: a rule's number, which is its place there, from 1 on; how much a violation matters; the
 -- rule's code, as it is in a line of the report; and what is reported of a violation.
@@ -103,6 +103,14 @@ entry_of Z16 = entry 82 Tidy (codes "Z16") (codes "no stem snap beside a standar
 entry_of Z17 = entry 83 Should (codes "Z17") (codes "BlueScale out of range")
 entry_of Z18 = entry 84 Should (codes "Z18") (codes "BlueShift out of range")
 entry_of Z19 = entry 85 Should (codes "Z19") (codes "BlueFuzz out of range")
+entry_of H05 = entry 86 Should (codes "H05") (codes "stem below half a unit")
+entry_of H06 = entry 87 Must (codes "H06") (codes "stem beside stem3")
+entry_of H07 = entry 88 Must (codes "H07") (codes "another stem3")
+entry_of O05 = entry 89 Must (codes "O05") (codes "counter control not at the start")
+entry_of O06 = entry 90 Must (codes "O06") (codes "counter control again")
+entry_of O07 = entry 91 Must (codes "O07") (codes "counter control leaves numbers")
+entry_of O08 = entry 92 Must (codes "O08") (codes "counter control has no end")
+entry_of W03 = entry 93 Must (codes "W03") (codes "OtherSubr before hsbw or sbw")
 
 abbrev pub number_of : Rule → ℕ
 number_of rule = (entry_of rule).number
@@ -122,7 +130,7 @@ abbrev pub last_number_before : ℕ
 last_number_before = 70
 
 abbrev pub last_number : ℕ
-last_number = 85
+last_number = 93
 
 -- All rules, in the order of their numbers.
 abbrev pub rules : List Rule
@@ -132,7 +140,8 @@ rules =
     ∷ C04 ∷ C05 ∷ C06 ∷ C07 ∷ C08 ∷ C09 ∷ S01 ∷ S02 ∷ S03 ∷ S04 ∷ GE01 ∷ GE02 ∷ W01 ∷ W02
     ∷ P01 ∷ P02 ∷ P03 ∷ H01 ∷ H02 ∷ H03 ∷ H04 ∷ R01 ∷ R02 ∷ X01 ∷ X02 ∷ X03 ∷ X04 ∷ X05
     ∷ X06 ∷ O01 ∷ O02 ∷ O03 ∷ O04 ∷ K01 ∷ K02 ∷ K03 ∷ K04 ∷ K05 ∷ K06 ∷ K07 ∷ L01 ∷ U01
-    ∷ F15 ∷ F16 ∷ F17 ∷ F18 ∷ F19 ∷ F20 ∷ F21 ∷ Z12 ∷ Z13 ∷ Z14 ∷ Z15 ∷ Z16 ∷ Z17 ∷ Z18 ∷ Z19 ∷ []
+    ∷ F15 ∷ F16 ∷ F17 ∷ F18 ∷ F19 ∷ F20 ∷ F21 ∷ Z12 ∷ Z13 ∷ Z14 ∷ Z15 ∷ Z16 ∷ Z17 ∷ Z18 ∷ Z19
+    ∷ H05 ∷ H06 ∷ H07 ∷ O05 ∷ O06 ∷ O07 ∷ O08 ∷ W03 ∷ []
 
 -- The first of these rules that has a code.
 unfoldable pub coded_in : List ℕ → List Rule → Option Rule

@@ -6,6 +6,7 @@ pub mod Components
 pub mod Editions
 pub mod Flex
 pub mod FontRules
+pub mod Later
 pub mod Levels
 pub mod Othersubrs
 pub mod Replacements

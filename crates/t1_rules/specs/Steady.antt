@@ -7,7 +7,7 @@ use Rattle.t1_char.specs.declared.lines.Way.{Way}
 use Rattle.t1_rules.specs.declared.step_rules.flex.Point.{Point}
 use Rattle.t1_rules.specs.declared.watches.Watches.{Watches}
 
--- A path is begun by a move, outside flex.
+-- A path is begun by a move, outside flex: what was told last is neither the width nor counter control.
 pub record IsSteady (watches : Watches) : Type 0 where
   pub begun : watches.paths.begun ≡ true
   pub path_flex : watches.paths.in_flex ≡ false
@@ -15,6 +15,8 @@ pub record IsSteady (watches : Watches) : Type 0 where
   pub stem_flex : watches.stems.in_flex ≡ false
   pub flex : watches.flex.in_flex ≡ false
   pub seac_flex : watches.seac.in_flex ≡ false
+  pub opened : watches.counters.opened ≡ false
+  pub going_on : watches.counters.going_on ≡ false
 
 -- Nothing is drawn since that move.
 pub record IsUndrawn (watches : Watches) : Type 0 where

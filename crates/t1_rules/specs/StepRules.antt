@@ -2,29 +2,34 @@
 -- itself.
 pub mod Arguments
 pub mod Calls
+pub mod Counters
 pub mod Flex
 pub mod Othersubrs
 pub mod Paths
 pub mod Seac
 pub mod Stems
 pub mod Tokens
+pub mod Triples
 use Rattle.std.specs.Prelude.{ℕ, ◌==◌, ◌&&◌, Bool, false, Option, Some, None, List, [], ◌∷◌, ◌++◌, slice_get, take}
 use Rattle.std.specs.List.{list_any}
 use Rattle.t1_char.specs.declared.edition.Edition.{Edition}
+use Rattle.t1_char.specs.Editions.{has_later_rules}
 use Rattle.t1_char.specs.Since.{Test}
 use Rattle.t1_char.specs.Steps.{StepView}
 use Rattle.t1_rules.specs.declared.rule.Rule.{Rule}
 use Rattle.t1_rules.specs.declared.sidebearings.Component.{Component}
-use Rattle.t1_rules.specs.declared.rule.Rule.TheVariants.{C01, C02, C03, C04, C05, C06, C07, C08, C09, S01, S02, S03, S04, GE01, GE02, W01, W02, P01, P02, P03, H01, H02, H03, H04, R01, R02, X01, X02, X03, X04, X05, X06, O01, O02, O03, O04, K01, K02, K03, K04, K05, K06, K07}
+use Rattle.t1_rules.specs.declared.rule.Rule.TheVariants.{C01, C02, C03, C04, C05, C06, C07, C08, C09, S01, S02, S03, S04, GE01, GE02, W01, W02, P01, P02, P03, H01, H02, H03, H04, R01, R02, X01, X02, X03, X04, X05, X06, O01, O02, O03, O04, K01, K02, K03, K04, K05, K06, K07, H05, H06, H07, O05, O06, O07, O08, W03}
 use Rattle.t1_rules.specs.Book.{number_of}
 use Rattle.t1_rules.specs.StepRules.Arguments.{has_too_few_arguments, has_too_many_arguments, overflows, has_argument_past, divides_past, divides_by_zero}
 use Rattle.t1_rules.specs.StepRules.Calls.{calls_missing, calls_too_deep, returns_from_glyph, ends_in_subr, ends_in_glyph, goes_on_past_end}
+use Rattle.t1_rules.specs.StepRules.Counters.{calls_first, counts_again, counts_late, leaves_counting, leaves_numbers}
 use Rattle.t1_rules.specs.StepRules.Flex.{starts_in_flex, goes_on_outside, commands_in_flex, counts_no_pairs, ends_elsewhere, sets_point_alone}
 use Rattle.t1_rules.specs.StepRules.Othersubrs.{calls_unknown, has_bad_count, has_wrong_count, pops_nothing}
 use Rattle.t1_rules.specs.StepRules.Paths.{starts_without_width, sets_width_later, draws_unmoved, leaves_open, closes_nothing}
 use Rattle.t1_rules.specs.StepRules.Seac.{has_no_code, has_unnamed_code, stands_beside_outline, lacks_component, nests, differs_in_sidebearing, lacks_sidebearing}
 use Rattle.t1_rules.specs.StepRules.Stems.{overlap_by, sets_stem_late, sets_overlapping, sets_without_width, sets_unequal, leaves_out_pop, leaves_out_call}
 use Rattle.t1_rules.specs.StepRules.Tokens.{is_short, is_cut, is_unknown}
+use Rattle.t1_rules.specs.StepRules.Triples.{sets_another, sets_beside, sets_thin}
 
 -- A row of the table: a rule, and where it is broken, given the steps before a step and the step.
 pub record StepRule : Type 0 where
@@ -37,6 +42,10 @@ row rule is_broken = record { rule = rule; is_broken = is_broken }
 -- A rule that the step alone decides.
 abbrev pub of_step : Rule → (StepView → Bool) → StepRule
 of_step rule is_broken = row rule (λ before step. is_broken step)
+
+-- A rule after number 70, which only some editions have.
+abbrev pub later_row : Edition → Rule → Test → StepRule
+later_row edition rule is_broken = row rule (λ before step. has_later_rules edition && is_broken before step)
 
 -- Tokens, arguments and numbers.
 unfoldable pub argument_rules : List StepRule
@@ -164,11 +173,39 @@ component_rules components =
     ∷ of_step K07 (lacks_sidebearing components)
     ∷ []
 
+-- Thin stems, and stems beside three of one command.
+unfoldable pub triple_rules : Edition → List StepRule
+triple_rules edition =
+    -- A stem is narrower than half a unit. Own.
+    later_row edition H05 (λ before step. sets_thin step)
+    -- The first stem of a command for one is behind one of a command for three, or the other way round. Type 1 Font
+    -- Format, chapter 6.
+    ∷ later_row edition H06 sets_beside
+    -- Three stems aren't those of the last such command. Type 1 Font Format, chapter 6.
+    ∷ later_row edition H07 sets_another
+    ∷ []
+
+-- Counter control, and calls before the width.
+unfoldable pub counter_rules : Edition → List StepRule
+counter_rules edition =
+    -- Counter control comes behind something else than the width and counter control. Technical Note 5015.
+    later_row edition O05 counts_late
+    -- Counter control comes behind its end. Technical Note 5015.
+    ∷ later_row edition O06 counts_again
+    -- Counter control leaves numbers on the stack. Technical Note 5015.
+    ∷ later_row edition O07 (λ before step. leaves_numbers step)
+    -- Something else follows where counter control goes on. Technical Note 5015.
+    ∷ later_row edition O08 leaves_counting
+    -- Another OtherSubr is called before hsbw or sbw. Type 1 Font Format, chapter 6.
+    ∷ later_row edition W03 calls_first
+    ∷ []
+
 -- The table of the rules that a glyph's own steps decide, in the order of the book.
 unfoldable pub step_rules : Edition → List StepRule
 step_rules edition =
     argument_rules
-    ++ (call_rules ++ (path_rules ++ (stem_rules edition ++ (flex_rules ++ (othersubr_rules ++ seac_rules)))))
+    ++ (call_rules ++ (path_rules ++ (stem_rules edition ++ (flex_rules ++ (othersubr_rules
+    ++ (seac_rules ++ (triple_rules edition ++ counter_rules edition)))))))
 
 -- All charstring rules, where the components of all codes are these.
 unfoldable pub charstring_rules : Edition → List Component → List StepRule

@@ -182,6 +182,29 @@ static BOOK: [Row; RULE_COUNT] = [
     (Rule::Z17, Level::Should, "Z17", "BlueScale out of range"),
     (Rule::Z18, Level::Should, "Z18", "BlueShift out of range"),
     (Rule::Z19, Level::Should, "Z19", "BlueFuzz out of range"),
+    (Rule::H05, Level::Should, "H05", "stem below half a unit"),
+    (Rule::H06, Level::Must, "H06", "stem beside stem3"),
+    (Rule::H07, Level::Must, "H07", "another stem3"),
+    (
+        Rule::O05,
+        Level::Must,
+        "O05",
+        "counter control not at the start",
+    ),
+    (Rule::O06, Level::Must, "O06", "counter control again"),
+    (
+        Rule::O07,
+        Level::Must,
+        "O07",
+        "counter control leaves numbers",
+    ),
+    (Rule::O08, Level::Must, "O08", "counter control has no end"),
+    (
+        Rule::W03,
+        Level::Must,
+        "W03",
+        "OtherSubr before hsbw or sbw",
+    ),
 ];
 
 /// The rows of the book.

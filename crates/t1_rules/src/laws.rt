@@ -5,6 +5,7 @@ ghost use Rattle.t1_rules.specs.Laws.Levels.{LevelsHaveTheirWords};
 ghost use Rattle.t1_rules.specs.Laws.Arguments.{KeptIsNotPast, NoneAreTooManyAtTheTop, NumbersOverflowAt24, OthersHaveNoArguments, TooFewAreFewerThanWanted, TooManyAreMoreThanArguments};
 ghost use Rattle.t1_rules.specs.Laws.Calls.{SoundCallsGoIn};
 ghost use Rattle.t1_rules.specs.Laws.FontRules.{AbsentEntriesBreakNothing, BrokenIsInTheBook, EarlierEditionsKnowNoLaterRule, LaterRulesChangeNoOther, NothingIsBrokenPastLast, NothingIsBrokenPastPlaces, RuleNumbersAreInOrder};
+ghost use Rattle.t1_rules.specs.Laws.Later.{EarlierEditionsBreakNoLaterRule, OneStemStandsBeside, ReplacementsHaveNoSay, ThirdAgreesWithSecond};
 ghost use Rattle.t1_rules.specs.Laws.Components.{CapitalsNameThemselves, CodesAreCounted, NamesAreCounted, NoNameStandsTwice, OwnEncodingHasNoSay, PlacesHaveNoSay, SmallLettersNameThemselves};
 ghost use Rattle.t1_rules.specs.Laws.Editions.{EditionsAgreeOnOtherRules, EditionsAgreeOnShortComponents, EditionsAgreeOnUsualSteps, EditionsAgreeWithoutOneEdge, OneEdgeOverlapsNothing, OtherStemsOverlapAsBefore, OverlapByIsMutual, SecondTellsNoMore, SecondTellsNoMoreInFonts, StemsAreKept};
 ghost use Rattle.t1_rules.specs.Laws.Flex.{ClosepathLeavesThePoint, EndsLeadOutOfFlex, GlyphsBeginAtTheOrigin, OtherCountsAreNoFlex, SetcurrentpointAloneFollows, SetcurrentpointFollowsFlex, SetcurrentpointPutsThePoint, SevenPairsAreAFlex, ShortFormsLeadAsFar, StartsLeadIntoFlex, StepsMoveThePoint, VectorsPutThePoint, WidthsSetThePoint};
@@ -70,12 +71,28 @@ pub fn numbers_rise_where_none_falls()
     ensures { ListsRiseWhereNoneFalls }
 {}
 
-/// The rules on steps of a glyph have the numbers from 26 to 68. What its own steps break is one of 26 to 67.
+/// The rules on steps of a glyph have the numbers from 26 to 68 and from 86 to 93. What its own steps break is one of 26 to
+/// 67, or of 86 to 93 where the edition has these.
 #[tactic(auto, using(crate::proofs::Lemmas::StepRules::numbers_in_order, crate::proofs::Lemmas::StepRules::component_numbers_in_order, crate::proofs::Lemmas::StepRules::broken_have_these_numbers))]
 pub fn step_rules_have_their_numbers()
     ensures order { StepRuleNumbersAreInOrder }
     ensures components { ComponentRuleNumbersAreInOrder }
     ensures these { BrokenStepsHaveTheseNumbers }
+{}
+
+/// A step breaks no rule after number 70 in an edition that hasn't them, and the others as in the second edition where it
+/// has.
+#[tactic(auto, using(crate::proofs::Lemmas::LaterLaws::earlier_editions_break_no_later_rule, crate::proofs::Lemmas::LaterLaws::third_agrees_with_second))]
+pub fn later_step_rules_stand_alone()
+    ensures earlier { EarlierEditionsBreakNoLaterRule }
+    ensures others { ThirdAgreesWithSecond }
+{}
+
+/// H06 and H07 are on the whole glyph, whose hint replacements have no say; H06 has one place at most for each direction.
+#[tactic(auto, using(crate::proofs::Lemmas::LaterLaws::replacements_have_no_say, crate::proofs::Lemmas::LaterLaws::one_stem_stands_beside))]
+pub fn stems_stand_beside_three_once()
+    ensures replacements { ReplacementsHaveNoSay }
+    ensures once { OneStemStandsBeside }
 {}
 
 /// What a step breaks depends on the steps up to it alone.

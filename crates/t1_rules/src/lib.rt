@@ -1,5 +1,5 @@
 //! The rule book of Type 1 fonts: what may be wrong with a font, and where it is. Adobe Type 1 Font
-//! Format 1.1, chapters 2 and 5 to 8, and Technical Note 5040.
+//! Format 1.1, chapters 2 and 5 to 8, and Technical Notes 5015 and 5040.
 //!
 //! [`Rule`] has all rules, with their numbers, codes and texts. [`rule_level`] says how much each matters.
 //! [`font_faults`] returns, as a [`Mask`], which rules a font breaks at a key and an index. A key is the file or an
@@ -8,10 +8,10 @@
 //! have to be tested.
 //!
 //! [`Watches`] sees the steps of a glyph one after another. It returns of each which rules on charstrings it breaks, as
-//! far as the glyph's own steps decide. It is seven watchers as one: [`ArgumentWatcher`], [`CallWatcher`],
-//! [`PathWatcher`], [`StemWatcher`], [`FlexWatcher`], [`OthersubrWatcher`] and [`SeacWatcher`]. [`Watch`] is what
-//! watchers have in common. [`Sidebearings`] has the components of accented characters. It returns of each step which
-//! of K03 to K05 and K07 it breaks.
+//! far as the glyph's own steps decide. It is nine watchers as one: [`ArgumentWatcher`], [`CallWatcher`],
+//! [`PathWatcher`], [`StemWatcher`], [`FlexWatcher`], [`OthersubrWatcher`], [`SeacWatcher`], and for the third edition
+//! [`TripleWatcher`] and [`CounterWatcher`]. [`Watch`] is what watchers have in common. [`Sidebearings`] has the
+//! components of accented characters. It returns of each step which of K03 to K05 and K07 it breaks.
 //!
 //! What is promised, for all fonts:
 //!
@@ -68,15 +68,16 @@ pub use laws::{
     components_are_judged_by_their_steps, current_points_move_on, editions_agree_on_other_rules,
     editions_differ_in_stems_of_one_edge, ends_break_one_rule, flex_goes_from_its_start_to_its_end,
     hint_sets_begin_anew, hint_sets_grow, kept_numbers_are_not_past, later_rules_stand_alone,
-    later_steps_have_no_say, letters_name_themselves, levels_have_their_words, numbers_are_counted,
-    numbers_rise_where_none_falls, one_step_starts_without_width, other_counts_are_no_flex,
-    othersubr_calls_are_one_of_five, paths_are_by_places, points_are_put,
-    pops_of_nothing_change_nothing, replacements_are_followed, rules_are_in_the_book,
-    rules_are_on_zones, rules_have_their_numbers, rules_have_their_places,
+    later_step_rules_stand_alone, later_steps_have_no_say, letters_name_themselves,
+    levels_have_their_words, numbers_are_counted, numbers_rise_where_none_falls,
+    one_step_starts_without_width, other_counts_are_no_flex, othersubr_calls_are_one_of_five,
+    paths_are_by_places, points_are_put, pops_of_nothing_change_nothing, replacements_are_followed,
+    rules_are_in_the_book, rules_are_on_zones, rules_have_their_numbers, rules_have_their_places,
     setcurrentpoint_follows_flex, short_forms_lead_as_far, sound_calls_go_in,
     standard_encoding_names_149_codes, stems_are_late_behind_drawing,
-    stems_overlap_where_they_share_a_place, step_rules_have_their_numbers, three_stems_are_even,
-    zones_are_pairs, zones_come_near_both_ways,
+    stems_overlap_where_they_share_a_place, stems_stand_beside_three_once,
+    step_rules_have_their_numbers, three_stems_are_even, zones_are_pairs,
+    zones_come_near_both_ways,
 };
 pub use level::Level;
 pub use mask::Mask;
@@ -85,11 +86,13 @@ pub use sidebearings::Sidebearings;
 pub use standard_encoding::standard_name;
 pub use step_rules::arguments::ArgumentWatcher;
 pub use step_rules::calls::CallWatcher;
+pub use step_rules::counters::CounterWatcher;
 pub use step_rules::flex::{FlexWatcher, Point};
 pub use step_rules::othersubrs::OthersubrWatcher;
 pub use step_rules::paths::PathWatcher;
 pub use step_rules::seac::{SeacWatcher, accent_code, base_code};
 pub use step_rules::stems::{Stem, StemWatcher, are_unequal};
 pub use step_rules::tokens::{closes, is_line, is_move, is_seac, sets_width};
+pub use step_rules::triples::{Triple, TripleWatcher};
 pub use watch::Watch;
 pub use watches::Watches;

@@ -185,6 +185,22 @@ pub enum Rule {
     Z18,
     /// `/BlueFuzz` is whole, from 0 to 10. Type 1 Font Format, chapter 5.
     Z19,
+    /// A stem of a width has half a unit at least.
+    H05,
+    /// A glyph has single stems of a direction, or three of a command. Type 1 Font Format, chapter 6.
+    H06,
+    /// The three stems of a direction are the same in the whole glyph. Type 1 Font Format, chapter 6.
+    H07,
+    /// Counter control follows `hsbw`, `sbw` or counter control. Technical Note 5015.
+    O05,
+    /// No counter control follows its last call, that of OtherSubr 13. Technical Note 5015.
+    O06,
+    /// Counter control takes all numbers of the stack. Technical Note 5015.
+    O07,
+    /// OtherSubr 12 is followed by counter control. Technical Note 5015.
+    O08,
+    /// No OtherSubr is called before the first command. Type 1 Font Format, chapter 6.
+    W03,
 }
 
 impl fmt::Debug for Rule {
@@ -220,7 +236,7 @@ impl Rule {
 }
 
 /// How many rules there are.
-pub const RULE_COUNT: usize = 85;
+pub const RULE_COUNT: usize = 93;
 
 /// The rules, in the order of their numbers.
 static RULES: [Rule; RULE_COUNT] = [
@@ -309,6 +325,14 @@ static RULES: [Rule; RULE_COUNT] = [
     Rule::Z17,
     Rule::Z18,
     Rule::Z19,
+    Rule::H05,
+    Rule::H06,
+    Rule::H07,
+    Rule::O05,
+    Rule::O06,
+    Rule::O07,
+    Rule::O08,
+    Rule::W03,
 ];
 
 /// All rules, in the order of their numbers.

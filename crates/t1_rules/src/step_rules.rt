@@ -2,6 +2,7 @@
 
 pub(crate) mod arguments;
 pub(crate) mod calls;
+pub(crate) mod counters;
 pub(crate) mod flex;
 mod numbers;
 pub(crate) mod othersubrs;
@@ -9,3 +10,4 @@ pub(crate) mod paths;
 pub(crate) mod seac;
 pub(crate) mod stems;
 pub(crate) mod tokens;
+pub(crate) mod triples;

@@ -17,12 +17,14 @@ ghost use Rattle.t1_rules.specs.StepRules.Tokens.{IsCommand};
 use crate::mask::Mask;
 use crate::step_rules::arguments::{ArgumentWatcher, has_its_arguments};
 use crate::step_rules::calls::CallWatcher;
+use crate::step_rules::counters::CounterWatcher;
 use crate::step_rules::flex::FlexWatcher;
 use crate::step_rules::othersubrs::OthersubrWatcher;
 use crate::step_rules::paths::PathWatcher;
 use crate::step_rules::seac::SeacWatcher;
 use crate::step_rules::stems::StemWatcher;
 use crate::step_rules::tokens::call_of;
+use crate::step_rules::triples::TripleWatcher;
 use crate::watch::Watch;
 use t1_char::{CharToken, Command, Drawn, Edition, MOST_NUMBERS, OthersubrCall, Step, Way};
 
@@ -69,7 +71,7 @@ impl Idling {
     }
 }
 
-/// Watches for the rules from C01 to O04, K01, K02 and K06, which a glyph's own steps decide.
+/// Watches for the rules from C01 to O04, K01, K02 and K06, which a glyph's own steps decide, and for H05 to W03.
 #[derive(Drop)]
 pub struct Watches {
     arguments: ArgumentWatcher,
@@ -79,6 +81,8 @@ pub struct Watches {
     flex: FlexWatcher,
     othersubrs: OthersubrWatcher,
     seac: SeacWatcher,
+    triples: TripleWatcher,
+    counters: CounterWatcher,
     idling: Idling,
 }
 
@@ -99,6 +103,8 @@ impl Watch for Watches {
             flex: FlexWatcher::start(edition),
             othersubrs: OthersubrWatcher::start(edition),
             seac: SeacWatcher::start(edition),
+            triples: TripleWatcher::start(edition),
+            counters: CounterWatcher::start(edition),
             idling: Idling::NONE,
         }
     }
@@ -112,7 +118,10 @@ impl Watch for Watches {
         let stems = self.stems.see_known(token, call, step);
         let othersubrs = self.othersubrs.see_known(token, call, step);
         let seac = self.seac.see_known(token, call, step);
-        arguments.join(calls.join(paths.join(stems.join(flex.join(othersubrs.join(seac))))))
+        let triples = self.triples.see_known(token, call, step);
+        let counters = self.counters.see_known(token, call, step);
+        let glyph = flex.join(othersubrs.join(seac.join(triples.join(counters))));
+        arguments.join(calls.join(paths.join(stems.join(glyph))))
     }
 
     #[inline(always)]
@@ -166,6 +175,8 @@ impl Watches {
         self.stems.start_again(edition);
         self.flex = FlexWatcher::start(edition);
         self.seac = SeacWatcher::start(edition);
+        self.triples = TripleWatcher::start(edition);
+        self.counters = CounterWatcher::start(edition);
         self.idling = Idling::NONE;
     }
 
@@ -187,6 +198,7 @@ impl Watches {
             & self.stems.is_steady()
             & self.flex.is_steady()
             & self.seac.is_steady()
+            & self.counters.is_steady()
     }
 
     /// Whether the last step, of this number, was a move right after another, as hardly any font has them, and moves after it

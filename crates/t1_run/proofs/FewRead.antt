@@ -3,6 +3,7 @@ use Rattle.std.proofs.Common.{◌≡◌, ◌≤◌, ◌==◌, ◌+◌, ℕ, Bool
 use Rattle.std.proofs.lemmas.Bool.{cases_Bool}
 use Rattle.std.proofs.lemmas.Bool.Decides.{nat_tests}
 use Rattle.std.specs.Prelude.{option_and_then}
+use Rattle.t1_char.specs.declared.edition.Edition.{Edition}
 use Rattle.t1_font.specs.ClearText.{clear_of}
 use Rattle.t1_font.specs.FontFiles.{as_unread, clear_next, font_in, marks_in, private_next, section_next}
 use Rattle.t1_font.specs.Fonts.{FontValue, Marks}
@@ -72,41 +73,41 @@ map_few waivers (Some w) more is =
     let same : with_waiver waivers w ≡ more = cc in
     subst (λ (ws : List Waiver). length ws ≤ length waivers + 1) same (with_few waivers w)
 
-text_few : (waivers : List Waiver) (text : List ℕ) (more : List Waiver) → text_read waivers text ≡ Some more → length more ≤ length waivers + 1
-text_few waivers [] more is =
+text_few : (edition : Edition) (waivers : List Waiver) (text : List ℕ) (more : List Waiver) → text_read edition waivers text ≡ Some more → length more ≤ length waivers + 1
+text_few edition waivers [] more is =
     let same : waivers ≡ more = cc in
     subst (λ (ws : List Waiver). length ws ≤ length waivers + 1) same (omega arith)
-text_few waivers (b ∷ text) more is = map_few waivers (waiver_of (b ∷ text)) more is
+text_few edition waivers (b ∷ text) more is = map_few waivers (waiver_of edition (b ∷ text)) more is
 
-line_few : (waivers : List Waiver) (line : List ℕ) (more : List Waiver) → line_read waivers line ≡ Some more
+line_few : (edition : Edition) (waivers : List Waiver) (line : List ℕ) (more : List Waiver) → line_read edition waivers line ≡ Some more
     → length more ≤ length waivers + length line
-line_few waivers [] more is =
+line_few edition waivers [] more is =
     let same : waivers ≡ more = cc in
     subst (λ (ws : List Waiver). length ws ≤ length waivers + 0) same (omega arith)
-line_few waivers (b ∷ line) more is =
-    let one = text_few waivers (without_return (b ∷ line)) more is in
+line_few edition waivers (b ∷ line) more is =
+    let one = text_few edition waivers (without_return (b ∷ line)) more is in
     omega (arith, one)
 
 then_some : {A B : Type 0} (o : Option A) (f : A → Option B) (y : B) → option_and_then f o ≡ Some y → (x : A) × ((o ≡ Some x) × (f x ≡ Some y))
 then_some None f y is = cc
 then_some (Some x) f y is = (x, (refl, is))
 
-lines_few : (text front : List ℕ) (waivers more : List Waiver) → lines_read waivers (lines_from front text) ≡ Some more
+lines_few : (edition : Edition) (text front : List ℕ) (waivers more : List Waiver) → lines_read edition waivers (lines_from front text) ≡ Some more
     → length more ≤ length waivers + (length front + length text)
 unfolding lines_from lines_read
-lines_few [] front waivers more is =
-    let step = then_some (line_read waivers front) (λ ws. lines_read ws []) more is in
+lines_few edition [] front waivers more is =
+    let step = then_some (line_read edition waivers front) (λ ws. lines_read edition ws []) more is in
     let same : step.0 ≡ more = (let last : Some step.0 ≡ Some more = step.1.1 in cc) in
-    let few = line_few waivers front more (subst (λ (ws : List Waiver). line_read waivers front ≡ Some ws) same step.1.0) in
+    let few = line_few edition waivers front more (subst (λ (ws : List Waiver). line_read edition waivers front ≡ Some ws) same step.1.0) in
     omega (arith, few)
-lines_few (b ∷ text) front waivers more is = elim (cases_Bool (b == 10)) [
+lines_few edition (b ∷ text) front waivers more is = elim (cases_Bool (b == 10)) [
   | inl ten ↦ (
-      let step = then_some (line_read waivers front) (λ ws. lines_read ws (lines_from [] text)) more (rw ten at is) in
-      let first = line_few waivers front step.0 step.1.0 in
-      let rest = lines_few text [] step.0 more step.1.1 in
+      let step = then_some (line_read edition waivers front) (λ ws. lines_read edition ws (lines_from [] text)) more (rw ten at is) in
+      let first = line_few edition waivers front step.0 step.1.0 in
+      let rest = lines_few edition text [] step.0 more step.1.1 in
       omega (arith, first, rest))
   | inr other ↦ (
-      let rest = lines_few text (front ++ b ∷ []) waivers more (rw other at is) in
+      let rest = lines_few edition text (front ++ b ∷ []) waivers more (rw other at is) in
       omega (arith, rest, length-append front (b ∷ [])))
 ]
 
@@ -118,12 +119,12 @@ as_few : (bytes : ℕ) (waivers : Option (List Waiver)) → ((ws : List Waiver) 
 as_few bytes None few small = tt
 as_few bytes (Some ws) few small = omega (arith, few ws refl, small)
 
-pub of_text : (text : List ℕ) → IfOk (waivers_in text) AreFew
+pub of_text : (edition : Edition) (text : List ℕ) → IfOk (waivers_in edition text) AreFew
 unfolding waivers_in
-of_text text = elim (cases_Bool (nat_lt 1048576 (length text))) [
+of_text edition text = elim (cases_Bool (nat_lt 1048576 (length text))) [
   | inl large ↦ rw large tt
   | inr small ↦ (
       let bytes : length text ≤ 1048576 = grind (arith, nat_tests, small) in
-      let few = as_few (length text) (waivers_of text) (λ ws is. (let most = lines_few text [] [] ws is in omega (arith, most))) bytes in
+      let few = as_few (length text) (waivers_of edition text) (λ ws is. (let most = lines_few edition text [] [] ws is in omega (arith, most))) bytes in
       rw small few)
 ]

@@ -2,6 +2,7 @@
 use Rattle.std.proofs.Common.{◌≡◌, ℕ, ◌<◌, ◌≤◌, nat_lt, Bool, true, false, true≢false, List, [], ◌++◌, Option, None, Some, Result, Ok, Err, length, refl, sym, ap, subst, ◌∙◌, arith, append-nil, length-append}
 use Rattle.std.proofs.lemmas.Bool.Decides.{nat_tests}
 use Rattle.std.specs.Io.KnownBytes.{Consumes, IsAtEnd}
+use Rattle.t1_char.specs.declared.edition.Edition.{Edition}
 use Rattle.t1_font.specs.FontFiles.{font_in}
 use Rattle.t1_font.specs.Fonts.{FontValue}
 use Rattle.t1_font.specs.declared.unread.Unread.{Unread}
@@ -48,37 +49,37 @@ font_past (Some input) (Some rest) bytes consumed large = font_of-large input (o
 
 -- ---- a text of waivers
 
-waivers_in-small : (text : List ℕ) → length text ≤ 1048576 → waivers_in text ≡ as_waivers (waivers_of text)
+waivers_in-small : (edition : Edition) (text : List ℕ) → length text ≤ 1048576 → waivers_in edition text ≡ as_waivers (waivers_of edition text)
 unfolding waivers_in
-waivers_in-small text small =
+waivers_in-small edition text small =
     let fits : nat_lt 1048576 (length text) ≡ false = grind (arith, nat_tests) in
     rw fits refl
 
-waivers_in-large : (text : List ℕ) → 1048576 < length text → waivers_in text ≡ Err WaiversTooLarge
+waivers_in-large : (edition : Edition) (text : List ℕ) → 1048576 < length text → waivers_in edition text ≡ Err WaiversTooLarge
 unfolding waivers_in
-waivers_in-large text large =
+waivers_in-large edition text large =
     let exceeds : nat_lt 1048576 (length text) ≡ true = grind (arith, nat_tests) in
     rw exceeds refl
 
 -- All of a text, few enough bytes.
-pub text_is : (old new : Option (List ℕ)) (bytes : List ℕ) → Consumes old new bytes → IsAtEnd new → length bytes ≤ 1048576
-    → AreWaived true old (as_waivers (waivers_of bytes))
-text_is None new bytes consumed end small = tt
-text_is (Some input) None bytes consumed end small = absurd consumed
-text_is (Some input) (Some rest) bytes consumed end small =
+pub text_is : (edition : Edition) (old new : Option (List ℕ)) (bytes : List ℕ) → Consumes old new bytes → IsAtEnd new → length bytes ≤ 1048576
+    → AreWaived edition true old (as_waivers (waivers_of edition bytes))
+text_is edition None new bytes consumed end small = tt
+text_is edition (Some input) None bytes consumed end small = absurd consumed
+text_is edition (Some input) (Some rest) bytes consumed end small =
     let same : input ≡ bytes = consumed ∙ ap (λ l. bytes ++ l) end ∙ append-nil bytes in
-    ap waivers_in same ∙ waivers_in-small bytes small
+    ap (waivers_in edition) same ∙ waivers_in-small edition bytes small
 
 -- Too many bytes.
-pub text_past : (old new : Option (List ℕ)) (bytes : List ℕ) → Consumes old new bytes → 1048576 < length bytes → AreWaived true old (Err WaiversTooLarge)
-text_past None new bytes consumed large = tt
-text_past (Some input) None bytes consumed large = absurd consumed
-text_past (Some input) (Some rest) bytes consumed large = waivers_in-large input (omega (arith, ap length consumed, length-append bytes rest))
+pub text_past : (edition : Edition) (old new : Option (List ℕ)) (bytes : List ℕ) → Consumes old new bytes → 1048576 < length bytes → AreWaived edition true old (Err WaiversTooLarge)
+text_past edition None new bytes consumed large = tt
+text_past edition (Some input) None bytes consumed large = absurd consumed
+text_past edition (Some input) (Some rest) bytes consumed large = waivers_in-large edition input (omega (arith, ap length consumed, length-append bytes rest))
 
 -- An empty text has no waivers.
-pub no_text : Ok [] ≡ as_waivers (waivers_of [])
+pub no_text : (edition : Edition) → Ok [] ≡ as_waivers (waivers_of edition [])
 unfolding lines_from lines_read
-no_text = refl
+no_text edition = refl
 
 -- A source that is read.
 pub was_asked : (old new : SourceState) → new.failed ≡ old.failed → StopsAt 1048576 old new ⊥ → IsHeard true old new
@@ -88,23 +89,23 @@ pub not_asked : (old : SourceState) → IsHeard false old old
 not_asked old = record { unasked = λ unasked. refl; failed = refl; whole = λ asked. absurd (true≢false (sym asked)) }
 
 -- What is so of a reading is so of the text that is read so; and what is so of any is.
-pub of-waived : (P : Result (List Waiver) Reason → Type 0) (asked : Bool) (text : Option (List ℕ)) (waived : Result (List Waiver) Reason)
-    → AreWaived asked text waived → P waived → IfWaived asked text P
-of-waived P false text waived is holds = subst P (sym is) holds
-of-waived P true None waived is holds = tt
-of-waived P true (Some text) waived is holds = subst P (sym is) holds
+pub of-waived : (edition : Edition) (P : Result (List Waiver) Reason → Type 0) (asked : Bool) (text : Option (List ℕ)) (waived : Result (List Waiver) Reason)
+    → AreWaived edition asked text waived → P waived → IfWaived edition asked text P
+of-waived edition P false text waived is holds = subst P (sym is) holds
+of-waived edition P true None waived is holds = tt
+of-waived edition P true (Some text) waived is holds = subst P (sym is) holds
 
-pub of-any : (P : Result (List Waiver) Reason → Type 0) (asked : Bool) (text : Option (List ℕ))
-    → ((waived : Result (List Waiver) Reason) → P waived) → IfWaived asked text P
-of-any P false text all = all (Ok [])
-of-any P true None all = tt
-of-any P true (Some text) all = all (waivers_in text)
+pub of-any : (edition : Edition) (P : Result (List Waiver) Reason → Type 0) (asked : Bool) (text : Option (List ℕ))
+    → ((waived : Result (List Waiver) Reason) → P waived) → IfWaived edition asked text P
+of-any edition P false text all = all (Ok [])
+of-any edition P true None all = tt
+of-any edition P true (Some text) all = all (waivers_in edition text)
 
-pub waived-weaker : (P Q : Result (List Waiver) Reason → Type 0) (asked : Bool) (text : Option (List ℕ))
-    → ((waived : Result (List Waiver) Reason) → P waived → Q waived) → IfWaived asked text P → IfWaived asked text Q
-waived-weaker P Q false text on holds = on (Ok []) holds
-waived-weaker P Q true None on holds = tt
-waived-weaker P Q true (Some text) on holds = on (waivers_in text) holds
+pub waived-weaker : (edition : Edition) (P Q : Result (List Waiver) Reason → Type 0) (asked : Bool) (text : Option (List ℕ))
+    → ((waived : Result (List Waiver) Reason) → P waived → Q waived) → IfWaived edition asked text P → IfWaived edition asked text Q
+waived-weaker edition P Q false text on holds = on (Ok []) holds
+waived-weaker edition P Q true None on holds = tt
+waived-weaker edition P Q true (Some text) on holds = on (waivers_in edition text) holds
 
 -- ---- the text that was had
 
@@ -112,13 +113,13 @@ waived-weaker P Q true (Some text) on holds = on (waivers_in text) holds
 pub had : (old new : SourceState) (bytes : List ℕ) → AreAll 1048576 old new bytes → IsWaiverText true old new bytes
 had old new bytes all = record {
   few = all.few;
-  read = text_is old.left new.left bytes all.consumed all.end all.few;
+  read = λ edition. text_is edition old.left new.left bytes all.consumed all.end all.few;
   heard = was_asked old new all.kept (the_end all.end);
 }
 
 pub had_none : (old new : SourceState) (failure : Failure) → AreUnread 1048576 WaiversTooLarge old new failure → IsNoWaiverText true old new failure
 had_none old new failure (past bytes consumed many kept is) =
-    too_large (text_past old.left new.left bytes consumed many) (was_asked old new kept (past_limit bytes consumed many)) is
+    too_large (λ edition. text_past edition old.left new.left bytes consumed many) (was_asked old new kept (past_limit bytes consumed many)) is
 had_none old new failure (broken failed is) = read_failed refl failed is
 had_none old new failure (unroomed kept is) = no_memory (record { unasked = λ unasked. absurd (true≢false unasked); failed = kept }) is
 

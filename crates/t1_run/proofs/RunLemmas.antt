@@ -71,7 +71,7 @@ module _ {Options : Type 0} (program : Meaning Options) (options : Options) (fon
   pub unasked_ends : asks_waivers program options ≡ false → waivers.new ≡ waivers.old → program.Shows options font [] sinks.old sinks.new result
       → EndsSo
   unasked_ends unasked same shows =
-      shown [] (subst (λ (b : Bool). AreWaived b waivers.old.left (Ok [])) (sym unasked) refl)
+      shown [] (subst (λ (b : Bool). AreWaived (program.edition options) b waivers.old.left (Ok [])) (sym unasked) refl)
       (subst (λ (b : Bool). IsHeard b waivers.old waivers.new) (sym unasked)
       (subst (IsHeard false waivers.old) (sym same) (not_asked waivers.old))) shows
 
@@ -79,30 +79,30 @@ module _ {Options : Type 0} (program : Meaning Options) (options : Options) (fon
     heard_as : IsHeard true waivers.old waivers.new → IsHeard (asks_waivers program options) waivers.old waivers.new
     heard_as heard = subst (λ (b : Bool). IsHeard b waivers.old waivers.new) (sym asked) heard
 
-    waived_as : (waived : Result (List Waiver) Reason) → AreWaived true waivers.old.left waived
-        → AreWaived (asks_waivers program options) waivers.old.left waived
-    waived_as waived are = subst (λ (b : Bool). AreWaived b waivers.old.left waived) (sym asked) are
+    waived_as : (waived : Result (List Waiver) Reason) → AreWaived (program.edition options) true waivers.old.left waived
+        → AreWaived (program.edition options) (asks_waivers program options) waivers.old.left waived
+    waived_as waived are = subst (λ (b : Bool). AreWaived (program.edition options) b waivers.old.left waived) (sym asked) are
 
     -- Their text can't be had.
     pub untold_ends : (failure : Failure) → IsNoWaiverText true waivers.old waivers.new failure → sinks.new.out ≡ sinks.old.out
         → Tells (failure_line program.name failure) (failure_status failure) sinks.old.errors sinks.new.errors result → EndsSo
     untold_ends failure (large_text waived heard is) same tells =
-        waivers_refused WaiversTooLarge (waived_as _ waived) (heard_as heard) same (rw is at tells)
+        waivers_refused WaiversTooLarge (waived_as _ (waived (program.edition options))) (heard_as heard) same (rw is at tells)
     untold_ends failure (unread_text was failed is) same tells = waivers_unread asked failed same (rw is at tells)
     untold_ends failure (no_text kept is) same tells = no_room asked kept.failed same (rw is at tells)
 
     -- Their text is read as waivers.
     pub waived_ends : (text : List ℕ) (waived : List Waiver) → IsWaiverText true waivers.old waivers.new text
-        → waivers_of text ≡ Some waived → program.Shows options font waived sinks.old sinks.new result → EndsSo
+        → waivers_of (program.edition options) text ≡ Some waived → program.Shows options font waived sinks.old sinks.new result → EndsSo
     waived_ends text waived had read shows =
-        shown waived (waived_as _ (subst (AreWaived true waivers.old.left) (ap as_waivers read) had.read)) (heard_as had.heard) shows
+        shown waived (waived_as _ (subst (AreWaived (program.edition options) true waivers.old.left) (ap as_waivers read) (had.read (program.edition options)))) (heard_as had.heard) shows
 
     -- It isn't, or memory ran out.
     pub unwaived_ends : {W : Type 0} (value : W → List Waiver) (text : List ℕ) (error : WaiverError) → IsWaiverText true waivers.old waivers.new text
-        → IsReadAs value (waivers_of text) (Err error) → sinks.new.out ≡ sinks.old.out
+        → IsReadAs value (waivers_of (program.edition options) text) (Err error) → sinks.new.out ≡ sinks.old.out
         → Tells (failure_line program.name (failure_of (Waivers error))) (failure_status (failure_of (Waivers error))) sinks.old.errors
         sinks.new.errors result → EndsSo
     unwaived_ends value text Malformed had none same tells =
-        waivers_refused (Waivers Malformed) (waived_as _ (subst (AreWaived true waivers.old.left) (ap as_waivers none) had.read)) (heard_as had.heard)
+        waivers_refused (Waivers Malformed) (waived_as _ (subst (AreWaived (program.edition options) true waivers.old.left) (ap as_waivers none) (had.read (program.edition options)))) (heard_as had.heard)
         same tells
     unwaived_ends value text Memory had any same tells = no_room asked had.heard.failed same tells

@@ -2,6 +2,7 @@
 use Rattle.std.specs.Prelude.{◌≡◌, ℕ, Bool, true, false, List, Option, Ok, Err}
 use Rattle.std.specs.Option.{is_some}
 use Rattle.clap.specs.Words.{Text}
+use Rattle.t1_char.specs.declared.edition.Edition.{Edition}
 use Rattle.t1_font.specs.Fonts.{FontValue}
 use Rattle.t1_io.specs.Devices.{SourceState}
 use Rattle.t1_refusals.specs.declared.refusal.Reason.{Reason}
@@ -25,6 +26,8 @@ pub record Meaning (Options : Type 0) : Type 1 where
   -- The name of the font's file, without which standard input is read, and of the file of waivers that is to be read.
   pub font : Options → Option Text
   pub waivers : Options → Option Text
+  -- The edition of the rule book, by which waivers are read.
+  pub edition : Options → Edition
   -- What was requested of a font was printed, by waivers, with this status.
   pub Shows : Options → FontValue → List Waiver → Sinks → Sinks → Status → Type 0
 
@@ -36,12 +39,12 @@ asks_waivers program options = is_some (program.waivers options)
 pub data EndsWith {Options : Type 0} (program : Meaning Options) (options : Options) (font : FontValue) (waivers : Transition SourceState)
     (sinks : Transition Sinks) (result : Status) : Type 0 where
   shown :
-      (waived : List Waiver) → AreWaived (asks_waivers program options) waivers.old.left (Ok waived)
+      (waived : List Waiver) → AreWaived (program.edition options) (asks_waivers program options) waivers.old.left (Ok waived)
       → IsHeard (asks_waivers program options) waivers.old waivers.new → program.Shows options font waived sinks.old sinks.new result
       → EndsWith program options font waivers sinks result
   -- status 2
   waivers_refused :
-      (reason : Reason) → AreWaived (asks_waivers program options) waivers.old.left (Err reason)
+      (reason : Reason) → AreWaived (program.edition options) (asks_waivers program options) waivers.old.left (Err reason)
       → IsHeard (asks_waivers program options) waivers.old waivers.new → sinks.new.out ≡ sinks.old.out
       → Tells (failure_line program.name (failure_of reason)) Refused sinks.old.errors sinks.new.errors result
       → EndsWith program options font waivers sinks result

@@ -7,6 +7,7 @@ use crate::status::Status;
 use crate::usage::UsageError;
 use std::alloc::Global;
 use std::convert::AsStr;
+use t1_char::Edition;
 use t1_font::Font;
 use t1_io::Sink;
 use t1_report::Waivers;
@@ -35,6 +36,10 @@ pub trait Program: Drop {
     /// The name of the file of waivers that is to be read, if one is.
     fn waivers(&self) -> Option<&str>
         ensures { option_map (λ s. s.now) result ≡ meaning.waivers self.now };
+
+    /// The edition of the rule book, by which waivers are read.
+    fn edition(&self) -> Edition
+        ensures { result ≡ meaning.edition self.now };
 
     /// Prints what the options request of a font, by waivers: none, where no file of them is to be read.
     fn show<W: Sink, E: Sink>(

@@ -108,7 +108,7 @@ fn show_font<P: Program, V: Source, W: Sink, E: Sink>(
         Ok(text) => text,
         Err(failure) => return tell_failure(P::name(), failure, errors),
     };
-    match Waivers::read(alloc, text.as_slice()) {
+    match Waivers::read(alloc, text.as_slice(), options.edition()) {
         Ok(waivers) => options.show(alloc, font, &waivers, out, errors),
         Err(error) => tell_failure(P::name(), Failure::from(error), errors),
     }

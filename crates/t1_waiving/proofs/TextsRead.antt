@@ -1,11 +1,11 @@
 -- The text of waivers that is written of a report is read as these.
-use Rattle.std.proofs.Common.{◌≡◌, ◌<◌, ℕ, zero, suc, ◌+◌, ◌-◌, ◌==◌, ◌&&◌, Bool, true, false, true≢false, nat_le, nat_lt, Option, Some, None, List, [], ◌∷◌, filter, length, map, get_or, slice_get, inl, inr, refl, sym, ap, subst, ◌∙◌, arith}
-use Rattle.std.proofs.lemmas.Bool.{and_parts, cases_Bool, eqb-true}
-use Rattle.std.proofs.lemmas.List.Folds.{list_all-append}
+use Rattle.std.proofs.Common.{◌≡◌, ◌<◌, ℕ, zero, suc, ◌+◌, ◌-◌, ◌==◌, ◌&&◌, ◌||◌, ◌≤◌, ◌⊎◌, Bool, true, false, true≢false, nat_le, nat_lt, Option, Some, None, List, [], ◌∷◌, filter, length, map, get_or, slice_get, inl, inr, refl, sym, ap, subst, ◌∙◌, arith}
+use Rattle.std.proofs.Math.Bool.{or-true}
+use Rattle.std.proofs.lemmas.Bool.{and_parts, cases_Bool, eqb-true, le-leb, or_cases}
 use Rattle.std.specs.List.{All, AllByRecursion, list_all}
 use Rattle.t1_char.specs.Steps.{StepView, steps_of}
 use Rattle.t1_char.specs.declared.edition.Edition.{Edition}
-use Rattle.t1_char.specs.declared.edition.Edition.TheVariants.{One, Three, Two}
+use Rattle.t1_char.specs.Editions.{has_later_rules}
 use Rattle.t1_font.specs.Fonts.{FontValue, glyph_name, name_in}
 use Rattle.t1_lines.specs.Lines.{FaultLineValue, IsFaultLine, at_step, line_in}
 use Rattle.t1_lines.specs.Names.{HasNames}
@@ -21,11 +21,13 @@ use Rattle.t1_report.specs.Waivers.{Waiver, is_waivable, waivers_of, with_waiver
 use Rattle.t1_rules.specs.Book.{number_of}
 use Rattle.t1_rules.specs.Components.{components_of}
 use Rattle.t1_rules.specs.Mask.{has}
-use Rattle.t1_rules.specs.StepRules.{StepRule, argument_rules, breaks, breaks_next, call_rules, charstring_rules, component_rules, flex_rules, othersubr_rules, path_rules, seac_rules, stem_rules, step_rules}
+use Rattle.t1_rules.specs.StepRules.{breaks, breaks_next, charstring_rules, component_rules, step_rules}
 use Rattle.t1_rules.specs.declared.sidebearings.Component.{Component}
 use Rattle.t1_rules.specs.declared.mask.Mask.{Mask}
 use Rattle.t1_rules.specs.declared.rule.Rule.{Rule}
-use Rattle.t1_rules.specs.declared.rule.Rule.TheVariants.{C01, L01}
+use Rattle.t1_rules.specs.declared.rule.Rule.TheVariants.{L01}
+use Rattle.t1_rules.proofs.Lemmas.Editions.{all_rules}
+use Rattle.t1_rules.proofs.Lemmas.StepRules.{broken_have_these_numbers, number_between}
 use Rattle.t1_scan.specs.Bytes.{is_regular}
 use Rattle.t1_waiving.proofs.WrittenOnce.{glyph_bounds, place_in_glyph, place_outside}
 use Rattle.t1_waiving.specs.GlyphLines.{is_in_glyph}
@@ -35,61 +37,62 @@ use Rattle.t1_waiving.specs.Reports.{report_waivers}
 
 -- ---- what a step of a glyph breaks can be waived
 
-abbrev all_waivable : List StepRule → Bool
-all_waivable rules = list_all (λ (r : StepRule). is_waivable r.rule) rules
+-- Each of these numbers is one of a rule that an edition waives.
+of_steps : (edition : Edition) (rule : Rule)
+    → ((26 ≤ number_of rule) × (number_of rule ≤ 67)) ⊎ ((has_later_rules edition ≡ true) × ((86 ≤ number_of rule) × (number_of rule ≤ 93)))
+    → is_waivable edition rule ≡ true
+of_steps edition rule (inl (least, greatest)) =
+    let low : nat_le 26 (number_of rule) ≡ true = le-leb 26 (number_of rule) least in
+    let high : nat_le (number_of rule) 69 ≡ true = le-leb (number_of rule) 69 (omega (arith, greatest)) in
+    rw (low, high) refl
+of_steps edition rule (inr (has, (least, greatest))) =
+    let low : nat_le 86 (number_of rule) ≡ true = le-leb 86 (number_of rule) least in
+    let high : nat_le (number_of rule) 93 ≡ true = le-leb (number_of rule) 93 greatest in
+    rw (has, low, high) (or-true (nat_le 26 (number_of rule) && nat_le (number_of rule) 69))
 
-step_waivable : (edition : Edition) → all_waivable (step_rules edition) ≡ true
-unfolding step_rules argument_rules call_rules path_rules stem_rules flex_rules othersubr_rules seac_rules
-step_waivable One = refl
-step_waivable Two = refl
-step_waivable Three = refl
-
-component_waivable : (components : List Component) → all_waivable (component_rules components) ≡ true
+component_number : (components : List Component) (n : ℕ) (before : List StepView) (step : StepView) → breaks (component_rules components) n before step ≡ true
+    → (64 ≤ n) × (n ≤ 68)
 unfolding component_rules
-component_waivable components = refl
+component_number components = number_between 64 68 (component_rules components) refl
 
-charstring_waivable : (edition : Edition) (components : List Component) → all_waivable (charstring_rules edition components) ≡ true
-unfolding charstring_rules
-charstring_waivable edition components =
-    list_all-append (λ (r : StepRule). is_waivable r.rule) (step_rules edition) (component_rules components)
-    ∙ rw (step_waivable edition, component_waivable components) refl
+of_components : (edition : Edition) (rule : Rule) → (64 ≤ number_of rule) × (number_of rule ≤ 68) → is_waivable edition rule ≡ true
+of_components edition rule (least, greatest) =
+    let low : nat_le 26 (number_of rule) ≡ true = le-leb 26 (number_of rule) (omega (arith, least)) in
+    let high : nat_le (number_of rule) 69 ≡ true = le-leb (number_of rule) 69 (omega (arith, greatest)) in
+    rw (low, high) refl
 
--- Whether a rule can be waived is said by its number.
-by_number : (a b : Rule) → number_of a ≡ number_of b → is_waivable a ≡ true → is_waivable b ≡ true
-by_number a b same is = subst (λ n. (nat_le (number_of C01) n && nat_le n (number_of L01)) ≡ true) same is
+of_limit : (edition : Edition) (rule : Rule) → number_of L01 ≡ number_of rule → is_waivable edition rule ≡ true
+of_limit edition rule same = subst (λ n. (nat_le 26 n && nat_le n 69 || has_later_rules edition && (nat_le 86 n && nat_le n 93)) ≡ true) same refl
 
-breaks_waivable : (rules : List StepRule) → all_waivable rules ≡ true → (before : List StepView) (step : StepView) (rule : Rule)
-    → breaks rules (number_of rule) before step ≡ true → is_waivable rule ≡ true
-breaks_waivable [] all before step rule is = absurd (true≢false (sym is))
-breaks_waivable (r ∷ rules) all before step rule is =
-    let parts = and_parts (is_waivable r.rule) (all_waivable rules) all in
-    elim (cases_Bool (r.is_broken before step && number_of r.rule == number_of rule)) [
-      | inl here ↦
-          let both = and_parts (r.is_broken before step) (number_of r.rule == number_of rule) here in
-          by_number r.rule rule (eqb-true (number_of r.rule) (number_of rule) both.1) parts.0
-      | inr other ↦ breaks_waivable rules parts.1 before step rule (rw other at is)
-    ]
+module _ (edition : Edition) (components : List Component) (rule : Rule) where
+  breaks_waivable : (before : List StepView) (step : StepView) → breaks (charstring_rules edition components) (number_of rule) before step ≡ true
+      → is_waivable edition rule ≡ true
+  breaks_waivable before step is =
+      elim (or_cases (breaks (step_rules edition) (number_of rule) before step) (breaks (component_rules components) (number_of rule) before step)
+      (sym (all_rules edition components (number_of rule) before step) ∙ is)) [
+        | inl own ↦ of_steps edition rule (broken_have_these_numbers edition (number_of rule) before step own)
+        | inr other ↦ of_components edition rule (component_number components (number_of rule) before step other)
+      ]
 
-next_waivable : (rules : List StepRule) → all_waivable rules ≡ true → (before : List StepView) (step : Option StepView) (rule : Rule)
-    → breaks_next rules (number_of rule) before step ≡ true → is_waivable rule ≡ true
-next_waivable rules all before None rule is = absurd (true≢false (sym is))
-next_waivable rules all before (Some step) rule is = breaks_waivable rules all before step rule is
+  next_waivable : (before : List StepView) (step : Option StepView) → breaks_next (charstring_rules edition components) (number_of rule) before step ≡ true
+      → is_waivable edition rule ≡ true
+  next_waivable before None is = absurd (true≢false (sym is))
+  next_waivable before (Some step) is = breaks_waivable before step is
 
-step_broken : (limit : ℕ) (rules : List StepRule) → all_waivable rules ≡ true → (steps : List StepView) (i : ℕ) (rule : Rule)
-    → step_breaks limit rules (number_of rule) steps i ≡ true → is_waivable rule ≡ true
-step_broken limit rules all steps i rule is = elim (cases_Bool (nat_lt i limit)) [
-  | inl before ↦ next_waivable rules all _ (slice_get steps i) rule (rw before at is)
-  | inr past ↦
-      let last : ((i == limit && nat_lt i (length steps)) && number_of L01 == number_of rule) ≡ true = rw past at is in
-      by_number L01 rule (eqb-true (number_of L01) (number_of rule) (and_parts _ _ last).1) refl
-]
+  step_broken : (limit : ℕ) (steps : List StepView) (i : ℕ) → step_breaks limit (charstring_rules edition components) (number_of rule) steps i ≡ true
+      → is_waivable edition rule ≡ true
+  step_broken limit steps i is = elim (cases_Bool (nat_lt i limit)) [
+    | inl before ↦ next_waivable _ (slice_get steps i) (rw before at is)
+    | inr past ↦
+        let last : ((i == limit && nat_lt i (length steps)) && number_of L01 == number_of rule) ≡ true = rw past at is in
+        of_limit edition rule (eqb-true (number_of L01) (number_of rule) (and_parts _ _ last).1)
+  ]
 
-broken_waivable : (font : CheckedFont) (glyph step : ℕ) (rule : Rule) → is_broken font (suc glyph) step (number_of rule) ≡ true → is_waivable rule ≡ true
+broken_waivable : (font : CheckedFont) (glyph step : ℕ) (rule : Rule) → is_broken font (suc glyph) step (number_of rule) ≡ true → is_waivable font.edition rule ≡ true
 unfolding is_broken rules_of
 broken_waivable font glyph zero rule is = absurd (true≢false (sym is))
 broken_waivable font glyph (suc i) rule is =
-    step_broken (step_limit font) (charstring_rules font.edition (components_of (step_limit font) font.value))
-    (charstring_waivable font.edition (components_of (step_limit font) font.value)) (steps_of font.value glyph) i rule (and_parts _ _ is).1
+    step_broken font.edition (components_of (step_limit font) font.value) rule (step_limit font) (steps_of font.value glyph) i (and_parts _ _ is).1
 
 -- ---- the lines of glyphs, each with its glyph and its rule alone
 
@@ -99,7 +102,7 @@ stand_in font fault = record { number = 0; place = at_step (glyph_name font (fau
 abbrev glyph_faults : Mask → FontValue → List FaultValue → List FaultValue
 glyph_faults rules font faults = filter (λ fault. has rules (number_of fault.rule) && is_in_glyph font fault) faults
 
-module _ (rules : Mask) (font : FontValue) where
+module _ (rules : Mask) (edition : Edition) (font : FontValue) where
   same_waivers : (faults : List FaultValue) (so_far : List Waiver) → waivers_behind so_far (map (line_in font []) (told_faults rules faults))
       ≡ waivers_behind so_far (map (stand_in font) (glyph_faults rules font faults))
   same_waivers [] so_far = refl
@@ -118,11 +121,11 @@ module _ (rules : Mask) (font : FontValue) where
   -- A glyph's name is regular, and the rule can be waived.
   record Fits (fault : FaultValue) : Type 0 where
     pub name : list_all is_regular (glyph_name font (fault.unit - 1)) ≡ true
-    pub rule : is_waivable fault.rule ≡ true
+    pub rule : is_waivable edition fault.rule ≡ true
 
   can_be_waived : (faults : List FaultValue)
       → ((fault : FaultValue) (k : ℕ) → k < length faults → get_or faults k fault ≡ fault → is_in_glyph font fault ≡ true → Fits fault)
-      → AllByRecursion (λ (l : FaultLineValue). IsFaultLine l × CanBeWaived l.place l.rule) (map (stand_in font) (glyph_faults rules font faults))
+      → AllByRecursion (λ (l : FaultLineValue). IsFaultLine l × CanBeWaived edition l.place l.rule) (map (stand_in font) (glyph_faults rules font faults))
   can_be_waived [] each = tt
   can_be_waived (f ∷ faults) each = elim (cases_Bool (has rules (number_of f.rule) && is_in_glyph font f)) [
     | inr out ↦ rw out (can_be_waived faults (λ fault k less at. each fault (suc k) (omega (arith, less)) at))
@@ -145,7 +148,7 @@ and_true true = refl
 and_true false = refl
 
 fits : (rules : Mask) (font : CheckedFont) → HasNames font.value → (fault : FaultValue)
-    → is_told font [] fault.unit fault.step (number_of fault.rule) ≡ true → is_in_glyph font.value fault ≡ true → Fits rules font.value fault
+    → is_told font [] fault.unit fault.step (number_of fault.rule) ≡ true → is_in_glyph font.value fault ≡ true → Fits rules font.edition font.value fault
 fits rules font names fault told in_glyph =
     let n = number_of fault.rule in
     let bounds = glyph_bounds font.value fault in_glyph (told_within font [] fault.unit fault.step n told) in
@@ -161,9 +164,9 @@ fits rules font names fault told in_glyph =
 pub texts_are_read : WrittenTextsAreRead
 texts_are_read rules font faults names report =
     let same : report_waivers rules font.value [] faults ≡ waivers_behind [] (map (stand_in font.value) (glyph_faults rules font.value faults)) =
-    same_waivers rules font.value faults [] in
-    ap (λ (ws : List Waiver). waivers_of (waivers_text ws)) same
-    ∙ written_are_read (map (stand_in font.value) (glyph_faults rules font.value faults))
-    (can_be_waived rules font.value faults (λ fault k less at in_glyph. fits rules font names fault
+    same_waivers rules font.edition font.value faults [] in
+    ap (λ (ws : List Waiver). waivers_of font.edition (waivers_text ws)) same
+    ∙ written_are_read font.edition (map (stand_in font.value) (glyph_faults rules font.value faults))
+    (can_be_waived rules font.edition font.value faults (λ fault k less at in_glyph. fits rules font names fault
     (subst (λ (x : FaultValue). is_told font [] x.unit x.step (number_of x.rule) ≡ true) at (report.violations k fault less).violated) in_glyph))
     ∙ ap (λ (ws : List Waiver). Some ws) (sym same)

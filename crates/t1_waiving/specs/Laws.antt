@@ -13,12 +13,12 @@ use Rattle.t1_rules.specs.declared.mask.Mask.{Mask}
 use Rattle.t1_waiving.specs.GlyphLines.{is_in_glyph}
 use Rattle.t1_waiving.specs.Reports.{report_text, report_waivers}
 
--- The text of waivers that is written of a font's report is read as exactly these. No name of its glyphs may have a
+-- The text of waivers that is written of a font's report is read by its edition as exactly these. No name of its glyphs may have a
 -- blank or a delimiter.
 abbrev pub WrittenTextsAreRead : Type 0
 WrittenTextsAreRead =
     (rules : Mask) (font : CheckedFont) (faults : List FaultValue) → HasNames font.value → IsReport font [] faults
-    → waivers_of (report_text rules font.value [] faults) ≡ Some (report_waivers rules font.value [] faults)
+    → waivers_of font.edition (report_text rules font.value [] faults) ≡ Some (report_waivers rules font.value [] faults)
 
 -- With the waivers that are written of a font's report, by the same edition, no line of these rules is left in a glyph.
 abbrev pub NoGlyphLineIsLeft : Type 0

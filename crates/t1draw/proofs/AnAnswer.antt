@@ -1,5 +1,6 @@
 -- Options, a font's file and the text of waivers have an answer.
 use Rattle.std.proofs.Common.{◌≡◌, ℕ, Bool, true, false, List, Option, None, Some, Result, Ok, Err, IfOk, refl, arith}
+use Rattle.t1_char.specs.declared.edition.Edition.{Edition}
 use Rattle.t1_font.specs.Fonts.{FontValue}
 use Rattle.t1_font.specs.Laws.Limits.{FontsWithinLimits}
 use Rattle.t1_refusals.specs.declared.refusal.Reason.{Reason}
@@ -13,9 +14,9 @@ use Rattle.t1draw.specs.Answers.{drawing}
 use Rattle.t1draw.specs.Laws.{Answer, HasAnAnswer, IsAnswerAt, IsAnswerTo, Wish, waived_by, wish_of}
 use Rattle.t1draw.specs.Laws.Answer.{NoGlyph, Picture, Unread as NotRead}
 
-of_asked : (asked : Bool) (text : List ℕ) → IfOk (waived_by asked text) AreFew
-of_asked true text = of_text text
-of_asked false text = omega arith
+of_asked : (edition : Edition) (asked : Bool) (text : List ℕ) → IfOk (waived_by edition asked text) AreFew
+of_asked edition true text = of_text edition text
+of_asked edition false text = omega arith
 
 has_at : HasPicture → (wish : Wish) (font : FontValue) (waivers : List Waiver) (glyph : Option ℕ) → HasFew font → AreFew waivers
     → (answer : Answer) × IsAnswerAt wish font waivers glyph answer
@@ -32,4 +33,4 @@ has_to has wish (Ok font) (Ok waivers) few are = has_at has wish font waivers (g
 
 pub an_answer : HasPicture → FontsWithinLimits → HasAnAnswer
 an_answer has limits options file text =
-    has_to has (wish_of options) (font_of file) (waived_by (asks_waivers drawing options) text) (of_file limits file) (of_asked (asks_waivers drawing options) text)
+    has_to has (wish_of options) (font_of file) (waived_by (wish_of options).edition (asks_waivers drawing options) text) (of_file limits file) (of_asked (wish_of options).edition (asks_waivers drawing options) text)

@@ -68,6 +68,6 @@ same_asking words options options' given given' =
 
 pub one_answer : HasNoOtherPicture → HasNoOtherAnswer
 one_answer no_other words options options' file text a b given given' is is' =
-    one_to no_other (wish_of options) (font_of file) (waived_by (asks_waivers drawing options) text) a b is
-    (subst (λ (asked : Bool). IsAnswerTo (wish_of options) (font_of file) (waived_by asked text) b) (same_asking words options options' given given')
-    (subst (λ (wish : Wish). IsAnswerTo wish (font_of file) (waived_by (asks_waivers drawing options') text) b) (same_wish words options options' given given') is'))
+    one_to no_other (wish_of options) (font_of file) (waived_by (wish_of options).edition (asks_waivers drawing options) text) a b is
+    (subst (λ (asked : Bool). IsAnswerTo (wish_of options) (font_of file) (waived_by (wish_of options).edition asked text) b) (same_asking words options options' given given')
+    (subst (λ (wish : Wish). IsAnswerTo wish (font_of file) (waived_by wish.edition (asks_waivers drawing options') text) b) (same_wish words options options' given given') is'))

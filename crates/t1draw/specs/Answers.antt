@@ -12,5 +12,6 @@ drawing = record {
   Refuses = AreUntaken;
   font = λ (options : Options). option_map string_bytes options.font;
   waivers = λ (options : Options). option_map string_bytes options.waive;
+  edition = λ (options : Options). options.edition;
   Shows = Draws;
 }

@@ -45,12 +45,12 @@ IsAnswerTo wish (Ok font) (Err why) answer = answer ≡ Unread why
 IsAnswerTo wish (Ok font) (Ok waivers) answer = IsAnswerAt wish font waivers (glyph_named font wish.name) answer
 
 -- The waivers of a text, where they are requested; else there are none.
-abbrev pub waived_by : Bool → List ℕ → Result (List Waiver) Reason
-waived_by asked text = if asked then waivers_in text else Ok []
+abbrev pub waived_by : Edition → Bool → List ℕ → Result (List Waiver) Reason
+waived_by edition asked text = if asked then waivers_in edition text else Ok []
 
 -- This is answered to options, the bytes of the font's file and the text of the waivers.
 abbrev pub IsAnswer : Options → List ℕ → List ℕ → Answer → Type 0
-IsAnswer options file text answer = IsAnswerTo (wish_of options) (font_of file) (waived_by (asks_waivers drawing options) text) answer
+IsAnswer options file text answer = IsAnswerTo (wish_of options) (font_of file) (waived_by (wish_of options).edition (asks_waivers drawing options) text) answer
 
 -- There is an answer.
 abbrev pub HasAnAnswer : Type 0

@@ -42,7 +42,7 @@ const ARGUMENTS: &[Argument<'static>] = &[
         name: "edition",
         kind: ArgumentKind::Edition,
         value: "N",
-        help: "Finds faults by edition 1 or 2 of the rule book [default: 1]",
+        help: "Finds faults by edition 1, 2 or 3 of the rule book [default: 1]",
     },
     Argument {
         name: "waive",
@@ -109,6 +109,10 @@ impl Program for Options {
 
     fn waivers(&self) -> Option<&str> {
         borrowed(&self.waive)
+    }
+
+    fn edition(&self) -> Edition {
+        self.edition
     }
 
     fn show<W: Sink, E: Sink>(

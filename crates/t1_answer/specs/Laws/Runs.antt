@@ -27,7 +27,7 @@ pub record Gave (answer : Answer) (result : Status) (sinks : Transition Sinks) :
 -- It is so of what the font's file and the waivers are read as, where their bytes are known.
 abbrev pub IfKnown : Options → Option (List ℕ) → Option (List ℕ)
     → (Result FontValue Reason → Result (List Waiver) Reason → Type 0) → Type 0
-IfKnown options left text P = IfSome left (λ input. IfWaived (asks_waivers options) text (P (font_of input)))
+IfKnown options left text P = IfSome left (λ input. IfWaived options.edition (asks_waivers options) text (P (font_of input)))
 
 -- The answer to files that were read so was printed.
 abbrev pub Answered : Options → Status → Transition Sinks → Result FontValue Reason → Result (List Waiver) Reason → Type 0

@@ -23,27 +23,27 @@ IsFont font = (bytes : List ℕ) × (font_in bytes ≡ Ok font)
 
 -- What is known of the waivers' text, of its file, of the font's bytes, and of their file, each wrapped around
 -- the one before.
-abbrev pub of_text : FontValue → List ℕ → Given
-of_text font text = record {
+abbrev pub of_text : Edition → FontValue → List ℕ → Given
+of_text edition font text = record {
   Reads = λ read. read ≡ Ok font;
   Breaks = ⊥;
-  Waives = λ waived. as_waivers (waivers_of text) ≡ waived;
+  Waives = λ waived. as_waivers (waivers_of edition text) ≡ waived;
   BreaksWaivers = ⊥;
 }
 
-abbrev pub of_font : FontValue → Bool → SourceState → SourceState → Given
-of_font font asked old new = record {
+abbrev pub of_font : Edition → FontValue → Bool → SourceState → SourceState → Given
+of_font edition font asked old new = record {
   Reads = λ read. read ≡ Ok font;
   Breaks = ⊥;
-  Waives = λ waived. AreWaived asked old.left waived × IsHeard asked old new;
+  Waives = λ waived. AreWaived edition asked old.left waived × IsHeard asked old new;
   BreaksWaivers = (asked ≡ true) × (new.failed ≡ true);
 }
 
-abbrev pub of_bytes : List ℕ → Bool → SourceState → SourceState → Given
-of_bytes bytes asked old new = record {
+abbrev pub of_bytes : Edition → List ℕ → Bool → SourceState → SourceState → Given
+of_bytes edition bytes asked old new = record {
   Reads = λ read. with_reason (font_in bytes) ≡ read;
   Breaks = ⊥;
-  Waives = λ waived. AreWaived asked old.left waived × IsHeard asked old new;
+  Waives = λ waived. AreWaived edition asked old.left waived × IsHeard asked old new;
   BreaksWaivers = (asked ≡ true) × (new.failed ≡ true);
 }
 

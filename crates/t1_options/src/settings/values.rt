@@ -2,12 +2,13 @@
 
 ghost use Rattle.std.specs.Prelude.{◌≡◌, IfOk, map, option_and_then, option_map, string_bytes};
 ghost use Rattle.t1_options.specs.Settings.Paths.{glob_below};
-ghost use Rattle.t1_options.specs.Settings.Values.{alone, edition_in, edition_text, file_below, globs_below, is_unfit, list_in, names_in, some_texts, text_in, texts_in};
+ghost use Rattle.t1_options.specs.Settings.Values.{alone, edition_in, edition_text, file_below, globs_below, is_unfit, list_in, names_in, number_text, some_texts, text_in, texts_in};
 ghost use Rattle.toml.specs.View.{items_view, view};
 
 use super::paths::{below, glob_below};
 use crate::values::{baseline, has_line_end};
 use std::alloc::{AllocError, Global};
+use t1_char::Edition;
 use toml::Value;
 
 /// The name of a file below a folder.
@@ -31,16 +32,24 @@ pub(crate) fn edition_in(value: &Value) -> Option<&'static str>
     edition_text(value.as_integer()?)
 }
 
-/// The number of an edition as a text.
+/// The number of an edition as a text, if there is one of that number.
 fn edition_text(number: i64) -> Option<&'static str>
     ensures { option_map (λ s. s.now) result ≡ edition_text number }
 {
-    if number == 1 {
-        Some("1")
-    } else if number == 2 {
-        Some("2")
-    } else {
-        None
+    if number < 0 {
+        return None;
+    }
+    Some(number_text(Edition::numbered(number.unsigned_abs())?))
+}
+
+/// The number of an edition as a text.
+fn number_text(edition: Edition) -> &'static str
+    ensures { result.now ≡ number_text edition }
+{
+    match edition {
+        Edition::One => "1",
+        Edition::Two => "2",
+        Edition::Three => "3",
     }
 }
 

@@ -9,6 +9,7 @@ const TEXTS: &[(&str, &str)] = &[
     ("# nothing\n\n", ""),
     ("edition = 1", "edition=1"),
     ("edition = 0x2", "edition=2"),
+    ("edition = 3", "edition=3"),
     ("only = \"H02\"", "only=H02"),
     ("only = ['H02', \"Z\"]\n", "only=H02 only=Z"),
     (
@@ -69,20 +70,20 @@ const TEXTS: &[(&str, &str)] = &[
     ),
     // What is no value of its key.
     (
-        "edition = 3",
-        "t1check-all: .t1check.toml: edition wants 1 or 2\n",
+        "edition = 4",
+        "t1check-all: .t1check.toml: edition wants 1, 2 or 3\n",
     ),
     (
         "edition = -1",
-        "t1check-all: .t1check.toml: edition wants 1 or 2\n",
+        "t1check-all: .t1check.toml: edition wants 1, 2 or 3\n",
     ),
     (
         "edition = '1'",
-        "t1check-all: .t1check.toml: edition wants 1 or 2\n",
+        "t1check-all: .t1check.toml: edition wants 1, 2 or 3\n",
     ),
     (
         "edition = 1.0",
-        "t1check-all: .t1check.toml: edition wants 1 or 2\n",
+        "t1check-all: .t1check.toml: edition wants 1, 2 or 3\n",
     ),
     (
         "baseline = ''",

@@ -1,6 +1,7 @@
 -- What waivers leave of a report, and which waivers have no say.
 use Rattle.std.specs.Prelude.{◌≡◌, ◌↔◌, ℕ, zero, suc, ◌+◌, ◌<◌, nat_le, not, Bool, true, false, Some, Ok, List, [], ◌∷◌, ◌++◌, length, map, slice_get}
 use Rattle.std.specs.List.{filter}
+use Rattle.t1_char.specs.declared.edition.Edition.{Edition}
 use Rattle.t1_font.specs.FontFiles.{font_in}
 use Rattle.t1_font.specs.Fonts.{FontValue, glyph_name}
 use Rattle.t1_rules.specs.declared.rule.Rule.TheVariants.{U01}
@@ -75,5 +76,5 @@ OrderLeavesUses =
 -- A line that was there before says nothing more.
 abbrev pub RepeatedLinesSayNothing : Type 0
 RepeatedLinesSayNothing =
-    (front middle back : List (List ℕ)) (line : List ℕ) →
-    lines_read [] (front ++ line ∷ (middle ++ line ∷ back)) ≡ lines_read [] (front ++ line ∷ (middle ++ back))
+    (edition : Edition) (front middle back : List (List ℕ)) (line : List ℕ) →
+    lines_read edition [] (front ++ line ∷ (middle ++ line ∷ back)) ≡ lines_read edition [] (front ++ line ∷ (middle ++ back))

@@ -1,7 +1,6 @@
 -- Within one unit: where a rule is first broken, and the state of the places of the font and of the run of a glyph.
 use Rattle.std.specs.Prelude.{◌≡◌, ℕ, ◌+◌, ◌*◌, ◌<◌, ◌≤◌, false, Option, None, Some, length, take}
 use Rattle.t1_char.specs.Steps.{steps_of}
-use Rattle.t1_font.specs.Fonts.{FontValue}
 use Rattle.t1_rules.specs.declared.rule.Rule.{Rule}
 use Rattle.t1_rules.specs.Book.{number_of}
 use Rattle.t1_rules.specs.Keys.{places_of, index_count, key_count}

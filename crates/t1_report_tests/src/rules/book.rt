@@ -14,6 +14,8 @@ const TEXTS: &[(Rule, u8, &str)] = &[
     (Rule::L01, 69, "step limit"),
     (Rule::F15, 71, "FontMatrix is not six numbers"),
     (Rule::Z19, 85, "BlueFuzz out of range"),
+    (Rule::H05, 86, "stem below half a unit"),
+    (Rule::W03, 93, "OtherSubr before hsbw or sbw"),
 ];
 
 #[test]

@@ -19,7 +19,7 @@ use Rattle.t1_rules.specs.Book.{number_of}
 use Rattle.t1_rules.specs.Components.{component_at, component_in, component_named, component_of_glyph, components_of, glyph_named, missing}
 use Rattle.t1_rules.specs.Laws.Editions.{EditionsAgreeOnOtherRules, EditionsAgreeOnShortComponents, EditionsAgreeOnUsualSteps, EditionsAgreeWithoutOneEdge, HasShortComponents, OneEdgeOverlapsNothing, OtherStemsOverlapAsBefore, OverlapByIsMutual, SecondTellsNoMore, SecondTellsNoMoreInFonts, StemsAreKept, sets_one_edge}
 use Rattle.t1_rules.specs.StandardEncoding.{standard_name}
-use Rattle.t1_rules.specs.StepRules.{StepRule, row, argument_rules, call_rules, charstring_rules, component_rules, flex_rules, othersubr_rules, path_rules, seac_rules, stem_rules, step_rules, breaks}
+use Rattle.t1_rules.specs.StepRules.{StepRule, row, argument_rules, call_rules, charstring_rules, component_rules, flex_rules, othersubr_rules, path_rules, seac_rules, stem_rules, step_rules, breaks, triple_rules, counter_rules}
 use Rattle.t1_rules.specs.StepRules.Seac.{accent_code, base_code, component_of_code, is_lacking, is_named, lacks_component}
 use Rattle.t1_rules.specs.StepRules.Stems.{overlap, has_one_edge, hint_set, lies_across, one_overlaps, overlap_by, overlap_in, sets_overlapping, stands_upright, stems_in, stems_meet, stems_of, two_overlap}
 use Rattle.t1_rules.specs.StepRules.Tokens.{is_command}
@@ -163,7 +163,7 @@ other_row n (r ∷ front) rest one other not_one not_other before step =
 
 step_rules_agree : (n : ℕ) (before : List StepView) (step : StepView) → (47 == n) ≡ false → breaks (step_rules Two) n before step
     ≡ breaks (step_rules One) n before step
-unfolding step_rules argument_rules call_rules path_rules stem_rules flex_rules othersubr_rules seac_rules
+unfolding step_rules argument_rules call_rules path_rules stem_rules flex_rules othersubr_rules seac_rules triple_rules counter_rules
 step_rules_agree n before step apart =
     other_row n (take 21 (step_rules One)) (drop 22 (step_rules One)) (row H02 (sets_overlapping (overlap_by Two)))
     (row H02 (sets_overlapping (overlap_by One)))
@@ -171,7 +171,7 @@ step_rules_agree n before step apart =
 
 stem_row : (edition : Edition) (before : List StepView) (step : StepView) → breaks (step_rules edition) 47 before step ≡ sets_overlapping
     (overlap_by edition) before step
-unfolding step_rules argument_rules call_rules path_rules stem_rules flex_rules othersubr_rules seac_rules
+unfolding step_rules argument_rules call_rules path_rules stem_rules flex_rules othersubr_rules seac_rules triple_rules counter_rules
 stem_row edition before step = row_decides 47 (step_rules edition) 21 _ refl refl refl refl before step
 
 pub agree_without_one_edge : EditionsAgreeWithoutOneEdge
@@ -289,7 +289,7 @@ component_rows limit other font n before step k04 k05 k07 =
     (none_broken n (drop 1 (component_rules a)) (rw (k04, k05, k07) refl) before step
     ∙ sym (none_broken n (drop 1 (component_rules b)) (rw (k04, k05, k07) refl) before step))
 
-all_rules : (edition : Edition) (components : List Component) (n : ℕ) (before : List StepView) (step : StepView)
+pub all_rules : (edition : Edition) (components : List Component) (n : ℕ) (before : List StepView) (step : StepView)
     → breaks (charstring_rules edition components) n before step
     ≡ (breaks (step_rules edition) n before step || breaks (component_rules components) n before step)
 unfolding charstring_rules

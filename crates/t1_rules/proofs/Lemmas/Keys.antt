@@ -1,5 +1,5 @@
 -- No rule is broken past the places of a key.
-use Rattle.std.proofs.Common.{◌⊎◌, nat_le, inl, inr, slice_index_or, ◌≡◌, ℕ, zero, suc, ◌+◌, ◌%◌, ◌<◌, ◌≤◌, ◌==◌, ◌&&◌, Bool, true, false, None, nat_eq, nat_lt, ℤ, List, [], ◌∷◌, length, refl, ◌∙◌, arith}
+use Rattle.std.proofs.Common.{nat_le, inl, inr, slice_index_or, ◌≡◌, ℕ, zero, suc, ◌+◌, ◌%◌, ◌<◌, ◌≤◌, ◌==◌, ◌&&◌, Bool, true, false, None, nat_eq, nat_lt, ℤ, List, [], ◌∷◌, length, refl, ◌∙◌, arith}
 use Rattle.std.proofs.Math.Bool.{and-false}
 use Rattle.std.proofs.lemmas.Bool.{ne_eqb, le-ltb, ltb-true, le-leb, leb-true}
 use Rattle.std.proofs.lemmas.List.{length-take}

@@ -1,5 +1,5 @@
 -- Lines, curves, closepaths and moves in the midst of a path: what watchers keep and say of them.
-use Rattle.std.proofs.Common.{◌≡◌, ℕ, suc, Bool, ℤ, pos, ◌+◌, ◌*◌, ◌^◌, ◌+ℤ◌, nat_lt, true, false, List, [], ◌∷◌, ◌++◌, length, take, slice_index_or, refl, sym, subst, arith}
+use Rattle.std.proofs.Common.{◌≡◌, ℕ, suc, Bool, ℤ, pos, ◌+◌, ◌*◌, ◌^◌, ◌+ℤ◌, nat_lt, true, false, List, [], ◌∷◌, ◌++◌, length, take, slice_index_or, refl, sym, ◌∙◌, subst, arith}
 use Rattle.std.proofs.lemmas.Int.{ints, clamps}
 use Rattle.std.proofs.Math.Bool.{and-true, or-true}
 use Rattle.std.proofs.lemmas.List.{take_all}
@@ -22,6 +22,7 @@ use Rattle.t1_rules.specs.declared.watches.Watches.{Watches}
 use Rattle.t1_rules.specs.Private.Standing.{WatchesStandFor}
 use Rattle.t1_rules.specs.StepRules.{argument_rules, breaks, call_rules, flex_rules, othersubr_rules, path_rules, seac_rules, stem_rules, step_rules}
 use Rattle.t1_rules.specs.StepRules.Arguments.{is_past}
+use Rattle.t1_rules.specs.StepRules.Counters.{goes_on_counting, last_told_is}
 use Rattle.t1_rules.specs.StepRules.Flex.{at, moved_by}
 use Rattle.t1_rules.specs.StepRules.Stems.{is_replaced, is_replaced_and_popped, is_stem, is_triple, lies_across, stands_upright}
 use Rattle.t1_rules.specs.StepRules.Paths.{in_flex, is_moved, is_open, clearing_step}
@@ -29,6 +30,7 @@ use Rattle.t1_rules.specs.StepRules.Tokens.{clears, closes, is_command, is_div, 
 use Rattle.t1_rules.specs.Steady.{IsSteady, IsUndrawn, closed_on, drawn_on, moved_on, point_on}
 use Rattle.t1_rules.specs.Watches.{IsCalm, IsNear, IsWithin, reach}
 use Rattle.t1_rules.proofs.Lemmas.Flex.{near_on, one_more_in_flex, plus_origin}
+use Rattle.t1_rules.proofs.Lemmas.Later.{none_later, stays_later}
 use Rattle.t1_rules.proofs.Lemmas.Paths.{one_more}
 use Rattle.t1_rules.proofs.Lemmas.Seac.{one_more_outline}
 use Rattle.t1_rules.proofs.Lemmas.Stems.{one_more_stem}
@@ -173,9 +175,13 @@ stays_led edition w before t command is line calm steady st =
               (rw (is, f.pops, calm.popped) refl)
               (rw (is, f.pops, calm.popped_twice) refl)
               (point_near (length before) w.flex.point (way_by command t.stack) (way_within command line t.stack) st.1.1.0.near),
-          one_more_outline w.seac (drawn_on w).seac before t st.1.1.1
-              (rw (is, f.othersubr, steady.seac_flex) refl)
-              (rw (is, f.move_is, f.line_is) (sym (or-true w.seac.outlined))),
+          (
+            one_more_outline w.seac (drawn_on w).seac before t st.1.1.1.0
+                (rw (is, f.othersubr, steady.seac_flex) refl)
+                (rw (is, f.move_is, f.line_is) (sym (or-true w.seac.outlined))),
+            stays_later edition w before t (rw is f.stem) (rw is f.othersubr) (rw is f.clears) (rw is f.sets_width) (sym st.0.begun ∙ steady.begun)
+                steady.opened steady.going_on st.1.1.1.1,
+          ),
         ),
       ),
     )
@@ -237,9 +243,13 @@ stays_led_to edition w before t command is move calm steady undrawn st =
               (rw (is, f.pops, calm.popped) refl)
               (rw (is, f.pops, calm.popped_twice) refl)
               (point_near (length before) w.flex.point (way_by command t.stack) (move_within command move t.stack) st.1.1.0.near),
-          one_more_outline w.seac w.seac before t st.1.1.1
-              (rw (is, f.othersubr, steady.seac_flex) refl)
-              (rw (is, undrawn.outlined) refl),
+          (
+            one_more_outline w.seac w.seac before t st.1.1.1.0
+                (rw (is, f.othersubr, steady.seac_flex) refl)
+                (rw (is, undrawn.outlined) refl),
+            stays_later edition w before t (rw is f.stem) (rw is f.othersubr) (rw is f.clears) (rw is f.sets_width) (sym st.0.begun ∙ steady.begun)
+                steady.opened steady.going_on st.1.1.1.1,
+          ),
         ),
       ),
     )
@@ -285,26 +295,30 @@ stays_at_close edition w before t is calm steady drawn st = (
           (rw (is, calm.popped) refl)
           (rw (is, calm.popped_twice) refl)
           (near_on (length before) w.flex.point st.1.1.0.near),
-      one_more_outline w.seac w.seac before t st.1.1.1
-          (rw (is, steady.seac_flex) refl)
-          (rw (is, drawn.outlined) refl),
+      (
+        one_more_outline w.seac w.seac before t st.1.1.1.0
+            (rw (is, steady.seac_flex) refl)
+            (rw (is, drawn.outlined) refl),
+        stays_later edition w before t (rw is refl) (rw is refl) (rw is refl) (rw is refl) (sym st.0.begun ∙ steady.begun)
+            steady.opened steady.going_on st.1.1.1.1,
+      ),
     ),
   ),
 )
 
 pub no_fault_at_close : (edition : Edition) (n : ℕ) (before : List StepView) (t : StepView) → t.token ≡ Command Closepath → t.stack ≡ []
     → is_replaced before ≡ false → is_replaced_and_popped before ≡ false → any_so_far clearing_step before ≡ true
-    → in_flex before ≡ false → is_open before ≡ true → breaks (step_rules edition) n before t ≡ false
+    → in_flex before ≡ false → is_open before ≡ true → last_told_is goes_on_counting before ≡ false → breaks (step_rules edition) n before t ≡ false
 unfolding step_rules argument_rules call_rules path_rules stem_rules flex_rules othersubr_rules seac_rules
-no_fault_at_close edition n before t is alone replaced popped begun outside drawn =
-    rw (is, alone, replaced, popped, begun, outside, drawn) refl
+no_fault_at_close edition n before t is alone replaced popped begun outside drawn ended =
+    rw (is, alone, replaced, popped, begun, outside, drawn) (none_later edition before t (rw is refl) (rw is refl) (rw (is, ended) refl) n)
 
 -- Nor is a rule broken.
 pub no_fault_at_line : (edition : Edition) (n : ℕ) (before : List StepView) (t : StepView) (command : Commands) → t.token ≡ Command command
     → IsLed is_line_command command t.stack → is_replaced before ≡ false → is_replaced_and_popped before ≡ false → any_so_far clearing_step before ≡ true
-    → in_flex before ≡ false → is_moved before ≡ true → breaks (step_rules edition) n before t ≡ false
+    → in_flex before ≡ false → is_moved before ≡ true → last_told_is goes_on_counting before ≡ false → breaks (step_rules edition) n before t ≡ false
 unfolding step_rules argument_rules call_rules path_rules stem_rules flex_rules othersubr_rules seac_rules
-no_fault_at_line edition n before t command is line replaced popped begun outside moved =
+no_fault_at_line edition n before t command is line replaced popped begun outside moved ended =
     let f : IsLedToken true false command = line_token command line.led in
     let none : nat_lt (length t.stack) (length t.stack) ≡ false = grind arith in
     let all : take (length t.stack) t.stack ≡ t.stack = take_all (length t.stack) t.stack (omega arith) in
@@ -335,13 +349,14 @@ no_fault_at_line edition n before t command is line replaced popped begun outsid
       begun,
       outside,
       moved,
-    ) refl
+    ) (none_later edition before t (rw is f.stem) (rw is f.othersubr) (rw (is, f.clears, ended) refl) n)
 
 pub no_fault_at_move : (edition : Edition) (n : ℕ) (before : List StepView) (t : StepView) (command : Commands) → t.token ≡ Command command
     → IsLed is_move_command command t.stack → is_replaced before ≡ false → is_replaced_and_popped before ≡ false
-    → any_so_far clearing_step before ≡ true → in_flex before ≡ false → is_open before ≡ false → breaks (step_rules edition) n before t ≡ false
+    → any_so_far clearing_step before ≡ true → in_flex before ≡ false → is_open before ≡ false → last_told_is goes_on_counting before ≡ false
+    → breaks (step_rules edition) n before t ≡ false
 unfolding step_rules argument_rules call_rules path_rules stem_rules flex_rules othersubr_rules seac_rules
-no_fault_at_move edition n before t command is move replaced popped begun outside undrawn =
+no_fault_at_move edition n before t command is move replaced popped begun outside undrawn ended =
     let f : IsLedToken false true command = move_token command move.led in
     let none : nat_lt (length t.stack) (length t.stack) ≡ false = grind arith in
     let all : take (length t.stack) t.stack ≡ t.stack = take_all (length t.stack) t.stack (omega arith) in
@@ -372,4 +387,4 @@ no_fault_at_move edition n before t command is move replaced popped begun outsid
       begun,
       outside,
       undrawn,
-    ) refl
+    ) (none_later edition before t (rw is f.stem) (rw is f.othersubr) (rw (is, f.clears, ended) refl) n)

@@ -2,7 +2,7 @@
 use Rattle.std.proofs.Common.{Some, ◌≡◌, ℕ, ◌-◌, ◌≤◌, ◌+◌, ◌*◌, ◌&&◌, ◌||◌, not, Bool, true, false, nat_le, ℤ, pos, [], ◌∷◌, length, refl, ap, ◌∙◌, arith}
 use Rattle.std.proofs.lemmas.Bool.{le-leb, leb-true}
 use Rattle.std.proofs.lemmas.Bool.Decides.{Decides-int_eq}
-use Rattle.t1_char.specs.Arguments.{calls_othersubr, is_flex_start, is_flex_point, is_flex_end, is_hint_replacement, is_whole}
+use Rattle.t1_char.specs.Arguments.{calls_othersubr, is_callothersubr, is_flex_start, is_flex_point, is_flex_end, is_hint_replacement, is_whole}
 use Rattle.t1_char.specs.Numbers.{natural}
 use Rattle.t1_char.specs.Stacks.{from_top}
 use Rattle.t1_char.specs.Steps.{StepView}
@@ -19,6 +19,7 @@ whole_is n z e = (Decides-int_eq z (pos (n * 65536))).0 e
 
 -- What a call of one of 0 to 3 with its own count has.
 pub record IsCalled (number count : ℕ) (t : StepView) : Type 0 where
+  pub call : is_callothersubr t.token ≡ true
   pub room : count + 2 ≤ length t.stack
   pub top : from_top t.stack 0 ≡ pos (number * 65536)
   pub below : from_top t.stack 1 ≡ pos (count * 65536)
@@ -29,6 +30,7 @@ is_called number count t e =
     let third = and_both _ _ last.0 in
     let second = and_both _ _ third.0 in
     record {
+      call = second.0;
       room = leb-true (count + 2) (length t.stack) second.1;
       top = whole_is number _ third.1;
       below = whole_is count _ last.1;

@@ -1,17 +1,20 @@
 -- Facts about a table of charstring rules, each shown of one table by computing a Bool of its rules; and
 -- about steps of a list.
-use Rattle.std.proofs.Common.{◌≡◌, ℕ, zero, suc, ◌<◌, ◌≤◌, ◌==◌, ◌&&◌, ◌||◌, not, Bool, true, false, nat_le, Option, Some, None, List, [], ◌∷◌, ◌++◌, length, take, drop, slice_get, slice_index_or, refl, sym, ◌∙◌, ap, arith}
+use Rattle.std.proofs.Common.{◌≡◌, ℕ, zero, suc, ◌<◌, ◌≤◌, ◌==◌, ◌&&◌, ◌||◌, ◌⊎◌, inl, inr, not, Bool, true, false, nat_le, Option, Some, None, List, [], ◌∷◌, ◌++◌, length, take, drop, slice_get, slice_index_or, refl, sym, ◌∙◌, ap, arith}
 use Rattle.std.specs.List.{list_all, list_any}
 use Rattle.std.proofs.Math.Bool.{and-false}
 use Rattle.std.proofs.lemmas.Bool.{eqb-true, leb-true}
+use Rattle.std.proofs.lemmas.List.Folds.{list_any-append}
 use Rattle.t1_char.specs.declared.edition.Edition.{Edition}
+use Rattle.t1_char.specs.declared.edition.Edition.TheVariants.{Three, Two}
+use Rattle.t1_char.specs.Editions.{has_later_rules}
 use Rattle.t1_char.specs.Numbers.{clamped}
 use Rattle.t1_char.specs.Since.{any_from, any_so_far}
 use Rattle.t1_char.specs.Steps.{StepView}
 use Rattle.t1_char.proofs.SincePlaces.{since_is_by_places}
-use Rattle.t1_rules.specs.Book.{number_of}
+use Rattle.t1_rules.specs.Book.{last_number, number_of}
 use Rattle.t1_rules.specs.Laws.StepRules.{StepRuleNumbersAreInOrder, ComponentRuleNumbersAreInOrder, BrokenStepsHaveTheseNumbers, LaterStepsHaveNoSay, ArgumentsCountFromTheBottom, SurplusNumbersAreNotPast, EndsBreakOneRule, OneStepStartsWithoutWidth, FlexIsByPlaces, MovedIsByPlaces, OpenIsByPlaces}
-use Rattle.t1_rules.specs.StepRules.{StepRule, argument_rules, call_rules, component_rules, flex_rules, othersubr_rules, path_rules, seac_rules, stem_rules, step_rules, breaks, breaks_next, breaks_at}
+use Rattle.t1_rules.specs.StepRules.{StepRule, argument_rules, call_rules, component_rules, flex_rules, othersubr_rules, path_rules, seac_rules, stem_rules, step_rules, breaks, breaks_next, breaks_at, triple_rules, counter_rules}
 use Rattle.t1_rules.specs.StepRules.Arguments.{is_past}
 use Rattle.t1_rules.specs.StepRules.Calls.{ends_in_subr, ends_in_glyph}
 use Rattle.t1_rules.specs.StepRules.Paths.{flex_start, flex_end, outer_move, drawing, closing_step, clearing_step, starts_without_width}
@@ -19,7 +22,7 @@ use Rattle.t1_rules.specs.StepRules.Tokens.{clears}
 use Rattle.t1_rules.proofs.Lemmas.Book.{both}
 
 pub numbers_in_order : StepRuleNumbersAreInOrder
-unfolding step_rules argument_rules call_rules path_rules stem_rules flex_rules othersubr_rules seac_rules
+unfolding step_rules argument_rules call_rules path_rules stem_rules flex_rules othersubr_rules seac_rules triple_rules counter_rules
 numbers_in_order edition = refl
 
 pub component_numbers_in_order : ComponentRuleNumbersAreInOrder
@@ -27,11 +30,11 @@ unfolding component_rules
 component_numbers_in_order components = refl
 
 -- All rules of a table have numbers between two others.
-abbrev numbers_between : ℕ → ℕ → List StepRule → Bool
+abbrev pub numbers_between : ℕ → ℕ → List StepRule → Bool
 numbers_between least greatest rules =
     list_all (λ r. nat_le least (number_of r.rule) && nat_le (number_of r.rule) greatest) rules
 
-number_between : (least greatest : ℕ) (rules : List StepRule) → numbers_between least greatest rules ≡ true → (n : ℕ) (before : List StepView) (step : StepView)
+pub number_between : (least greatest : ℕ) (rules : List StepRule) → numbers_between least greatest rules ≡ true → (n : ℕ) (before : List StepView) (step : StepView)
     → breaks rules n before step ≡ true → (least ≤ n) × (n ≤ greatest)
 number_between least greatest [] within n before step broken = let no : false ≡ true = broken in cc
 number_between least greatest (r ∷ rs) within n before step broken =
@@ -49,12 +52,50 @@ number_between least greatest (r ∷ rs) within n before step broken =
         (leb-true least (number_of r.rule) here.0, leb-true (number_of r.rule) greatest here.1) in
         rw same at found
 
-table_between : (edition : Edition) → numbers_between 26 67 (step_rules edition) ≡ true
-unfolding step_rules argument_rules call_rules path_rules stem_rules flex_rules othersubr_rules seac_rules
-table_between edition = refl
+-- The part up to number 70, and the rest.
+pub first_rules : Edition → List StepRule
+first_rules edition =
+    argument_rules ++ (call_rules ++ (path_rules ++ (stem_rules edition ++ (flex_rules ++ (othersubr_rules ++ seac_rules)))))
+
+pub in_parts : (edition : Edition) (n : ℕ) (before : List StepView) (step : StepView) → breaks (step_rules edition) n before step
+    ≡ (breaks (first_rules edition) n before step || breaks (triple_rules edition ++ counter_rules edition) n before step)
+unfolding first_rules step_rules argument_rules call_rules path_rules stem_rules flex_rules othersubr_rules seac_rules
+in_parts edition n before step = list_any-append (λ r. r.is_broken before step && number_of r.rule == n) (first_rules edition) (triple_rules edition ++ counter_rules edition)
+
+-- The first part is the same in the second edition and the third.
+pub first_agrees : (n : ℕ) (before : List StepView) (step : StepView) → breaks (first_rules Three) n before step ≡ breaks (first_rules Two) n before step
+unfolding first_rules stem_rules
+first_agrees n before step = refl
+
+first_between : (edition : Edition) → numbers_between 26 67 (first_rules edition) ≡ true
+unfolding first_rules argument_rules call_rules path_rules stem_rules flex_rules othersubr_rules seac_rules
+first_between edition = refl
+
+pub later_between : (edition : Edition) → numbers_between 86 last_number (triple_rules edition ++ counter_rules edition) ≡ true
+unfolding triple_rules counter_rules
+later_between edition = refl
+
+-- An edition that hasn't the rules after number 70 breaks none of them.
+pub none_before : (edition : Edition) → has_later_rules edition ≡ false → (n : ℕ) (before : List StepView) (step : StepView)
+    → breaks (triple_rules edition ++ counter_rules edition) n before step ≡ false
+unfolding triple_rules counter_rules
+none_before edition none n before step = rw none refl
 
 pub broken_have_these_numbers : BrokenStepsHaveTheseNumbers
-broken_have_these_numbers edition = number_between 26 67 (step_rules edition) (table_between edition)
+broken_have_these_numbers edition n before step broken =
+    go (breaks (first_rules edition) n before step) (has_later_rules edition) refl refl (sym (in_parts edition n before step) ∙ broken)
+  where
+    later : List StepRule
+    later = triple_rules edition ++ counter_rules edition
+
+    go : (first has : Bool) → breaks (first_rules edition) n before step ≡ first → has_later_rules edition ≡ has
+        → (breaks (first_rules edition) n before step || breaks later n before step) ≡ true
+        → ((26 ≤ n) × (n ≤ 67)) ⊎ ((has_later_rules edition ≡ true) × ((86 ≤ n) × (n ≤ last_number)))
+    go true has is there some = inl (number_between 26 67 (first_rules edition) (first_between edition) n before step is)
+    go false true is there some =
+        inr (there, number_between 86 last_number later (later_between edition) n before step (sym (ap (λ b. b || breaks later n before step) is) ∙ some))
+    go false false is there some =
+        let no : false ≡ true = sym (none_before edition there n before step) ∙ sym (ap (λ b. b || breaks later n before step) is) ∙ some in cc
 
 -- No rule of a table has this number.
 abbrev pub without_number : ℕ → List StepRule → Bool
@@ -93,15 +134,15 @@ row_decides n (q ∷ qs) (suc place) r there own front rest before step =
     go false e later = rw (and-false (q.is_broken before step)) later
 
 width_row : (edition : Edition) (before : List StepView) (step : StepView) → breaks (step_rules edition) 41 before step ≡ starts_without_width before step
-unfolding step_rules argument_rules call_rules path_rules stem_rules flex_rules othersubr_rules seac_rules
+unfolding step_rules argument_rules call_rules path_rules stem_rules flex_rules othersubr_rules seac_rules triple_rules counter_rules
 width_row edition before step = row_decides 41 (step_rules edition) 15 _ refl refl refl refl before step
 
 subr_row : (edition : Edition) (before : List StepView) (step : StepView) → breaks (step_rules edition) 38 before step ≡ ends_in_subr step
-unfolding step_rules argument_rules call_rules path_rules stem_rules flex_rules othersubr_rules seac_rules
+unfolding step_rules argument_rules call_rules path_rules stem_rules flex_rules othersubr_rules seac_rules triple_rules counter_rules
 subr_row edition before step = row_decides 38 (step_rules edition) 12 _ refl refl refl refl before step
 
 glyph_row : (edition : Edition) (before : List StepView) (step : StepView) → breaks (step_rules edition) 39 before step ≡ ends_in_glyph step
-unfolding step_rules argument_rules call_rules path_rules stem_rules flex_rules othersubr_rules seac_rules
+unfolding step_rules argument_rules call_rules path_rules stem_rules flex_rules othersubr_rules seac_rules triple_rules counter_rules
 glyph_row edition before step = row_decides 39 (step_rules edition) 13 _ refl refl refl refl before step
 
 pub ends_break_one_rule : EndsBreakOneRule
@@ -147,7 +188,7 @@ begun : (front steps : List StepView) → any_from clearing_step front steps ≡
 begun front [] = refl
 begun front (s ∷ ss) = ap (λ b. clears s.token || b) (begun (front ++ s ∷ []) ss)
 
-seen : (f : StepView → Bool) (steps : List StepView) (one other : ℕ) (s : StepView) → slice_get steps one ≡ Some s → one < other → f s ≡ true
+pub seen : (f : StepView → Bool) (steps : List StepView) (one other : ℕ) (s : StepView) → slice_get steps one ≡ Some s → one < other → f s ≡ true
     → list_any f (take other steps) ≡ true
 seen f [] one other s there less such = let no : None ≡ Some s = there in cc
 seen f (x ∷ xs) one zero s there less such = absurd (omega arith)

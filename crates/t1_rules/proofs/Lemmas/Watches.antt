@@ -9,11 +9,14 @@ use Rattle.t1_rules.specs.StepRules.{StepRule, argument_rules, breaks, call_rule
 use Rattle.t1_rules.specs.StepRules.Stems.{is_replaced, is_replaced_and_popped}
 use Rattle.t1_rules.specs.Private.Standing.{WatchesStandFor}
 use Rattle.t1_rules.specs.Watches.{IsCalm}
+use Rattle.t1_rules.proofs.Lemmas.Counters.{quiet_untold, stays_untold}
 use Rattle.t1_rules.proofs.Lemmas.Flex.{flex_stays}
+use Rattle.t1_rules.proofs.Lemmas.Later.{none_later}
 use Rattle.t1_rules.proofs.Lemmas.Paths.{stays}
 use Rattle.t1_rules.proofs.Lemmas.Seac.{outline_stays}
 use Rattle.t1_rules.proofs.Lemmas.Stems.{stays_for_stems}
 use Rattle.t1_rules.proofs.Lemmas.Tokens.{no_command}
+use Rattle.t1_rules.proofs.Lemmas.Triples.{stays_for_triples}
 
 pub joined : (one other : List StepRule) (n : ℕ) (before : List StepView) (t : StepView) (both left right : Bool)
     → both ≡ (left || right) → left ≡ breaks one n before t → right ≡ breaks other n before t
@@ -42,7 +45,13 @@ stays_at_number edition w before t z is calm st = (
         refl refl refl refl refl (rw is calm.replaced) (rw is calm.hints_popped),
     (
       flex_stays w.flex w.flex before t (rw is (no_command (Number z) refl)) st.1.1.0 refl refl refl refl calm.ended calm.popped calm.popped_twice,
-      outline_stays w.seac before t (rw is (no_command (Number z) refl)) st.1.1.1,
+      (
+        outline_stays w.seac before t (rw is (no_command (Number z) refl)) st.1.1.1.0,
+        (
+          stays_for_triples edition w.triples before t (rw is refl) st.1.1.1.1.0,
+          stays_untold edition w.counters before t (quiet_untold t (rw is refl) (rw is refl)) st.1.1.1.1.1,
+        ),
+      ),
     ),
   ),
 )
@@ -53,4 +62,4 @@ pub no_fault_at_number : (edition : Edition) (n : ℕ) (before : List StepView) 
 unfolding step_rules argument_rules call_rules path_rules stem_rules flex_rules othersubr_rules seac_rules
 no_fault_at_number edition n before t z is few replaced popped =
     let room : (length t.stack == 24) ≡ false = grind (arith, few) in
-    rw (is, room, replaced, popped) refl
+    rw (is, room, replaced, popped) (none_later edition before t (rw is refl) (rw is refl) (rw is refl) n)

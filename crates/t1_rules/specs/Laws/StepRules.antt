@@ -1,14 +1,15 @@
 -- Laws of the table of charstring rules.
-use Rattle.std.specs.Prelude.{◌≡◌, ℕ, ℤ, ◌<◌, ◌≤◌, ◌↔◌, not, Bool, true, Some, List, [], ◌∷◌, ◌++◌, length, map}
+use Rattle.std.specs.Prelude.{◌≡◌, ℕ, ℤ, ◌<◌, ◌≤◌, ◌↔◌, ◌⊎◌, not, Bool, true, Some, List, [], ◌∷◌, ◌++◌, length, map}
 use Rattle.std.specs.List.{range_with_len}
 use Rattle.t1_char.specs.Arguments.{argument}
 use Rattle.t1_char.specs.declared.edition.Edition.{Edition}
+use Rattle.t1_char.specs.Editions.{has_later_rules}
 use Rattle.t1_char.specs.Laws.Since.{IsSince}
 use Rattle.t1_char.specs.Steps.{StepView, is_end}
 use Rattle.t1_rules.specs.declared.rule.Rule.{Rule}
 use Rattle.t1_rules.specs.declared.rule.Rule.TheVariants.{S04, GE01, W01}
 use Rattle.t1_rules.specs.declared.sidebearings.Component.{Component}
-use Rattle.t1_rules.specs.Book.{number_of}
+use Rattle.t1_rules.specs.Book.{last_number, number_of}
 use Rattle.t1_rules.specs.StepRules.{StepRule, component_rules, step_rules, breaks, breaks_at}
 use Rattle.t1_rules.specs.StepRules.Arguments.{one_is_past}
 use Rattle.t1_rules.specs.StepRules.Paths.{flex_start, flex_end, in_flex, outer_move, drawing, closing_step, is_moved, is_open}
@@ -17,23 +18,24 @@ use Rattle.t1_rules.specs.StepRules.Paths.{flex_start, flex_end, in_flex, outer_
 abbrev pub violates : Edition → Rule → List StepView → StepView → Bool
 violates edition rule before step = breaks (step_rules edition) (number_of rule) before step
 
--- The rows have the numbers from 26 to 63, and 67, in order and each once; those on components 64 to 66,
--- and 68.
+-- The rows have the numbers from 26 to 63, 67, and from 86 to 93, in order and each once; those on components 64 to
+-- 66, and 68.
 abbrev pub StepRuleNumbersAreInOrder : Type 0
 StepRuleNumbersAreInOrder =
-    (edition : Edition) → map (λ r. number_of r.rule) (step_rules edition) ≡ range_with_len 26 38 ++ 67 ∷ []
+    (edition : Edition) → map (λ r. number_of r.rule) (step_rules edition) ≡ range_with_len 26 38 ++ 67 ∷ range_with_len 86 8
 
 abbrev pub ComponentRuleNumbersAreInOrder : Type 0
 ComponentRuleNumbersAreInOrder =
     (components : List Component) →
     map (λ r. number_of r.rule) (component_rules components) ≡ 64 ∷ 65 ∷ 66 ∷ 68 ∷ []
 
--- What a step breaks has one of these numbers.
+-- What a step breaks has one of these numbers: from 26 to 67, or from 86 on where the edition has the rules after
+-- number 70.
 abbrev pub BrokenStepsHaveTheseNumbers : Type 0
 BrokenStepsHaveTheseNumbers =
     (edition : Edition) (n : ℕ) (before : List StepView) (step : StepView) →
     breaks (step_rules edition) n before step ≡ true →
-    (26 ≤ n) × (n ≤ 67)
+    ((26 ≤ n) × (n ≤ 67)) ⊎ ((has_later_rules edition ≡ true) × ((86 ≤ n) × (n ≤ last_number)))
 
 -- What is broken at a place of a list depends on the steps up to there alone, whatever the rules.
 abbrev pub LaterStepsHaveNoSay : Type 0

@@ -79,7 +79,7 @@ fn call_faults(call: OthersubrCall, step: &Step) -> Mask
 }
 
 /// Whether the count of a call is that of arguments on the stack.
-fn has_good_count(step: &Step) -> bool
+pub(crate) fn has_good_count(step: &Step) -> bool
     requires { 2 ≤ length step.now.stack }
     ensures { result ≡ has_good_count (step_view step.now) }
 {

@@ -13,6 +13,7 @@ ghost use Rattle.t1_rules.specs.Mask.{has};
 ghost use Rattle.t1_rules.specs.StepRules.{breaks, stem_rules};
 ghost use Rattle.t1_rules.specs.StepRules.Stems.{are_unequal, has_no_width, has_one_edge, is_off_middle, hint_set, is_stem, is_triple, lies_across, lower, one_overlaps, overlap, overlap_by, sets_unequal, stands_upright, stem_at, stems_meet, stems_of, two_overlap, twice_middle, upper, most_stems};
 ghost use Rattle.t1_rules.specs.StepRules.Tokens.{is_command, is_line};
+ghost use Rattle.t1_rules.specs.StepRules.Triples.{has_same_edges, is_thin};
 ghost use Rattle.t1_rules.specs.Private.Standing.{StemsStandFor};
 ghost use Rattle.t1_rules.specs.Watches.{IsWithin, reach};
 ghost use Rattle.t1_rules.specs.Private.Stems.{IsQuietForStems, kept_after};
@@ -289,6 +290,21 @@ impl Stem {
     {
         self.width == 0
     }
+
+    /// Whether it has a width, which is below half a unit.
+    pub(crate) fn is_thin(self) -> bool
+        ensures { result ≡ is_thin self }
+    {
+        let twice = 2 * i64::from(self.width);
+        !self.has_no_width() & (-UNIT < twice) & (twice < UNIT)
+    }
+
+    /// Whether two stems have the same edges, whichever they begin with.
+    pub(crate) fn has_same_edges(self, other: Stem) -> bool
+        ensures { result ≡ has_same_edges self other }
+    {
+        spans_agree(self.lower(), self.upper(), other.lower(), other.upper())
+    }
 }
 
 /// Whether two spans share more than an edge.
@@ -296,6 +312,13 @@ fn spans_meet(one_lower: i64, one_upper: i64, other_lower: i64, other_upper: i64
     ensures { result ≡ int_lt (int_max one_lower other_lower) (int_min one_upper other_upper) }
 {
     one_lower.max(other_lower) < one_upper.min(other_upper)
+}
+
+/// Whether two spans are the same.
+fn spans_agree(one_lower: i64, one_upper: i64, other_lower: i64, other_upper: i64) -> bool
+    ensures { result ≡ (int_eq one_lower other_lower && int_eq one_upper other_upper) }
+{
+    (one_lower == other_lower) & (one_upper == other_upper)
 }
 
 /// Whether none of these rules speaks of a token, and it changes neither a hint set nor what was drawn.
@@ -332,7 +355,7 @@ fn is_triple(token: CharToken) -> bool
 }
 
 /// The stem of two arguments.
-fn stem_at(step: &Step, place: usize) -> Stem
+pub(crate) fn stem_at(step: &Step, place: usize) -> Stem
     requires { place < most_numbers }
     ensures { result ≡ stem_at step.now.stack place }
 {

@@ -17,7 +17,7 @@ returns-in_err-font-clause-checks g c =
 pub returns-clause-checks : goal.returns-clause-checks
 returns-clause-checks g c =
     checks_by g.T.Policy.takes _ _ _ _ _ _ c.check_font-taken.result
-    (font_of_bytes c.in_ok-font.font c.args.bytes.items c.args.has_waivers _ _
+    (font_of_bytes _ c.in_ok-font.font c.args.bytes.items c.args.has_waivers _ _
     (sym (rw c.as_slice.ensures.value at c.in_ok-file.ensures) ∙ c.in_ok-font.ensures.gives))
     c.check_font-taken.ensures.checks
 

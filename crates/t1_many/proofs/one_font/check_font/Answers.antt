@@ -10,5 +10,5 @@ returns-in_err-text-clause-checks g c =
 pub returns-clause-checks : goal.returns-clause-checks
 returns-clause-checks g c =
     checks_by g.T.Policy.takes _ _ _ _ _ _ c.check_waived.result
-    (text_of_file c.args.font.now c.args.has_waivers _ _ c.in_ok-text.text.items c.in_ok-text.ensures.text)
+    (text_of_file _ c.args.font.now c.args.has_waivers _ _ c.in_ok-text.text.items c.in_ok-text.ensures.text)
     (rw c.as_slice.ensures.value at c.check_waived.ensures)

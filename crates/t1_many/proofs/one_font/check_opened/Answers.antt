@@ -10,5 +10,5 @@ returns-in_err-bytes-clause-checks g c =
 pub returns-clause-checks : goal.returns-clause-checks
 returns-clause-checks g c =
     checks_by g.T.Policy.takes _ _ _ _ _ _ c.check_bytes.result
-    (bytes_of_file _ _ c.in_ok-bytes.bytes.items c.args.has_waivers _ _ c.requires c.in_ok-bytes.ensures.gathers)
+    (bytes_of_file _ _ _ c.in_ok-bytes.bytes.items c.args.has_waivers _ _ c.requires c.in_ok-bytes.ensures.gathers)
     c.check_bytes.ensures.checks

@@ -9,16 +9,16 @@ use Rattle.t1_run.specs.WaiverFiles.{waivers_in}
 
 pub returns-then-text-gt-LARGEST_WAIVERS-clause-failed : goal.returns-then-text-gt-LARGEST_WAIVERS-clause-failed
 returns-then-text-gt-LARGEST_WAIVERS-clause-failed c =
-    fails_for (waivers_in c.args.text.now) WaiversTooLarge c.from.result
-    (waivers_in-large c.args.text.now (omega (arith, c.if-text-gt-LARGEST_WAIVERS.true))) c.from.ensures
+    fails_for (waivers_in c.args.edition c.args.text.now) WaiversTooLarge c.from.result
+    (waivers_in-large c.args.edition c.args.text.now (omega (arith, c.if-text-gt-LARGEST_WAIVERS.true))) c.from.ensures
 
 pub returns-in_err-read-clause-failed : goal.returns-in_err-read-clause-failed
 returns-in_err-read-clause-failed c =
-    failed_so c.from_residual.result (failure_of (Waivers c.in_err-read.field-0.0)) (IsFailureOf (waivers_in c.args.text.now))
+    failed_so c.from_residual.result (failure_of (Waivers c.in_err-read.field-0.0)) (IsFailureOf (waivers_in c.args.edition c.args.text.now))
     c.from_residual.ensures.1
-    (waivers_fail (λ (w : List Waiver). w) c.args.text.now c.in_err-read.field-0.0 (omega (arith, c.if-text-gt-LARGEST_WAIVERS.false))
+    (waivers_fail c.args.edition (λ (w : List Waiver). w) c.args.text.now c.in_err-read.field-0.0 (omega (arith, c.if-text-gt-LARGEST_WAIVERS.false))
     c.in_err-read.ensures)
 
 pub returns-clause-read : goal.returns-clause-read
 returns-clause-read c =
-    waivers_read c.args.text.now c.in_ok-read.field-0 (omega (arith, c.if-text-gt-LARGEST_WAIVERS.false)) c.in_ok-read.ensures
+    waivers_read c.args.edition c.args.text.now c.in_ok-read.field-0 (omega (arith, c.if-text-gt-LARGEST_WAIVERS.false)) c.in_ok-read.ensures

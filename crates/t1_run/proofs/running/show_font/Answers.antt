@@ -1,5 +1,6 @@
 use Rattle.std.proofs.Common.{◌≡◌, ◌∙◌, Err, List, Option, Some, ap, false, option_map, refl, subst, sym, true}
 use Rattle.std.specs.Option.{is_some}
+use Rattle.t1_char.specs.declared.edition.Edition.{Edition}
 use Rattle.t1_report.specs.WaiverViews.{IsReadAs}
 use Rattle.t1_report.specs.Waivers.{Waiver, waivers_of}
 use Rattle.t1_run.specs.Programs.{asks_waivers}
@@ -21,12 +22,14 @@ pub returns-in-Ok-read-clause-ends : goal.returns-in-Ok-read-clause-ends
 returns-in-Ok-read-clause-ends g c =
     let asked : asks_waivers g.P.Program.meaning c.args.options.now ≡ true = ap is_some (sym c.waivers.ensures ∙ ap (option_map (λ s. s.now)) c.in-Some.is) in
     waived_ends g.P.Program.meaning c.args.options.now c.args.font.now _ _ _ asked c.in-Ok.text.items c.in-Ok-read.waivers c.in-Ok.ensures.text
-    (rw c.as_slice.ensures.value at c.in-Ok-read.ensures) c.show-in-Ok-read.ensures
+    (rw (c.as_slice.ensures.value, c.edition.ensures) at c.in-Ok-read.ensures) c.show-in-Ok-read.ensures
 
 pub returns-clause-ends : goal.returns-clause-ends
 returns-clause-ends g c =
     let asked : asks_waivers g.P.Program.meaning c.args.options.now ≡ true = ap is_some (sym c.waivers.ensures ∙ ap (option_map (λ s. s.now)) c.in-Some.is) in
     unwaived_ends g.P.Program.meaning c.args.options.now c.args.font.now _ _ _ asked (λ (w : List Waiver). w) c.in-Ok.text.items c.in-Err-read.error
     c.in-Ok.ensures.text
-    (subst (λ bytes. IsReadAs (λ (w : List Waiver). w) (waivers_of bytes) (Err c.in-Err-read.error)) c.as_slice.ensures.value c.in-Err-read.ensures) refl
+    (subst (λ (edition : Edition). IsReadAs (λ (w : List Waiver). w) (waivers_of edition c.in-Ok.text.items) (Err c.in-Err-read.error)) c.edition.ensures
+    (subst (λ bytes. IsReadAs (λ (w : List Waiver). w) (waivers_of c.edition.result bytes) (Err c.in-Err-read.error)) c.as_slice.ensures.value
+    c.in-Err-read.ensures)) refl
     (rw (c.name-in-Err-read.ensures, c.from.ensures) at c.tell_failure-in-Err-read.ensures)

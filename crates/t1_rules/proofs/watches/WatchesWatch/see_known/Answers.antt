@@ -1,5 +1,5 @@
 use Rattle.t1_char.specs.StepValues.{step_view}
-use Rattle.t1_rules.specs.StepRules.{argument_rules, call_rules, flex_rules, othersubr_rules, path_rules, seac_rules, stem_rules, step_rules}
+use Rattle.t1_rules.specs.StepRules.{argument_rules, call_rules, flex_rules, othersubr_rules, path_rules, seac_rules, stem_rules, step_rules, triple_rules, counter_rules}
 use Rattle.t1_rules.specs.Private.Standing.{WatchesStandFor}
 use Rattle.t1_rules.proofs.Lemmas.Watches.{joined}
 use Rattle.t1_rules.proofs.watches.WatchesWatch.see_known.Goals as goal
@@ -18,7 +18,15 @@ see_known-flex-requires-clause-steps c = (c.requires.steps.0, (c.requires.steps.
 
 pub see_known-seac-requires-clause-steps : goal.see_known-seac-requires-clause-steps
 unfolding WatchesStandFor
-see_known-seac-requires-clause-steps c = (c.requires.steps.0, (c.requires.steps.1.0, (c.requires.steps.1.1.0.1.1.1, c.requires.steps.1.1.1)))
+see_known-seac-requires-clause-steps c = (c.requires.steps.0, (c.requires.steps.1.0, (c.requires.steps.1.1.0.1.1.1.0, c.requires.steps.1.1.1)))
+
+pub see_known-triples-requires-clause-steps : goal.see_known-triples-requires-clause-steps
+unfolding WatchesStandFor
+see_known-triples-requires-clause-steps c = (c.requires.steps.0, (c.requires.steps.1.0, (c.requires.steps.1.1.0.1.1.1.1.0, c.requires.steps.1.1.1)))
+
+pub see_known-counters-requires-clause-steps : goal.see_known-counters-requires-clause-steps
+unfolding WatchesStandFor
+see_known-counters-requires-clause-steps c = (c.requires.steps.0, (c.requires.steps.1.0, (c.requires.steps.1.1.0.1.1.1.1.1, c.requires.steps.1.1.1)))
 
 pub returns-clause-stands : goal.returns-clause-stands
 unfolding WatchesStandFor
@@ -26,7 +34,13 @@ returns-clause-stands c = λ edition before st short. (
   c.see_known-paths.ensures.stands edition before st.0 short,
   (
     c.see_known-stems.ensures.stands edition before st.1.0 short,
-    (c.see_known-flex.ensures.stands edition before st.1.1.0 short, c.see_known-seac.ensures.stands edition before st.1.1.1 short),
+    (
+      c.see_known-flex.ensures.stands edition before st.1.1.0 short,
+      (
+        c.see_known-seac.ensures.stands edition before st.1.1.1.0 short,
+        (c.see_known-triples.ensures.stands edition before st.1.1.1.1.0 short, c.see_known-counters.ensures.stands edition before st.1.1.1.1.1 short),
+      ),
+    ),
   ),
 )
 
@@ -34,10 +48,13 @@ pub returns-clause-answer : goal.returns-clause-answer
 unfolding WatchesStandFor step_rules
 returns-clause-answer c = λ edition before st short n.
     let t = step_view c.args.step.now in
-    joined argument_rules _ n before t _ _ _ (c.join-6.ensures n) (c.see_known-arguments.ensures.answer edition before _ short n)
-    (joined call_rules _ n before t _ _ _ (c.join-5.ensures n) (c.see_known-calls.ensures.answer edition before _ short n)
-    (joined path_rules _ n before t _ _ _ (c.join-4.ensures n) (c.see_known-paths.ensures.answer edition before st.0 short n)
-    (joined (stem_rules edition) _ n before t _ _ _ (c.join-3.ensures n) (c.see_known-stems.ensures.answer edition before st.1.0 short n)
-    (joined flex_rules _ n before t _ _ _ (c.join-2.ensures n) (c.see_known-flex.ensures.answer edition before st.1.1.0 short n)
-    (joined othersubr_rules seac_rules n before t _ _ _ (c.join.ensures n) (c.see_known-othersubrs.ensures.answer edition before _ short n)
-    (c.see_known-seac.ensures.answer edition before st.1.1.1 short n))))))
+    joined argument_rules _ n before t _ _ _ (c.join-7.ensures n) (c.see_known-arguments.ensures.answer edition before _ short n)
+    (joined call_rules _ n before t _ _ _ (c.join-6.ensures n) (c.see_known-calls.ensures.answer edition before _ short n)
+    (joined path_rules _ n before t _ _ _ (c.join-5.ensures n) (c.see_known-paths.ensures.answer edition before st.0 short n)
+    (joined (stem_rules edition) _ n before t _ _ _ (c.join-4.ensures n) (c.see_known-stems.ensures.answer edition before st.1.0 short n)
+    (joined flex_rules _ n before t _ _ _ (c.join-glyph.ensures n) (c.see_known-flex.ensures.answer edition before st.1.1.0 short n)
+    (joined othersubr_rules _ n before t _ _ _ (c.join-3.ensures n) (c.see_known-othersubrs.ensures.answer edition before _ short n)
+    (joined seac_rules _ n before t _ _ _ (c.join-2.ensures n) (c.see_known-seac.ensures.answer edition before st.1.1.1.0 short n)
+    (joined (triple_rules edition) (counter_rules edition) n before t _ _ _ (c.join.ensures n)
+    (c.see_known-triples.ensures.answer edition before st.1.1.1.1.0 short n)
+    (c.see_known-counters.ensures.answer edition before st.1.1.1.1.1 short n))))))))

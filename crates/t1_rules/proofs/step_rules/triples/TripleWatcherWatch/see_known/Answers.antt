@@ -1,0 +1,4 @@
+use Rattle.t1_rules.proofs.step_rules.triples.TripleWatcherWatch.see_known.Goals as goal
+
+pub returns-clause-stands : goal.returns-clause-stands
+returns-clause-stands c = λ edition before st short. c.go_on.ensures edition before st
