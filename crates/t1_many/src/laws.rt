@@ -3,7 +3,6 @@
 ghost use Rattle.t1_many.specs.Laws.{ATextIsOneRow, CodesPickTheirRule, JoinedAreWorse, KindsNameTheirRules, LettersPickTheirRules, LinesHaveKinds, NoLineIsBeyond, NoRowDiffers, NoneIsWorse, PartsAreHandedOn, PartsAreTheWhole, PartsAreWritten, PartsHaveTheStatus, PlainIsFlushed, PlainIsWritten, WrittenWaiversAreRead};
 
 /// A code picks its rule alone, and the letters of a code pick the rules whose codes have these letters.
-#[tactic(auto, using(crate::proofs::Codes::codes_pick, crate::proofs::Codes::letters_pick))]
 pub fn codes_pick_their_rules()
     ensures code { CodesPickTheirRule }
     ensures letters { LettersPickTheirRules }
