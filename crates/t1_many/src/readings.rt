@@ -4,6 +4,7 @@ ghost use Rattle.std.specs.Prelude.{◌≡◌, ℕ, IfOk, List, false};
 ghost use Rattle.t1_many.specs.Beyond.{verdict_of};
 ghost use Rattle.t1_many.specs.Counts.{kind_counts, text_counts};
 ghost use Rattle.t1_many.specs.KnownFaults.{counts_of};
+ghost use Rattle.t1_many.specs.Private.Counts.{AreKnown};
 ghost use Rattle.t1_many.specs.Readings.{IsReadingOf, Keeps, TakesKnown, as_known, by_known};
 ghost use Rattle.t1_many.specs.Recipients.{recipient_by};
 ghost use Rattle.t1_rules.specs.Book.{number_of};
@@ -60,15 +61,14 @@ impl<K: Known + Drop, F: Printer + Drop> Policy for ReportNew<K, F> {
         // The call of a law does nothing: the proof cites what it ensures.
         a_font_has_one_report();
         let found = count_kinds(alloc, font, sidebearings, waivers, self.rules)?;
-        let known = known_counts(alloc, &self.known, name, &found)?;
-        let reading = read_kinds(alloc, name, &found)?;
+        let both = known_and_found(alloc, name, &self.known, &found)?;
         let judge = BeyondKnown {
             rules: self.rules,
-            known: &known,
+            known: &both.known,
             found: &found,
         };
         let taken = hand_report(&mut self.form, name, font, sidebearings, waivers, &judge);
-        Ok(keep(&mut self.readings, reading, taken))
+        Ok(keep(&mut self.readings, both.reading, taken))
     }
 
     fn failure(&mut self, name: &str, error: FontError) -> Taken {
@@ -130,6 +130,31 @@ impl Judge for AsKnown {
             Verdict::Skipped
         }
     }
+}
+
+/// What is known of a font, and what was found.
+#[derive(Drop)]
+struct KnownAndFound<'a> {
+    /// How often the kinds that were found are known.
+    known: Kinds<'a>,
+    /// What was found, as it is kept.
+    reading: Reading,
+}
+
+/// What is known of the font of a name, and what was found in it.
+fn known_and_found<'a, K: Known>(
+    alloc: Global,
+    name: &str,
+    known: &K,
+    found: &Kinds<'a>,
+) -> Result<KnownAndFound<'a>, AllocError>
+    ensures known { IfOk result (λ both. AreKnown (K.counts known.now) name.now (kind_counts found.now.entries) (kind_counts both.known.entries)) }
+    ensures reading { IfOk result (λ both. (kinds : List (List ℕ)) → text_counts (kind_counts found.now.entries) ≡ counts_of kinds
+        → IsReadingOf both.reading (record { font = name.now; kinds = kinds })) }
+{
+    let known = known_counts(alloc, known, name, found)?;
+    let reading = read_kinds(alloc, name, found)?;
+    Ok(KnownAndFound { known, reading })
 }
 
 /// What was found in the font of a name, by its kinds.
