@@ -5,13 +5,14 @@ ghost use Rattle.t1_options.specs.Choices.{codes_of, excepted};
 ghost use Rattle.t1_options.specs.Complaints.{choice_complaint, complaint_of, complaint_of_words, settings_usage, usage_text};
 ghost use Rattle.t1_options.specs.Given.{given_value};
 ghost use Rattle.t1_options.specs.Merged.{first_path, is_namable, merged, merged_with};
-ghost use Rattle.t1_options.specs.Options.{AreMeant, HasValues, file_of, is_anew, reasons_of, waivers_of};
+ghost use Rattle.t1_options.specs.Options.{AreChosen, AreFailing, AreMeant, HasValues, file_of, is_anew, reasons_of, waivers_of};
+ghost use Rattle.t1_options.specs.Private.Named.{AreNamed};
 ghost use Rattle.t1_options.specs.Settings.Finding.{files_by};
 ghost use Rattle.t1_options.specs.Settings.Reading.{settings_value};
 ghost use Rattle.t1_options.specs.Words.{AreAsked, AreFound, AreUnfound, AreWrong, IsUsageOr, usage_of_both, usage_with};
 
 use crate::asked::{Baseline, Options, Reasons, Waivers};
-use crate::checks::{choice_complaint, complaint_of, complaint_of_words, named_in};
+use crate::checks::{Named, choice_complaint, complaint_of, complaint_of_words, named_in};
 use crate::choices::{excepted, failing_of};
 use crate::complaint::{settings_text, text_of, usage_text};
 use crate::given::Given;
@@ -158,16 +159,26 @@ fn options_meant(alloc: Global, given: &Given<'_>) -> Result<Options, UsageError
     ensures wrong { IfErr result (IsUsageOr (λ told. option_map usage_text (complaint_of (given_value given.now)) ≡ Some told)) }
 {
     let named = named_in(alloc, given)?;
-    if let Some(complaint) = complaint_of(given, &named) {
-        return Err(UsageError::Usage(usage_text(alloc, complaint)?));
+    match complaint_of(given, &named) {
+        Some(complaint) => Err(UsageError::Usage(usage_text(alloc, complaint)?)),
+        None => Ok(options_named(alloc, given, named)?),
     }
+}
+
+/// The options that the given values mean, with what they name.
+fn options_named(alloc: Global, given: &Given<'_>, named: Named) -> Result<Options, AllocError>
+    requires { AreNamed (given_value given.now) named }
+    ensures values { IfOk result (HasValues (given_value given.now)) }
+    ensures rules { IfOk result (λ options. AreChosen (given_value given.now) options.rules) }
+    ensures failing { IfOk result (λ options. AreFailing (given_value given.now) options.failing) }
+{
     let except = excepted(alloc, named.except.as_slice(), named.level.as_slice())?;
     let rules = told_rules(Choice {
         only: named.only.as_slice(),
         except: except.as_slice(),
     });
     let failing = failing_of(alloc, named.fail_on.as_slice())?;
-    Ok(options_of(alloc, given, rules, failing, named.only, except)?)
+    options_of(alloc, given, rules, failing, named.only, except)
 }
 
 /// The options, with these rules, those whose lines make the status 1, and the codes that choose the former.
