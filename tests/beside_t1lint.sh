@@ -78,7 +78,11 @@ compare() {
     awk -f "$beside/lines.awk" "$scratch/report" "$scratch/messages" >"$scratch/left"
     [ -s "$scratch/left" ] || return
     od -An -v -tu1 "$1" | awk -f "$beside/text.awk" >"$scratch/text"
-    ! grep -q '^subr\|partial' "$scratch/left" || trace_all "$1" >"$scratch/steps"
+    # Steps are looked at for the causes in Subrs that no glyph calls, and for counter control.
+    if awk -F '[ \t]' '$1 == "ghost" { ghost[$2] = 1 } $1 == "subr" && /\t/ && !($2 in ghost) || /partial/ { found = 1 } END { exit !found }' \
+        "$scratch/text" "$scratch/left"; then
+        trace_all "$1" >"$scratch/steps"
+    fi
     awk -f "$beside/causes.awk" "$scratch/text" "$scratch/steps" "$scratch/left" >"$scratch/result"
 }
 

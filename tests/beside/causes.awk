@@ -1,5 +1,5 @@
-# Says of each message of the last file, which has no line, which cause lets it pass: `passes CAUSE`, else `without`, a tab and the message. The
-# other files are what text.awk writes of the font, the steps of its glyphs, and the report. docs/T1LINT.md explains the causes.
+# Says of each message of the last file, which has no line, which cause lets it pass: `passes CAUSE`, else `without`, then a tab and the message. The
+# other files are what text.awk writes of the font, and the steps of its glyphs. docs/T1LINT.md explains the causes.
 
 # A number cut after nine decimals, in units of 10^-9.
 function cut(text,    parts) {
@@ -39,20 +39,15 @@ function is_past_sixteenth(    count, i, bad) {
     return bad > 16
 }
 
-# Whether a Subr has byte 28 for a token, and more numbers in a row than t1lint's stack takes.
-function has_28(bytes,    i, count) {
+# Looks at a Subr's tokens: whether byte 28 is one (`has_28`), and more than the 48 numbers of t1lint's stack come in a row (`is_over`).
+function read_tokens(bytes,    byte, i, count, run) {
     count = split(bytes, byte, " ")
-    for (i = 1; i <= count; i += byte[i] == 255 ? 5 : byte[i] >= 247 || byte[i] == 12 ? 2 : 1) if (byte[i] == 28) return 1
-    return 0
-}
-
-function is_over(bytes,    i, count, run) {
-    count = split(bytes, byte, " ")
+    has_28 = is_over = 0
     for (i = 1; i <= count; i += byte[i] == 255 ? 5 : byte[i] >= 247 || byte[i] == 12 ? 2 : 1) {
+        if (byte[i] == 28) has_28 = 1
         run = byte[i] >= 32 ? run + 1 : 0
-        if (run > 48) return 1
+        if (run > 48) is_over = 1
     }
-    return 0
 }
 
 function cause(where, text,    w) {
@@ -65,17 +60,16 @@ function cause(where, text,    w) {
         if (text ~ /^BlueValues not defined/ && late) return "BlueValues not at the beginning of a line"
     } else if (where ~ /^subr /) {
         number = substr(where, 6)
-        if (text ~ /commands past end|does not return/) {
-            if (number in ghost) return "a glyph behind a blank, taken for a Subr"
-            if (!(number in called) && has_28(subr[number])) return "byte 28 in a Subr that no glyph calls"
-        }
-        if (text ~ /stack overflow/ && !(number in called) && is_over(subr[number])) return "full stack in a Subr that no glyph calls"
+        if (text ~ /commands past end|does not return/ && number in ghost) return "a glyph behind a blank, taken for a Subr"
+        if (number in called) return ""
+        read_tokens(subr[number])
+        if (text ~ /commands past end|does not return/ && has_28) return "byte 28 in a Subr that no glyph calls"
+        if (text ~ /stack overflow/ && is_over) return "full stack in a Subr that no glyph calls"
     } else if (text ~ /partial counter control/ && parts[substr(where, 7)]-- > 0) return "counter control in parts"
     return ""
 }
 
 BEGIN { FS = "\t" }
-FNR == 1 { file++ }
 FILENAME == ARGV[1] {
     split($0, w, " ")
     rest = substr($0, length(w[1] w[2]) + 3)

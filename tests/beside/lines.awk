@@ -5,7 +5,8 @@ BEGIN {
     # t1lint takes for two numbers (`1.5.5`), is a word here: Z01 or F18.
     font["UniqueID not in the range"] = "UniqueID|F05"
     font["Private UniqueID not in the range"] = "PrivateUniqueID|F05"
-    font["Private UniqueID does not equal"] = "PrivateUniqueID|F06"
+    # t1lint goes on with the digits at the front of what is no whole number, or 0.
+    font["Private UniqueID does not equal"] = "PrivateUniqueID UniqueID|F06 F05"
     font["UniqueID not an? (integer|number)"] = "UniqueID PrivateUniqueID|F05"
     font["XUID not an array"] = font["empty XUID"] = "XUID|F18"
     font["element of XUID not an integer"] = "XUID|F19 F18"
@@ -68,8 +69,8 @@ BEGIN {
     subr["stack overflow"] = "C06"
 
     # What t1lint executes in another way than t1check, so that what comes after it in the glyph differs: commands of Type 2, numbers past 24 or
-    # past 32000, division by zero, a bad count, and counter control that leaves numbers.
-    other = "C03 C06 C07 C08 C09 O02 O07"
+    # past 32000, division by zero, a bad count, counter control that leaves numbers, and the end of a flex that isn't one: it leaves the Subr.
+    other = "C03 C06 C07 C08 C09 O02 O07 X02 X04"
     FS = "\t"
 }
 
