@@ -2,6 +2,7 @@
 use Rattle.std.proofs.Common.{option_map, string_bytes, ◌≡◌, ◌≢◌, ◌⊎◌, inl, inr, ℕ, Bool, true, false, true≢false, List, [], ◌∷◌, Option, None, Some, IfSome, Result, Ok, Err, refl, sym, ap, subst, ◌∙◌}
 use Rattle.std.specs.Io.KnownBytes.{Appends, Keeps}
 use Rattle.std.proofs.KnownBytes.{Appends-nil, Keeps-refl}
+use Rattle.t1_char.specs.declared.edition.Edition.{Edition}
 use Rattle.t1_font.specs.Fonts.{FontValue}
 use Rattle.t1_io.specs.Devices.{SinkState, SourceState, one_more}
 use Rattle.t1_answer.specs.declared.asked.Options.{Options}
@@ -140,9 +141,9 @@ some-any P (Some input) all = all input
 
 -- ---- waivers that are requested
 
-refused_asked : (asked : Bool) (text : Option (List ℕ)) (reason : Reason) → AreWaived asked text (Err reason) → asked ≡ true
-refused_asked true text reason is = refl
-refused_asked false text reason is = cc
+refused_asked : (edition : Edition) (asked : Bool) (text : Option (List ℕ)) (reason : Reason) → AreWaived edition asked text (Err reason) → asked ≡ true
+refused_asked edition true text reason is = refl
+refused_asked edition false text reason is = cc
 
 untraced : {A B C : Type 0} (f : B → C) (trace : Option A) (waive : Option B) → is_some (option_map f (unless_traced trace waive)) ≡ true
     → trace ≡ None
@@ -409,7 +410,7 @@ module _ (options : Options) (source texts : Transition SourceState) (sinks : Tr
   after_font font are unfailed (shown waived is heard shows) = after_shown font are unfailed waived is heard shows
   after_font font are unfailed (waivers_refused reason is heard same tells) =
       let answer = refused (told_of reason) in
-      let none : options.trace ≡ None = untraced string_bytes options.trace options.waive (refused_asked _ waivers.left reason is) in
+      let none : options.trace ≡ None = untraced string_bytes options.trace options.waive (refused_asked options.edition _ waivers.left reason is) in
       after_told answer (of-both answer (Ok font) (Err reason) are is (shown_by font (Err reason) answer _ None (ap (option_map string_bytes) none) refl))
       unfailed heard.failed
       (spared_by font are unfailed heard.unasked) refl (inl refl) same tells

@@ -1,4 +1,4 @@
-use Rattle.std.proofs.Common.{◌≡◌, ◌&&◌, ◌||◌, ◌==◌, ◌∙◌, Bool, ℕ, ap, arith}
+use Rattle.std.proofs.Common.{◌≡◌, ◌&&◌, ◌||◌, ◌==◌, ◌∙◌, Bool, ℕ, ap}
 use Rattle.t1_many.proofs.Letters.{above_next, set_next}
 use Rattle.t1_many.proofs.choice.told_rules.Goals as goal
 use Rattle.t1_many.specs.Choice.{choice_of, is_told}
