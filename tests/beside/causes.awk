@@ -57,7 +57,7 @@ function cause(where, text,    w) {
         if (text ~ /^(UniqueID|BlueShift|BlueFuzz) not an integer/ && any(w[1], "^[-+]?[0-9]+\\.0*$")) return "whole by value"
         if (text ~ /not an? (real )?number$/ && any(w[1], "^-\\.")) return "a number that begins with -."
         if (text ~ /^element of XUID/ && is_past_sixteenth()) return "numbers of XUID past the sixteenth"
-        if (text ~ /^BlueValues not defined/ && late) return "BlueValues not at the beginning of a line"
+        if (text ~ /^BlueValues not defined/ && late) return "BlueValues where t1lint loses its place"
     } else if (where ~ /^subr /) {
         number = substr(where, 6)
         if (text ~ /commands past end|does not return/ && number in ghost) return "a glyph behind a blank, taken for a Subr"

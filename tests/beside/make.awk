@@ -19,7 +19,8 @@ function add(token,    i) {
         if (commands[token] >= 256) out[size++] = 12
         out[size++] = commands[token] % 256
     } else if (token ~ /^#/)
-        for (i = 2; i < length(token); i += 2) out[size++] = 16 * (index(digits, substr(token, i, 1)) - 1) + index(digits, substr(token, i + 1, 1)) - 1
+        for (i = 2; i < length(token); i += 2)
+            out[size++] = 16 * (index(digits, substr(token, i, 1)) - 1) + index(digits, substr(token, i + 1, 1)) - 1
     else if (token >= -107 && token <= 107) out[size++] = token + 139
     else {
         out[size++] = (token < 0 ? 251 : 247) + int(((token < 0 ? -token : token) - 108) / 256)

@@ -1,6 +1,9 @@
-# Reads a font's bytes, as `od -An -v -tu1` prints them, and writes what tests/beside/causes.awk looks at: `key NAME VALUE` for each entry that t1lint reads
-# as a number or numbers; `late` if no line begins with a whole /BlueValues; `glyph NAME`; `subr N BYTES`; and `ghost N` for an entry of a glyph behind a
-# blank, which t1lint takes for Subr N.
+# Reads a font's bytes, as `od -An -v -tu1` prints them, and writes what tests/beside/causes.awk looks at, a line each:
+#     key NAME VALUE   an entry that t1lint reads as a number or numbers
+#     late             no line begins with a whole /BlueValues, or with `currentfile eexec`
+#     glyph NAME
+#     subr N BYTES
+#     ghost N          the entry of a glyph behind a blank, which t1lint takes for Subr N
 
 function decrypt(byte,    high, plain) {
     high = int(state / 256)
@@ -86,6 +89,7 @@ END {
         line = line code[file[at]]
     }
     text = text line
+    if (text !~ /[\r\n]currentfile eexec[ \t\r\n]+$/) print "late"
     size = open_section(at)
     line = ""
     for (at = 4; at < size; at++) {
