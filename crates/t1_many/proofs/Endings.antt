@@ -95,7 +95,7 @@ text_unread value edition font text Memory any = no_memory refl
 pub file_unread : (edition : Edition) (font : FontValue) (asked : Bool) (old new : SourceState) (failure : Failure)
     → IsNoWaiverText asked old new failure → IsFound edition (of_font edition font asked old new) (ended failure)
 file_unread edition font asked old new failure (too_large waived heard is) =
-    waivers_refused font refl WaiversTooLarge (waived, heard) (ap ended is)
+    waivers_refused font refl WaiversTooLarge (waived edition, heard) (ap ended is)
 file_unread edition font asked old new failure (read_failed is_asked broke is) = breaks_waivers font refl (is_asked, broke) (ap ended is)
 file_unread edition font asked old new failure (no_room kept is) = no_memory (ap ended is)
 
@@ -104,7 +104,7 @@ pub text_of_file : (edition : Edition) (font : FontValue) (asked : Bool) (old ne
 text_of_file edition font asked old new text is = record {
   reads = λ read same. same;
   breaks = λ never. never;
-  waives = λ waived same. (subst (λ (w : Result (List Waiver) Reason). AreWaived edition asked old.left w) same is.read, is.heard);
+  waives = λ waived same. (subst (λ (w : Result (List Waiver) Reason). AreWaived edition asked old.left w) same (is.read edition), is.heard);
   breaks_waivers = λ never. absurd never;
 }
 
