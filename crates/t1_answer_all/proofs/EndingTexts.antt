@@ -1,5 +1,5 @@
 -- What is printed once all fonts were checked, step by step.
-use Rattle.std.proofs.Common.{◌≡◌, ℕ, Bool, true, false, List, [], ◌∷◌, Option, Result, Ok, Err, if◌then◌else◌, refl, sym, subst, ◌∙◌}
+use Rattle.std.proofs.Common.{◌≡◌, ℕ, Bool, true, false, List, Option, Result, Ok, Err, if◌then◌else◌, refl, sym, subst}
 use Rattle.std.specs.Result.{IsErrAnd}
 use Rattle.t1_answer_all.specs.Endings.{CountsRows, Ends, mismatches_text, rest_text}
 use Rattle.t1_answer_all.specs.Plans.{PlanValue}

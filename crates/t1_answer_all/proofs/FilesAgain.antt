@@ -28,7 +28,6 @@ use Rattle.t1_many.specs.declared.font_error.FontError.TheVariants.{Unchecked}
 use Rattle.t1_many.specs.declared.font_error.Obstacle.TheVariants.{LineEnd}
 use Rattle.t1_many.specs.declared.font_files.WaiverFiles.{WaiverFiles}
 use Rattle.t1_names.proofs.OnceLaws.{none_is_twice}
-use Rattle.t1_names.specs.Once.{each_once}
 use Rattle.t1_report.proofs.OneReport.{no_other_report}
 use Rattle.t1_report.specs.Checked.{checked}
 use Rattle.t1_report.specs.Faults.{FaultValue}

@@ -1,5 +1,5 @@
 -- What is written of fonts, by the layout.
-use Rattle.std.specs.Prelude.{◌≡◌, ℕ, Bool, List, Option, None, Some, Result, Ok, Err, IfOk}
+use Rattle.std.specs.Prelude.{◌≡◌, Bool, List, Option, None, Some, Result, Ok, Err, IfOk}
 use Rattle.t1_answer_all.specs.Checks.{Checked, ChecksFonts, IsFound}
 use Rattle.t1_answer_all.specs.Unlisted.{GivesEach}
 use Rattle.t1_answer_all.specs.Plans.{Run}

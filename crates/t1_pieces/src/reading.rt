@@ -11,6 +11,7 @@ use crate::piece::Piece;
 use crate::refusal::refuse;
 use crate::request::Request;
 use std::alloc::Global;
+use t1_char::Edition;
 use t1_font::{Font, OpenFont};
 use t1_refusals::Reason;
 use t1_report::{LARGEST_WAIVERS, Mark, Waivers};
