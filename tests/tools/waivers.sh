@@ -79,6 +79,27 @@ glyphs.pfb: refused: E14 waivers malformed
 END
 try 'malformed waivers' 2 "$all" -q glyphs.pfb
 
+# Rules after number 70 are waived in the third edition, and in no other.
+cp "$fonts/H06.pfb" later.pfb
+wanted <<'END'
+--
+END
+try 'waivers of a later rule are written' 0 "$all" -q --edition 3 --write-waivers later.pfb
+wanted <<'END'
+A H06
+--
+END
+try 'the waivers of a later rule' 0 cat later.pfb.waivers
+wanted <<'END'
+--
+END
+try 'waivers of a later rule' 0 "$all" -q --edition 3 later.pfb
+wanted <<'END'
+later.pfb: refused: E14 waivers malformed
+--
+END
+try 'waivers of a later rule, in the second edition' 2 "$all" -q --edition 2 later.pfb
+
 # Waivers past 1,048,576 bytes aren't read, so they aren't written. The first font has 8,192 lines of 128 bytes, the other one byte more.
 awk 'BEGIN { for (i = 1; i <= 8192; i++) printf "%0123d 1\n", i }' | make_font most.pfa
 awk 'BEGIN { for (i = 1; i <= 8191; i++) printf "%0123d 1\n", i; printf "%0124d 1\n", i }' | make_font past.pfa
