@@ -86,7 +86,7 @@ const CHOICES: &[Case] = &[
         CODES,
     ),
     (&["t1check-all", "--only", "E05", "a.pfb"], CODES),
-    (&["t1check-all", "--only", "H05", "a.pfb"], CODES),
+    (&["t1check-all", "--only", "H08", "a.pfb"], CODES),
     (&["t1check-all", "--only", "H0", "a.pfb"], CODES),
     (
         &["t1check-all", "--except", "e", "a.pfb"],
@@ -172,7 +172,7 @@ const COMBINATIONS: &[Case] = &[
 
 /// Where several things are wrong, the first is reported.
 const FIRST: &[Case] = &[
-    (&["t1check-all", "--edition=3", "-j0"], JOBS),
+    (&["t1check-all", "--edition=4", "-j0"], JOBS),
     (
         &["t1check-all", "--shard=0/0", "--format=x"],
         "--format wants jsonl, sarif or github",
