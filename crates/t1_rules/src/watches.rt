@@ -118,10 +118,14 @@ impl Watch for Watches {
         let stems = self.stems.see_known(token, call, step);
         let othersubrs = self.othersubrs.see_known(token, call, step);
         let seac = self.seac.see_known(token, call, step);
+        let glyph = flex.join(othersubrs.join(seac));
+        let early = arguments.join(calls.join(paths.join(stems.join(glyph))));
+        if !self.counters.is_on() {
+            return early;
+        }
         let triples = self.triples.see_known(token, call, step);
         let counters = self.counters.see_known(token, call, step);
-        let glyph = flex.join(othersubrs.join(seac.join(triples.join(counters))));
-        arguments.join(calls.join(paths.join(stems.join(glyph))))
+        early.join(triples.join(counters))
     }
 
     #[inline(always)]

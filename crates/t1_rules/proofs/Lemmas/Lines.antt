@@ -1,10 +1,11 @@
 -- Lines, curves, closepaths and moves in the midst of a path: what watchers keep and say of them.
-use Rattle.std.proofs.Common.{◌≡◌, ℕ, suc, Bool, ℤ, pos, ◌+◌, ◌*◌, ◌^◌, ◌+ℤ◌, nat_lt, true, false, List, [], ◌∷◌, ◌++◌, length, take, slice_index_or, refl, sym, ◌∙◌, subst, arith}
+use Rattle.std.proofs.Common.{◌≡◌, ℕ, suc, ◌&&◌, Bool, ℤ, pos, ◌+◌, ◌*◌, ◌^◌, ◌+ℤ◌, nat_lt, true, false, List, [], ◌∷◌, ◌++◌, length, take, slice_index_or, refl, sym, ◌∙◌, subst, arith}
 use Rattle.std.proofs.lemmas.Int.{ints, clamps}
 use Rattle.std.proofs.Math.Bool.{and-true, or-true}
 use Rattle.std.proofs.lemmas.List.{take_all}
 use Rattle.std.specs.List.{list_any}
 use Rattle.t1_char.specs.Arguments.{argument, is_callothersubr}
+use Rattle.t1_char.specs.Editions.{has_later_rules}
 use Rattle.t1_char.specs.Effects.{is_finishing}
 use Rattle.t1_char.specs.Lines.{IsLed, is_line_command, is_move_command, way_by}
 use Rattle.t1_char.specs.Numbers.{clamped}
@@ -308,15 +309,15 @@ stays_at_close edition w before t is calm steady drawn st = (
 
 pub no_fault_at_close : (edition : Edition) (n : ℕ) (before : List StepView) (t : StepView) → t.token ≡ Command Closepath → t.stack ≡ []
     → is_replaced before ≡ false → is_replaced_and_popped before ≡ false → any_so_far clearing_step before ≡ true
-    → in_flex before ≡ false → is_open before ≡ true → last_told_is goes_on_counting before ≡ false → breaks (step_rules edition) n before t ≡ false
+    → in_flex before ≡ false → is_open before ≡ true → (has_later_rules edition && last_told_is goes_on_counting before) ≡ false → breaks (step_rules edition) n before t ≡ false
 unfolding step_rules argument_rules call_rules path_rules stem_rules flex_rules othersubr_rules seac_rules
 no_fault_at_close edition n before t is alone replaced popped begun outside drawn ended =
-    rw (is, alone, replaced, popped, begun, outside, drawn) (none_later edition before t (rw is refl) (rw is refl) (rw (is, ended) refl) n)
+    rw (is, alone, replaced, popped, begun, outside, drawn) (none_later edition before t (rw is refl) (rw is refl) (rw is ended) n)
 
 -- Nor is a rule broken.
 pub no_fault_at_line : (edition : Edition) (n : ℕ) (before : List StepView) (t : StepView) (command : Commands) → t.token ≡ Command command
     → IsLed is_line_command command t.stack → is_replaced before ≡ false → is_replaced_and_popped before ≡ false → any_so_far clearing_step before ≡ true
-    → in_flex before ≡ false → is_moved before ≡ true → last_told_is goes_on_counting before ≡ false → breaks (step_rules edition) n before t ≡ false
+    → in_flex before ≡ false → is_moved before ≡ true → (has_later_rules edition && last_told_is goes_on_counting before) ≡ false → breaks (step_rules edition) n before t ≡ false
 unfolding step_rules argument_rules call_rules path_rules stem_rules flex_rules othersubr_rules seac_rules
 no_fault_at_line edition n before t command is line replaced popped begun outside moved ended =
     let f : IsLedToken true false command = line_token command line.led in
@@ -349,11 +350,11 @@ no_fault_at_line edition n before t command is line replaced popped begun outsid
       begun,
       outside,
       moved,
-    ) (none_later edition before t (rw is f.stem) (rw is f.othersubr) (rw (is, f.clears, ended) refl) n)
+    ) (none_later edition before t (rw is f.stem) (rw is f.othersubr) (rw (is, f.clears) ended) n)
 
 pub no_fault_at_move : (edition : Edition) (n : ℕ) (before : List StepView) (t : StepView) (command : Commands) → t.token ≡ Command command
     → IsLed is_move_command command t.stack → is_replaced before ≡ false → is_replaced_and_popped before ≡ false
-    → any_so_far clearing_step before ≡ true → in_flex before ≡ false → is_open before ≡ false → last_told_is goes_on_counting before ≡ false
+    → any_so_far clearing_step before ≡ true → in_flex before ≡ false → is_open before ≡ false → (has_later_rules edition && last_told_is goes_on_counting before) ≡ false
     → breaks (step_rules edition) n before t ≡ false
 unfolding step_rules argument_rules call_rules path_rules stem_rules flex_rules othersubr_rules seac_rules
 no_fault_at_move edition n before t command is move replaced popped begun outside undrawn ended =
@@ -387,4 +388,4 @@ no_fault_at_move edition n before t command is move replaced popped begun outsid
       begun,
       outside,
       undrawn,
-    ) (none_later edition before t (rw is f.stem) (rw is f.othersubr) (rw (is, f.clears, ended) refl) n)
+    ) (none_later edition before t (rw is f.stem) (rw is f.othersubr) (rw (is, f.clears) ended) n)

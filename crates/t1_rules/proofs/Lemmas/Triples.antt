@@ -18,7 +18,7 @@ use Rattle.t1_rules.specs.StepRules.Stems.{is_stem, stem_at, stems_of}
 use Rattle.t1_rules.specs.StepRules.Tokens.{IsCommand}
 use Rattle.t1_rules.specs.StepRules.Triples.{came, is_hstem, is_hstem3, is_thin, is_vstem, is_vstem3, last_triple, changes_by, stands_beside, triple_of}
 use Rattle.t1_rules.specs.Private.KeyTests.{broken_among}
-use Rattle.t1_rules.specs.Private.Standing.{TriplesStandFor}
+use Rattle.t1_rules.specs.Private.Standing.{TriplesKeep, TriplesStandFor}
 use Rattle.t1_rules.specs.Private.StepTests.{breaks_by_one, breaks_by_three}
 use Rattle.t1_rules.proofs.Lemmas.Counters.{some_goes_on}
 
@@ -33,20 +33,28 @@ last_triple_goes_on kind before t = ap (option_map triple_of) (last_goes_on (λ 
     go false = refl
 
 -- What is kept after a step, by what was kept before it.
-pub one_more_triple : (edition : Edition) (old new : TripleWatcher) (before : List StepView) (t : StepView) → TriplesStandFor edition old before
-    → new.is_on ≡ old.is_on
+pub one_more_triple : (old new : TripleWatcher) (before : List StepView) (t : StepView) → TriplesKeep old before
     → new.hstem ≡ (old.hstem || is_hstem t.token)
     → new.hstem3 ≡ (if is_hstem3 t.token then Some (triple_of t) else old.hstem3)
     → new.vstem ≡ (old.vstem || is_vstem t.token)
     → new.vstem3 ≡ (if is_vstem3 t.token then Some (triple_of t) else old.vstem3)
-    → TriplesStandFor edition new (before ++ t ∷ [])
-one_more_triple edition old new before t st is_on hstem hstem3 vstem vstem3 = record {
-  is_on = is_on ∙ st.is_on;
+    → TriplesKeep new (before ++ t ∷ [])
+one_more_triple old new before t st hstem hstem3 vstem vstem3 = record {
   hstem = hstem ∙ rw st.hstem (sym (some_goes_on (λ s. is_hstem s.token) before t));
   hstem3 = hstem3 ∙ rw st.hstem3 (sym (last_triple_goes_on is_hstem3 before t));
   vstem = vstem ∙ rw st.vstem (sym (some_goes_on (λ s. is_vstem s.token) before t));
   vstem3 = vstem3 ∙ rw st.vstem3 (sym (last_triple_goes_on is_vstem3 before t));
 }
+
+-- Where the edition hasn't these rules, nothing has to be kept.
+pub triples_stay_off : (edition : Edition) (w : TripleWatcher) (before : List StepView) (t : StepView) → has_later_rules edition ≡ false
+    → TriplesStandFor edition w before → TriplesStandFor edition w (before ++ t ∷ [])
+triples_stay_off edition w before t none st = record { is_on = st.is_on; kept = λ has. let no : true ≡ false = sym has ∙ none in cc }
+
+-- Where it has them, what is kept goes on.
+pub triples_go_on : (edition : Edition) (old new : TripleWatcher) (before : List StepView) (t : StepView) → new.is_on ≡ old.is_on
+    → TriplesStandFor edition old before → TriplesKeep new (before ++ t ∷ []) → TriplesStandFor edition new (before ++ t ∷ [])
+triples_go_on edition old new before t on st keeps = record { is_on = on ∙ st.is_on; kept = λ has. keeps }
 
 -- What sets no stem leaves all as it is.
 record IsNoStem (token : CharToken) : Type 0 where
@@ -66,11 +74,14 @@ pub stays_for_triples : (edition : Edition) (w : TripleWatcher) (before : List S
     → TriplesStandFor edition w (before ++ t ∷ [])
 stays_for_triples edition w before t sets_none st =
     let none : IsNoStem t.token = no_stem t.token sets_none in
-    one_more_triple edition w w before t st refl
-    (rw none.hstem (sym (or-false w.hstem)))
-    (rw none.hstem3 refl)
-    (rw none.vstem (sym (or-false w.vstem)))
-    (rw none.vstem3 refl)
+    record {
+      is_on = st.is_on;
+      kept = λ has. one_more_triple w w before t (st.kept has)
+          (rw none.hstem (sym (or-false w.hstem)))
+          (rw none.hstem3 refl)
+          (rw none.vstem (sym (or-false w.vstem)))
+          (rw none.vstem3 refl);
+    }
 
 -- Each of the four tests is true of one command; what passes none of them sets no stem.
 pub is_at_hstem : (token : CharToken) → is_hstem token ≡ true → token ≡ Command Hstem
@@ -142,26 +153,26 @@ none_at_no_stem edition before t none n =
     last false stem thin beside another a b c = refl
 
 -- A stem of a command for one breaks what its direction's commands before it say, and three do.
-pub at_one_across : (edition : Edition) (w : TripleWatcher) (before : List StepView) (t : StepView) → TriplesStandFor edition w before → w.is_on ≡ true
+pub at_one_across : (edition : Edition) (w : TripleWatcher) (before : List StepView) (t : StepView) → has_later_rules edition ≡ true → TriplesKeep w before
     → IsCommand t Hstem → (n : ℕ) → breaks_by_one w.hstem w.hstem3 (stem_at t.stack 0 ∷ []) n ≡ breaks (triple_rules edition) n before t
 unfolding triple_rules
-at_one_across edition w before t st on is n =
-    rw (is, sym st.is_on ∙ on, sym st.hstem, came_by_triple is_hstem3 before w.hstem3 st.hstem3) refl
+at_one_across edition w before t has st is n =
+    rw (is, has, sym st.hstem, came_by_triple is_hstem3 before w.hstem3 st.hstem3) refl
 
-pub at_one_upright : (edition : Edition) (w : TripleWatcher) (before : List StepView) (t : StepView) → TriplesStandFor edition w before → w.is_on ≡ true
+pub at_one_upright : (edition : Edition) (w : TripleWatcher) (before : List StepView) (t : StepView) → has_later_rules edition ≡ true → TriplesKeep w before
     → IsCommand t Vstem → (n : ℕ) → breaks_by_one w.vstem w.vstem3 (stem_at t.stack 0 ∷ []) n ≡ breaks (triple_rules edition) n before t
 unfolding triple_rules
-at_one_upright edition w before t st on is n =
-    rw (is, sym st.is_on ∙ on, sym st.vstem, came_by_triple is_vstem3 before w.vstem3 st.vstem3) refl
+at_one_upright edition w before t has st is n =
+    rw (is, has, sym st.vstem, came_by_triple is_vstem3 before w.vstem3 st.vstem3) refl
 
-pub at_three_across : (edition : Edition) (w : TripleWatcher) (before : List StepView) (t : StepView) → TriplesStandFor edition w before → w.is_on ≡ true
+pub at_three_across : (edition : Edition) (w : TripleWatcher) (before : List StepView) (t : StepView) → has_later_rules edition ≡ true → TriplesKeep w before
     → IsCommand t Hstem3 → (n : ℕ) → breaks_by_three w.hstem w.hstem3 (triple_of t) n ≡ breaks (triple_rules edition) n before t
 unfolding triple_rules
-at_three_across edition w before t st on is n =
-    rw (is, sym st.is_on ∙ on, sym st.hstem, came_by_triple is_hstem3 before w.hstem3 st.hstem3, sym st.hstem3, sym (not_some w.hstem3)) refl
+at_three_across edition w before t has st is n =
+    rw (is, has, sym st.hstem, came_by_triple is_hstem3 before w.hstem3 st.hstem3, sym st.hstem3, sym (not_some w.hstem3)) refl
 
-pub at_three_upright : (edition : Edition) (w : TripleWatcher) (before : List StepView) (t : StepView) → TriplesStandFor edition w before → w.is_on ≡ true
+pub at_three_upright : (edition : Edition) (w : TripleWatcher) (before : List StepView) (t : StepView) → has_later_rules edition ≡ true → TriplesKeep w before
     → IsCommand t Vstem3 → (n : ℕ) → breaks_by_three w.vstem w.vstem3 (triple_of t) n ≡ breaks (triple_rules edition) n before t
 unfolding triple_rules
-at_three_upright edition w before t st on is n =
-    rw (is, sym st.is_on ∙ on, sym st.vstem, came_by_triple is_vstem3 before w.vstem3 st.vstem3, sym st.vstem3, sym (not_some w.vstem3)) refl
+at_three_upright edition w before t has st is n =
+    rw (is, has, sym st.vstem, came_by_triple is_vstem3 before w.vstem3 st.vstem3, sym st.vstem3, sym (not_some w.vstem3)) refl

@@ -1,6 +1,8 @@
 -- Sets of two groups of rules, joined; and what all watchers keep and say at a number.
-use Rattle.std.proofs.Common.{◌≡◌, ℕ, ℤ, ◌<◌, ◌==◌, ◌||◌, Bool, false, List, [], ◌∷◌, ◌++◌, length, refl, sym, ◌∙◌, arith}
+use Rattle.std.proofs.Common.{◌≡◌, ℕ, ℤ, ◌<◌, ◌==◌, ◌||◌, Bool, true, false, List, [], ◌∷◌, ◌++◌, length, refl, sym, ◌∙◌, arith}
+use Rattle.std.proofs.Math.Bool.{and-false}
 use Rattle.std.proofs.lemmas.List.Folds.{list_any-append}
+use Rattle.t1_char.specs.Editions.{has_later_rules}
 use Rattle.t1_char.specs.Steps.{StepView}
 use Rattle.t1_char.specs.declared.edition.Edition.{Edition}
 use Rattle.t1_char.specs.declared.token.CharToken.TheVariants.{Number}
@@ -23,6 +25,22 @@ pub joined : (one other : List StepRule) (n : ℕ) (before : List StepView) (t :
     → both ≡ breaks (one ++ other) n before t
 joined one other n before t both left right is by_left by_right =
     is ∙ rw (by_left, by_right) (sym (list_any-append _ one other))
+
+-- Seven sets and one more: the last can be joined to all of them.
+pub last_joined : (a b c d e f g last : Bool) → ((a || (b || (c || (d || (e || (f || g)))))) || last) ≡ (a || (b || (c || (d || (e || (f || (g || last)))))))
+last_joined true b c d e f g last = refl
+last_joined false true c d e f g last = refl
+last_joined false false true d e f g last = refl
+last_joined false false false true e f g last = refl
+last_joined false false false false true f g last = refl
+last_joined false false false false false true g last = refl
+last_joined false false false false false false g last = refl
+
+-- A watcher of counter control that keeps nothing tells that the edition hasn't the rules after number 70.
+pub is_off : (edition : Edition) (w : Watches) (before : List StepView) → WatchesStandFor edition w before → w.counters.is_on ≡ false
+    → has_later_rules edition ≡ false
+unfolding WatchesStandFor
+is_off edition w before st none = sym st.1.1.1.1.1.is_on ∙ none
 
 -- What is kept stays after a number, where the last steps leave it so.
 pub stays_at_number : (edition : Edition) (w : Watches) (before : List StepView) (t : StepView) (z : ℤ) → t.token ≡ Number z → IsCalm w
@@ -62,4 +80,4 @@ pub no_fault_at_number : (edition : Edition) (n : ℕ) (before : List StepView) 
 unfolding step_rules argument_rules call_rules path_rules stem_rules flex_rules othersubr_rules seac_rules
 no_fault_at_number edition n before t z is few replaced popped =
     let room : (length t.stack == 24) ≡ false = grind (arith, few) in
-    rw (is, room, replaced, popped) (none_later edition before t (rw is refl) (rw is refl) (rw is refl) n)
+    rw (is, room, replaced, popped) (none_later edition before t (rw is refl) (rw is refl) (rw is (and-false (has_later_rules edition))) n)

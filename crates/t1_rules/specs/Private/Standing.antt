@@ -1,5 +1,5 @@
 -- What watchers keep of the steps that they have seen: the relations by which the law of `Watch` is said.
-use Rattle.std.specs.Prelude.{◌≡◌, ⊤, ◌&&◌, ◌≤◌, List, length}
+use Rattle.std.specs.Prelude.{◌≡◌, ⊤, true, ◌&&◌, ◌≤◌, List, length}
 use Rattle.t1_char.specs.declared.edition.Edition.{Edition}
 use Rattle.t1_char.specs.Arguments.{is_flex_end}
 use Rattle.t1_char.specs.Editions.{has_later_rules}
@@ -55,19 +55,28 @@ pub record SeacStandsFor (watcher : SeacWatcher) (before : List StepView) : Type
   pub in_flex : watcher.in_flex ≡ in_flex before
   pub outlined : watcher.outlined ≡ any_so_far makes_outline before
 
-pub record TriplesStandFor (edition : Edition) (watcher : TripleWatcher) (before : List StepView) : Type 0 where
-  pub is_on : watcher.is_on ≡ has_later_rules edition
+-- What the watchers of rules after number 70 keep where the edition has these; else they keep nothing, and counter
+-- control goes on nowhere.
+pub record TriplesKeep (watcher : TripleWatcher) (before : List StepView) : Type 0 where
   pub hstem : watcher.hstem ≡ came is_hstem before
   pub hstem3 : watcher.hstem3 ≡ last_triple is_hstem3 before
   pub vstem : watcher.vstem ≡ came is_vstem before
   pub vstem3 : watcher.vstem3 ≡ last_triple is_vstem3 before
 
-pub record CountersStandFor (edition : Edition) (watcher : CounterWatcher) (before : List StepView) : Type 0 where
+pub record TriplesStandFor (edition : Edition) (watcher : TripleWatcher) (before : List StepView) : Type 0 where
   pub is_on : watcher.is_on ≡ has_later_rules edition
+  pub kept : has_later_rules edition ≡ true → TriplesKeep watcher before
+
+pub record CountersKeep (watcher : CounterWatcher) (before : List StepView) : Type 0 where
   pub begun : watcher.begun ≡ any_so_far clearing_step before
   pub opened : watcher.opened ≡ last_told_is opens_counting before
   pub going_on : watcher.going_on ≡ last_told_is goes_on_counting before
   pub ended : watcher.ended ≡ is_counted before
+
+pub record CountersStandFor (edition : Edition) (watcher : CounterWatcher) (before : List StepView) : Type 0 where
+  pub is_on : watcher.is_on ≡ has_later_rules edition
+  pub kept : has_later_rules edition ≡ true → CountersKeep watcher before
+  pub going_on : watcher.going_on ≡ (has_later_rules edition && last_told_is goes_on_counting before)
 
 -- All watchers match the same steps; those of arguments, calls and OtherSubrs keep nothing.
 unfoldable pub WatchesStandFor : Edition → Watches → List StepView → Type 0

@@ -13,7 +13,7 @@ ghost use Rattle.t1_rules.specs.Mask.{has};
 ghost use Rattle.t1_rules.specs.StepRules.{breaks, counter_rules};
 ghost use Rattle.t1_rules.specs.StepRules.Counters.{ends_counting, goes_on_counting, is_below};
 ghost use Rattle.t1_rules.specs.StepRules.Tokens.{IsCommand};
-ghost use Rattle.t1_rules.specs.Private.Standing.{CountersStandFor};
+ghost use Rattle.t1_rules.specs.Private.Standing.{CountersKeep};
 
 use crate::mask::Mask;
 use crate::rule::Rule;
@@ -57,6 +57,9 @@ impl Watch for CounterWatcher {
 
     #[inline(always)]
     fn see_known(&mut self, token: CharToken, _call: OthersubrCall, step: &Step) -> Mask {
+        if !self.is_on {
+            return Mask::empty();
+        }
         let broken = self.faults(token, step);
         self.go_on(token, step);
         broken
@@ -68,6 +71,14 @@ impl Watch for CounterWatcher {
 }
 
 impl CounterWatcher {
+    /// Whether the edition has these rules, and those of stems beside three.
+    #[inline(always)]
+    pub(crate) fn is_on(&self) -> bool
+        ensures { result ≡ self.now.is_on }
+    {
+        self.is_on
+    }
+
     /// Whether the last step that tells something is neither the width nor counter control, so that no rule speaks of
     /// a line or a move, and nothing changes at these.
     #[inline(always)]
@@ -78,16 +89,15 @@ impl CounterWatcher {
         !(self.opened | self.going_on)
     }
 
-    /// What a step breaks.
+    /// What a step breaks in an edition that has these rules.
     #[inline(always)]
     fn faults(&self, token: CharToken, step: &Step) -> Mask
         requires token { step.now.token ≡ token }
-        ensures { (edition : Editions) (before : List StepView) → CountersStandFor edition self.now before →
+        ensures { (edition : Editions) (before : List StepView) → has_later_rules edition ≡ true →
+            CountersKeep self.now before →
             (n : ℕ) → has result n ≡ breaks (counter_rules edition) n before (step_view step.now) }
     {
-        if !self.is_on {
-            Mask::empty()
-        } else if is_callothersubr(token) {
+        if is_callothersubr(token) {
             self.call_faults(step)
         } else {
             Mask::empty().with(Rule::O08, clears(token) & self.going_on)
@@ -98,8 +108,8 @@ impl CounterWatcher {
     #[inline(never)]
     fn call_faults(&self, step: &Step) -> Mask
         requires token { IsCommand (step_view step.now) Callothersubr }
-        ensures { (edition : Editions) (before : List StepView) → CountersStandFor edition self.now before →
-            has_later_rules edition ≡ true →
+        ensures { (edition : Editions) (before : List StepView) → has_later_rules edition ≡ true →
+            CountersKeep self.now before →
             (n : ℕ) → has result n ≡ breaks (counter_rules edition) n before (step_view step.now) }
     {
         if step.stack.len() < 2 {
@@ -120,8 +130,9 @@ impl CounterWatcher {
     #[inline(always)]
     fn go_on(&mut self, token: CharToken, step: &Step)
         requires token { step.now.token ≡ token }
-        ensures { (edition : Editions) (before : List StepView) → CountersStandFor edition self.old before →
-            CountersStandFor edition self.new (before ++ step_view step.now ∷ []) }
+        ensures is_on { self.new.is_on ≡ self.old.is_on }
+        ensures kept { (before : List StepView) → CountersKeep self.old before →
+            CountersKeep self.new (before ++ step_view step.now ∷ []) }
     {
         if is_callothersubr(token) {
             self.go_on_by_call(step);
@@ -136,8 +147,9 @@ impl CounterWatcher {
     #[inline(always)]
     fn go_on_by_call(&mut self, step: &Step)
         requires token { IsCommand (step_view step.now) Callothersubr }
-        ensures { (edition : Editions) (before : List StepView) → CountersStandFor edition self.old before →
-            CountersStandFor edition self.new (before ++ step_view step.now ∷ []) }
+        ensures is_on { self.new.is_on ≡ self.old.is_on }
+        ensures kept { (before : List StepView) → CountersKeep self.old before →
+            CountersKeep self.new (before ++ step_view step.now ∷ []) }
     {
         if step.stack.len() >= 2 {
             self.going_on = goes_on_counting(step);

@@ -1,13 +1,14 @@
 //! The rules on thin stems, and on stems beside three of one command, H05 to H07: Type 1 Font Format 1.1, chapter 6.
 
-ghost use Rattle.std.specs.Prelude.{◌≡◌, if◌then◌else◌, Some, ℕ, List, [], ◌∷◌, ◌++◌};
+ghost use Rattle.std.specs.Prelude.{◌≡◌, true, if◌then◌else◌, Some, ℕ, List, [], ◌∷◌, ◌++◌};
 ghost use Rattle.std.specs.List.{list_any};
 ghost use Rattle.t1_char.specs.declared.edition.Edition.{Edition as Editions};
+ghost use Rattle.t1_char.specs.Editions.{has_later_rules};
 ghost use Rattle.t1_char.specs.Steps.{StepView};
 ghost use Rattle.t1_char.specs.StepValues.{step_view};
 ghost use Rattle.t1_rules.specs.Mask.{has};
 ghost use Rattle.t1_rules.specs.StepRules.{breaks, triple_rules};
-ghost use Rattle.t1_rules.specs.Private.Standing.{TriplesStandFor};
+ghost use Rattle.t1_rules.specs.Private.Standing.{TriplesKeep};
 ghost use Rattle.t1_rules.specs.Private.StepTests.{breaks_by_one, breaks_by_three};
 ghost use Rattle.t1_rules.specs.StepRules.Stems.{stem_at};
 ghost use Rattle.t1_rules.specs.StepRules.Triples.{differs_from, have_same_edges, is_hstem, is_hstem3, is_thin, is_vstem, is_vstem3, triple_of};
@@ -61,6 +62,9 @@ impl Watch for TripleWatcher {
 
     #[inline(always)]
     fn see_known(&mut self, token: CharToken, _call: OthersubrCall, step: &Step) -> Mask {
+        if !self.is_on {
+            return Mask::empty();
+        }
         let broken = self.faults(token, step);
         self.go_on(token, step);
         broken
@@ -72,16 +76,15 @@ impl Watch for TripleWatcher {
 }
 
 impl TripleWatcher {
-    /// What a step breaks.
+    /// What a step breaks in an edition that has these rules.
     #[inline(always)]
     fn faults(&self, token: CharToken, step: &Step) -> Mask
         requires token { step.now.token ≡ token }
-        ensures { (edition : Editions) (before : List StepView) → TriplesStandFor edition self.now before →
+        ensures { (edition : Editions) (before : List StepView) → has_later_rules edition ≡ true →
+            TriplesKeep self.now before →
             (n : ℕ) → has result n ≡ breaks (triple_rules edition) n before (step_view step.now) }
     {
-        if !self.is_on {
-            Mask::empty()
-        } else if is_hstem(token) {
+        if is_hstem(token) {
             one_faults(self.hstem, self.hstem3, step)
         } else if is_vstem(token) {
             one_faults(self.vstem, self.vstem3, step)
@@ -98,8 +101,9 @@ impl TripleWatcher {
     #[inline(always)]
     fn go_on(&mut self, token: CharToken, step: &Step)
         requires token { step.now.token ≡ token }
-        ensures { (edition : Editions) (before : List StepView) → TriplesStandFor edition self.old before →
-            TriplesStandFor edition self.new (before ++ step_view step.now ∷ []) }
+        ensures is_on { self.new.is_on ≡ self.old.is_on }
+        ensures kept { (before : List StepView) → TriplesKeep self.old before →
+            TriplesKeep self.new (before ++ step_view step.now ∷ []) }
     {
         self.hstem = self.hstem | is_hstem(token);
         self.vstem = self.vstem | is_vstem(token);
