@@ -70,4 +70,4 @@ pub use seacs::{steps_lack_seac, subrs_lack_seac};
 pub use stack::{MOST_NUMBERS, Stack};
 pub use step::{MOST_CALLS, Path, Step};
 pub use token::{CharToken, is_callothersubr, is_callsubr, is_end, is_finishing, is_return};
-pub use token_list::{has_return, tokens};
+pub use token_list::{has_return, last_token, tokens};

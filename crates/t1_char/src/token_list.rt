@@ -4,12 +4,13 @@ ghost use Rattle.std.specs.List.{list_any};
 ghost use Rattle.std.specs.Prelude.{◌≡◌, IfOk, negsuc, pos, ◌≤ℤ◌};
 ghost use Rattle.t1_font.specs.Bounds.{greatest_len_iv};
 ghost use Rattle.t1_char.specs.Charstrings.{tokens_in};
+ghost use Rattle.t1_char.specs.Endings.{last_token};
 ghost use Rattle.t1_char.specs.Steps.{is_return};
 ghost use Rattle.t1_char.specs.Tokens.{charstring_tokens};
 
 use crate::charstrings::cursor_at;
 use crate::cursor::Cursor;
-use crate::token::{CharToken, is_return};
+use crate::token::{CharToken, is_end, is_return};
 use std::alloc::{AllocError, Global};
 use t1_font::Font;
 
@@ -44,5 +45,20 @@ pub fn has_return(font: &Font<'_>, code: &[u8]) -> bool
         if matches!(token, CharToken::End) {
             return false;
         }
+    }
+}
+
+/// Returns the last token of a charstring of a font before its end, or None where it has none. No memory is taken.
+pub fn last_token(font: &Font<'_>, code: &[u8]) -> Option<CharToken>
+    ensures { result ≡ last_token (tokens_in font.now code.now) }
+{
+    let mut cursor = cursor_at(font, code);
+    let mut last = None;
+    loop {
+        let token = cursor.next_token();
+        if is_end(token) {
+            return last;
+        }
+        last = Some(token);
     }
 }

@@ -12,7 +12,7 @@ use Rattle.t1_reasons.specs.declared.reason.Edges.{Edges}
 use Rattle.t1_reasons.specs.declared.reason.Found.{Found}
 use Rattle.t1_reasons.specs.declared.reason.Found.TheVariants.{Absent, One, Other, Several}
 use Rattle.t1_reasons.specs.declared.reason.Reason.{Reason}
-use Rattle.t1_reasons.specs.declared.reason.Reason.TheVariants.{Argument, Arguments, Behind, Code, Codes, Count, Depth, Ending, Entry, Falling, Features, Form, Full, Gap, Glyph, Glyphs, Ids, Kind, Length, Limit, Miss, Nothing, Numbers, Open, Othersubr, Pairs, Quotient, Sidebearings, Since, Stem, Stems, Subr, SubrEntry, Token, TooMany, Triple, Waiver, Width, Zone, Zones}
+use Rattle.t1_reasons.specs.declared.reason.Reason.TheVariants.{Argument, Arguments, Behind, Code, Codes, Count, Depth, Ending, Entry, Following, Features, Form, Full, Gap, Glyph, Glyphs, Ids, Kind, Length, Limit, Miss, Nothing, Numbers, Open, Othersubr, Pairs, Quotient, Sidebearings, Since, Stem, Stems, Subr, SubrEntry, Token, TooMany, Triple, Waiver, Width, Zone, Zones}
 use Rattle.t1_rules.specs.declared.step_rules.flex.Point.{Point}
 use Rattle.t1_rules.specs.declared.step_rules.stems.Stem.{Stem as OneStem}
 
@@ -107,7 +107,7 @@ no_floats font (TooMany count most) = two_none _ _ _ _ refl refl
 no_floats font (Numbers count) = one_none _ _ refl
 no_floats font (Glyph glyph) = one_none _ _ refl
 no_floats font (Code code) = two_none _ _ _ _ refl refl
-no_floats font (Falling before number) = two_none _ _ _ _ refl refl
+no_floats font (Following before number) = two_none _ _ _ _ refl refl
 no_floats font (Gap upper lower distance) = three_none _ _ _ _ _ _ refl refl refl
 no_floats font (Zones own other distance) = three_none _ _ _ _ _ _ (edges_none own) (edges_none other) refl
 no_floats font (Zone lower upper scale) = three_none _ _ _ _ _ _ refl refl refl

@@ -13,7 +13,7 @@ use Rattle.t1_reasons.specs.declared.reason.EntryKind.TheVariants.{Number as One
 use Rattle.t1_reasons.specs.declared.reason.Found.{Found}
 use Rattle.t1_reasons.specs.declared.reason.Found.TheVariants.{Absent, One, Other, Several}
 use Rattle.t1_reasons.specs.declared.reason.Reason.{Reason}
-use Rattle.t1_reasons.specs.declared.reason.Reason.TheVariants.{Argument, Arguments, Behind, Code, Codes, Count, Depth, Ending, Entry, Falling, Features, Form, Full, Gap, Glyph, Glyphs, Ids, Kind, Length, Limit, Miss, Nothing, Numbers, Open, Othersubr, Pairs, Quotient, Sidebearings, Since, Stem, Stems, Subr, SubrEntry, Token, TooMany, Triple, Waiver, Width, Zone, Zones}
+use Rattle.t1_reasons.specs.declared.reason.Reason.TheVariants.{Argument, Arguments, Behind, Code, Codes, Count, Depth, Ending, Entry, Following, Features, Form, Full, Gap, Glyph, Glyphs, Ids, Kind, Length, Limit, Miss, Nothing, Numbers, Open, Othersubr, Pairs, Quotient, Sidebearings, Since, Stem, Stems, Subr, SubrEntry, Token, TooMany, Triple, Waiver, Width, Zone, Zones}
 use Rattle.t1_reason_texts.specs.declared.decimals.Unit.TheVariants.{Value}
 use Rattle.t1_reason_texts.specs.Decimals.{coordinate_text, text_in}
 use Rattle.t1_reason_texts.specs.FontTexts.{encoded_name, value_text}
@@ -129,7 +129,7 @@ reason_members font (TooMany count most) = two_members (codes "count") (count_da
 reason_members font (Numbers count) = one_member (codes "count") (count_data count)
 reason_members font (Glyph glyph) = one_member (codes "name") (name_data (glyph_name font glyph))
 reason_members font (Code code) = two_members (codes "code") (count_data code) (codes "name") (name_data (encoded_name font code))
-reason_members font (Falling before number) = two_members (codes "before") (value_data before) (codes "number") (value_data number)
+reason_members font (Following before number) = two_members (codes "before") (value_data before) (codes "number") (value_data number)
 reason_members font (Gap upper lower distance) =
     three_members (codes "upper") (value_data upper) (codes "lower") (value_data lower) (codes "distance") (distance_data distance)
 reason_members font (Zones own other distance) =

@@ -567,7 +567,7 @@ pub fn reason_members(
         Reason::Numbers { count } => numbers_members(alloc, count),
         Reason::Glyph { glyph } => glyph_members(alloc, font, glyph),
         Reason::Code { code } => code_members(alloc, font, code),
-        Reason::Falling { before, number } => falling_members(alloc, before, number),
+        Reason::Following { before, number } => falling_members(alloc, before, number),
         Reason::Gap {
             upper,
             lower,

@@ -15,7 +15,7 @@ use Rattle.t1_reasons.specs.declared.reason.EntryKind.{EntryKind}
 use Rattle.t1_reasons.specs.declared.reason.EntryKind.TheVariants.{Number as OneNumber, Numbers as ManyNumbers}
 use Rattle.t1_reasons.specs.declared.reason.Found.{Found}
 use Rattle.t1_reasons.specs.declared.reason.Found.TheVariants.{Absent, One, Other, Several}
-use Rattle.t1_reasons.specs.declared.reason.Reason.TheVariants.{Argument, Arguments, Behind, Code, Codes, Count, Depth, Ending, Entry, Falling, Features, Form, Full, Gap, Glyph, Glyphs, Ids, Kind, Length, Limit, Miss, Nothing, Numbers, Open, Othersubr, Pairs, Quotient, Sidebearings, Since, Stem, Stems, Subr, SubrEntry, Token, TooMany, Triple, Waiver, Width, Zone, Zones}
+use Rattle.t1_reasons.specs.declared.reason.Reason.TheVariants.{Argument, Arguments, Behind, Code, Codes, Count, Depth, Ending, Entry, Following, Features, Form, Full, Gap, Glyph, Glyphs, Ids, Kind, Length, Limit, Miss, Nothing, Numbers, Open, Othersubr, Pairs, Quotient, Sidebearings, Since, Stem, Stems, Subr, SubrEntry, Token, TooMany, Triple, Waiver, Width, Zone, Zones}
 use Rattle.t1_reasons.specs.declared.reason.SetStem.{SetStem}
 use Rattle.t1_reasons.specs.Remedies.{fuzz_for_all, fuzz_for_both, scale_for_all}
 use Rattle.t1_reasons.specs.declared.waivers.Unused.{Unused}
@@ -406,7 +406,7 @@ are_one_line font rule (TooMany count most) = plain_too_many count most
 are_one_line font rule (Numbers count) = plain_numbers count
 are_one_line font rule (Glyph glyph) = plain_name (glyph_name font glyph)
 are_one_line font rule (Code code) = plain_code_names code (encoded_name font code)
-are_one_line font rule (Falling before number) = plain_falling before number
+are_one_line font rule (Following before number) = plain_falling before number
 are_one_line font rule (Gap top bottom distance) =
     append (gap_text top bottom distance) _ (plain_gap top bottom distance) (plain_does (codes "BlueFuzz") refl (fuzz_for_all font))
 are_one_line font rule (Zones own other distance) =

@@ -15,7 +15,7 @@ use Rattle.t1_reasons.specs.declared.reason.EntryKind.{EntryKind}
 use Rattle.t1_reasons.specs.declared.reason.EntryKind.TheVariants.{Number as OneNumber, Numbers as ManyNumbers}
 use Rattle.t1_reasons.specs.declared.reason.Found.{Found}
 use Rattle.t1_reasons.specs.declared.reason.Found.TheVariants.{Absent, One, Other, Several}
-use Rattle.t1_reasons.specs.declared.reason.Reason.TheVariants.{Argument, Arguments, Behind, Code, Codes, Count, Depth, Ending, Entry, Falling, Features, Form, Full, Gap, Glyph, Glyphs, Ids, Kind, Length, Limit, Miss, Nothing, Numbers, Open, Othersubr, Pairs, Quotient, Sidebearings, Since, Stem, Stems, Subr, SubrEntry, Token, TooMany, Triple, Waiver, Width, Zone, Zones}
+use Rattle.t1_reasons.specs.declared.reason.Reason.TheVariants.{Argument, Arguments, Behind, Code, Codes, Count, Depth, Ending, Entry, Following, Features, Form, Full, Gap, Glyph, Glyphs, Ids, Kind, Length, Limit, Miss, Nothing, Numbers, Open, Othersubr, Pairs, Quotient, Sidebearings, Since, Stem, Stems, Subr, SubrEntry, Token, TooMany, Triple, Waiver, Width, Zone, Zones}
 use Rattle.t1_reasons.specs.declared.reason.SetStem.{SetStem}
 use Rattle.t1_reasons.specs.Remedies.{fuzz_for_all, fuzz_for_both, scale_for_all}
 use Rattle.t1_reasons.specs.declared.waivers.Unused.{Unused}
@@ -630,7 +630,7 @@ are_short font rule (TooMany count most) is = short_too_many count most
 are_short font rule (Numbers count) is = omega (arith, short_numbers count)
 are_short font rule (Glyph glyph) is = omega (arith, short_name (glyph_name font glyph))
 are_short font rule (Code code) is = short_code_names code (encoded_name font code)
-are_short font rule (Falling before number) is = short_falling before number
+are_short font rule (Following before number) is = short_falling before number
 are_short font rule (Gap top bottom distance) is =
     with_does (gap_text top bottom distance) (codes "BlueFuzz") (fuzz_for_all font) (omega (arith, short_gap top bottom distance is.0 is.1)) (omega arith) is.2
 are_short font rule (Zones own other distance) is =

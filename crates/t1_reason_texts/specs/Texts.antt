@@ -3,7 +3,7 @@ use Rattle.std.specs.Prelude.{ℕ, not, nat_lt, if◌then◌else◌, Bool, true,
 use Rattle.std.specs.List.{concat}
 use Rattle.t1_font.specs.Fonts.{FontValue, glyph_name}
 use Rattle.t1_reasons.specs.declared.reason.Reason.{Reason}
-use Rattle.t1_reasons.specs.declared.reason.Reason.TheVariants.{Argument, Arguments, Behind, Code, Codes, Count, Depth, Ending, Entry, Falling, Features, Form, Full, Gap, Glyph, Glyphs, Ids, Kind, Length, Limit, Miss, Nothing, Numbers, Open, Othersubr, Pairs, Quotient, Sidebearings, Since, Stem, Stems, Subr, SubrEntry, Token, TooMany, Triple, Waiver, Width, Zone, Zones}
+use Rattle.t1_reasons.specs.declared.reason.Reason.TheVariants.{Argument, Arguments, Behind, Code, Codes, Count, Depth, Ending, Entry, Following, Features, Form, Full, Gap, Glyph, Glyphs, Ids, Kind, Length, Limit, Miss, Nothing, Numbers, Open, Othersubr, Pairs, Quotient, Sidebearings, Since, Stem, Stems, Subr, SubrEntry, Token, TooMany, Triple, Waiver, Width, Zone, Zones}
 use Rattle.t1_reasons.specs.Remedies.{fuzz_for_all, fuzz_for_both, scale_for_all}
 use Rattle.t1_reason_texts.specs.FontTexts.{code_names_text, encoded_name, entry_text, features_text, form_text, glyph_text, glyphs_text, ids_text, kind_text, subr_entry_text, unused_text}
 use Rattle.t1_reason_texts.specs.SeacTexts.{codes_text, sidebearings_text}
@@ -47,7 +47,7 @@ reason_text font rule (TooMany count most) = too_many_text count most
 reason_text font rule (Numbers count) = numbers_text count
 reason_text font rule (Glyph glyph) = glyph_text (glyph_name font glyph)
 reason_text font rule (Code code) = code_names_text code (encoded_name font code)
-reason_text font rule (Falling before number) = falling_text before number
+reason_text font rule (Following before number) = falling_text before number
 reason_text font rule (Gap upper lower distance) = gap_text upper lower distance ++ does_words (codes "BlueFuzz") (fuzz_for_all font)
 reason_text font rule (Zones own other distance) = zones_text own other distance ++ does_words (codes "BlueFuzz") (fuzz_for_both font)
 reason_text font rule (Zone lower upper scale) = zone_text lower upper scale ++ does_words (codes "BlueScale") (scale_for_all font)

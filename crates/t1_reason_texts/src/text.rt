@@ -247,7 +247,7 @@ impl fmt::Display for ReasonText<'_, '_> {
                 };
                 write!(f, "{text}")
             }
-            Reason::Falling { before, number } => {
+            Reason::Following { before, number } => {
                 let text = FallingText { before, number };
                 write!(f, "{text}")
             }

@@ -29,7 +29,7 @@ use Rattle.t1_rules.proofs.Lemmas.FontRules.{later_rules_change_no_other}
 use Rattle.t1_reasons.specs.declared.reason.Edges.{Edges}
 use Rattle.t1_reasons.specs.declared.reason.EntryKind.TheVariants.{Number as OneNumber, Numbers as ManyNumbers}
 use Rattle.t1_reasons.specs.declared.reason.Reason.{Reason}
-use Rattle.t1_reasons.specs.declared.reason.Reason.TheVariants.{Entry, Falling, Form, Gap, Ids, Kind, Numbers, SubrEntry, TooMany, Width, Zone, Zones}
+use Rattle.t1_reasons.specs.declared.reason.Reason.TheVariants.{Entry, Following, Form, Gap, Ids, Kind, Numbers, SubrEntry, TooMany, Width, Zone, Zones}
 use Rattle.t1_reasons.specs.FontReasons.{are_near, are_not_one, are_two_ids, at_key, at_keys, counts_at, excess_at, fits, forms_at, is_excess, is_misfit, is_no_width, is_nothing, is_odd, is_unknown_form, is_wrong_subr, kinds_at, kinds_of, subrs_in, wanted_at, beside_zones, compared_font_row, compares_in_fonts, entries_at, falls, falls_in, features_at, features_in, first_in_font_row, font_reason_row, font_row_of, found_in, gap_in, ids_at, ids_of, is_apart, is_found_number, is_near, is_neither_fill_nor_stroke, is_no_id, is_not_5839, is_not_one, is_past_ids, is_unusual_feature, key_among, meetings_at, meetings_in, nearer, nearest, of_key, reaches_one, scale_for, told_in_font, told_in_fonts, widths_at, widths_in, zone_from, zone_in, zones_in}
 use Rattle.t1_reasons.specs.Laws.{FontReasonsAreAgainstTheirRules, FontsBreakWhereThereIsAReason, ScalesDo}
 use Rattle.t1_reasons.specs.StepReasons.{is_any}
@@ -243,7 +243,7 @@ no_width font k index =
     rw (width_agrees (value_at font k)) (sym (such_where (index == 0) is_no_width (Entry (found_in (value_at font k)))))
 
 fallen : (v : List ℤ) (index : ℕ) → falls_at v index ≡ is_some (find falls (falls_in v index))
-fallen v index = sym (such_where (nat_lt 0 index && nat_lt index (length v)) falls (Falling (number_at v (index - 1)) (number_at v index)))
+fallen v index = sym (such_where (nat_lt 0 index && nat_lt index (length v)) falls (Following (number_at v (index - 1)) (number_at v index)))
 
 near : (d : ℤ) (v : List ℤ) (index : ℕ) → is_too_near d v index ≡ is_some (find is_near (gap_in d v index))
 near d v index = sym (such_where (nat_lt 0 index && begins_zone v index) is_near (Gap (number_at v (index - 1)) (number_at v index) d))

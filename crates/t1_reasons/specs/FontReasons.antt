@@ -27,7 +27,7 @@ use Rattle.t1_reasons.specs.declared.reason.EntryKind.TheVariants.{Number as One
 use Rattle.t1_reasons.specs.declared.reason.Found.{Found}
 use Rattle.t1_reasons.specs.declared.reason.Found.TheVariants.{Absent, One, Other, Several}
 use Rattle.t1_reasons.specs.declared.reason.Reason.{Reason}
-use Rattle.t1_reasons.specs.declared.reason.Reason.TheVariants.{Code, Entry, Falling, Features, Form, Gap, Glyph, Glyphs, Ids, Kind, Nothing, Numbers, SubrEntry, TooMany, Width, Zone, Zones}
+use Rattle.t1_reasons.specs.declared.reason.Reason.TheVariants.{Code, Entry, Following, Features, Form, Gap, Glyph, Glyphs, Ids, Kind, Nothing, Numbers, SubrEntry, TooMany, Width, Zone, Zones}
 use Rattle.t1_reasons.specs.StepReasons.{is_any, only_where}
 
 -- ---- candidates
@@ -93,7 +93,7 @@ counts_at font k index = only_where (index == 0) (Numbers (count_in (value_at fo
 
 -- A number of a list, and the one before it.
 abbrev pub falls_in : List ℤ → ℕ → List Reason
-falls_in v index = only_where (nat_lt 0 index && nat_lt index (length v)) (Falling (number_at v (index - 1)) (number_at v index))
+falls_in v index = only_where (nat_lt 0 index && nat_lt index (length v)) (Following (number_at v (index - 1)) (number_at v index))
 
 -- A zone that begins here, the one before it, and the distance that zones keep.
 abbrev pub gap_in : ℤ → List ℤ → ℕ → List Reason
@@ -226,7 +226,7 @@ is_no_width (Entry found) = are_not_one found
 is_no_width _ = false
 
 abbrev pub falls : Reason → Bool
-falls (Falling before number) = int_lt number before
+falls (Following before number) = int_lt number before
 falls _ = false
 
 abbrev pub is_near : Reason → Bool

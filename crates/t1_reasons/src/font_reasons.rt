@@ -633,7 +633,7 @@ fn fall_reason(numbers: &[i64], index: u32) -> Option<Reason>
     let before = numbers[place - 1];
     let number = numbers[place];
     if number < before {
-        Some(Reason::Falling { before, number })
+        Some(Reason::Following { before, number })
     } else {
         None
     }

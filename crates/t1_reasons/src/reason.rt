@@ -58,8 +58,9 @@ pub enum Reason {
     Token {
         token: CharToken,
     },
-    /// The step that set the width (W02), closed the last path (P01, P03), drew (H01), began the flex (X01, X03) or made an outline
-    /// (K06). It is None where there was no such step.
+    /// The step that set the width (W02), closed the last path (P01, P03), drew (H01), began the flex (X01, X03), made an outline (K06) or
+    /// ended counter control (O06), or the last one that is a clearing command or a call of an OtherSubr (O05, O08, W03). It is None where
+    /// there was no such step.
     Since {
         step: Option<u32>,
     },
@@ -68,12 +69,13 @@ pub enum Reason {
         start: Point,
         pen: Point,
     },
-    /// A stem that the step sets, and one that overlaps it, with the step that set that: H02.
+    /// A stem that the step sets, and one that overlaps it (H02), one of the other command (H06), or one that the last hstem3 or vstem3 has in
+    /// its place (H07), with the step that set that.
     Stems {
         own: Stem,
         other: SetStem,
     },
-    /// A stem that the step sets: H03.
+    /// A stem that the step sets: H03, H05.
     Stem {
         stem: Stem,
     },
@@ -99,7 +101,7 @@ pub enum Reason {
         number: i64,
         count: i64,
     },
-    /// The count that callothersubr is given, and how many numbers are there for it: O02.
+    /// The count that callothersubr is given, and how many numbers are there for it: O02, O07.
     Arguments {
         count: i64,
         there: u8,
@@ -118,7 +120,7 @@ pub enum Reason {
     Limit {
         steps: u32,
     },
-    /// What an entry is: F03, F04, F05, F07, Z08.
+    /// What an entry is: F03, F04, F05, F07, F15, F16, F18, F20, Z08, Z12, Z17 to Z19.
     Entry {
         found: Found,
     },
@@ -169,8 +171,21 @@ pub enum Reason {
     Code {
         code: u32,
     },
-    /// A number of a list, and the one before it: Z04, Z10.
-    Falling {
+    /// The first coordinate of FontBBox's one corner, and that of the other, in the same direction: F17.
+    Corners {
+        first: i64,
+        last: i64,
+    },
+    /// A number of a list (F19, Z14), or the first of a standard width (Z13, Z16).
+    Number {
+        number: i64,
+    },
+    /// The last token of a Subr; None where it has none: F21.
+    LastToken {
+        token: Option<CharToken>,
+    },
+    /// A number of a list, and the one before it: Z04, Z10, Z15.
+    Following {
         before: i64,
         number: i64,
     },

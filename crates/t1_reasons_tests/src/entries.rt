@@ -162,7 +162,7 @@ const ENTRIES: &[Row] = &[
         Rule::Z04,
         9,
         1,
-        Some(Reason::Falling {
+        Some(Reason::Following {
             before: 0,
             number: -1,
         }),
@@ -299,7 +299,7 @@ const ENTRIES: &[Row] = &[
         Rule::Z10,
         18,
         1,
-        Some(Reason::Falling {
+        Some(Reason::Following {
             before: 31 * ONE,
             number: 30 * ONE,
         }),

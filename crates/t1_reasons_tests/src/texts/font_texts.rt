@@ -208,7 +208,7 @@ const ROWS: &[Row] = &[
     (Rule::Z03, Reason::Numbers { count: 3 }, "3 numbers"),
     (
         Rule::Z04,
-        Reason::Falling {
+        Reason::Following {
             before: 705 * ONE,
             number: 521 * ONE,
         },

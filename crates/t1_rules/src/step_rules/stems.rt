@@ -292,7 +292,7 @@ impl Stem {
     }
 
     /// Whether it has a width, which is below half a unit.
-    pub(crate) fn is_thin(self) -> bool
+    pub fn is_thin(self) -> bool
         ensures { result ≡ is_thin self }
     {
         let twice = 2 * i64::from(self.width);
@@ -300,7 +300,7 @@ impl Stem {
     }
 
     /// Whether two stems have the same edges, whichever they begin with.
-    pub(crate) fn has_same_edges(self, other: Stem) -> bool
+    pub fn has_same_edges(self, other: Stem) -> bool
         ensures { result ≡ has_same_edges self other }
     {
         spans_agree(self.lower(), self.upper(), other.lower(), other.upper())

@@ -22,9 +22,9 @@ use t1_char::{CharToken, Command, Edition, OthersubrCall, Step};
 /// The three stems of a command.
 #[derive(Clone, Copy)]
 pub struct Triple {
-    one: Stem,
-    two: Stem,
-    three: Stem,
+    pub one: Stem,
+    pub two: Stem,
+    pub three: Stem,
 }
 
 /// Watches for H05 to H07, in an edition that has them. A hint replacement changes nothing that it keeps.
