@@ -92,7 +92,9 @@ pub use step_rules::othersubrs::OthersubrWatcher;
 pub use step_rules::paths::PathWatcher;
 pub use step_rules::seac::{SeacWatcher, accent_code, base_code};
 pub use step_rules::stems::{Stem, StemWatcher, are_unequal};
-pub use step_rules::tokens::{closes, is_line, is_move, is_seac, sets_width};
-pub use step_rules::triples::{Triple, TripleWatcher};
+pub use step_rules::tokens::{clears, closes, is_line, is_move, is_seac, sets_width};
+pub use step_rules::triples::{
+    Triple, TripleWatcher, is_hstem, is_hstem3, is_vstem, is_vstem3, triple_of,
+};
 pub use watch::Watch;
 pub use watches::Watches;

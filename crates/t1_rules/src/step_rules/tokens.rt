@@ -17,7 +17,7 @@ pub(crate) fn is_command(token: CharToken) -> bool
 }
 
 /// Whether it takes arguments from the bottom of the stack, which it then empties.
-pub(crate) fn clears(token: CharToken) -> bool
+pub fn clears(token: CharToken) -> bool
     ensures { result ≡ clears token }
 {
     match token {

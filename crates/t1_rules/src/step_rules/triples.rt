@@ -148,8 +148,8 @@ fn three_faults(came: bool, last: Option<Triple>, step: &Step) -> Mask
         )
 }
 
-/// The three stems of a step.
-fn triple_of(step: &Step) -> Triple
+/// Returns the three stems of a step that sets three.
+pub fn triple_of(step: &Step) -> Triple
     ensures { result ≡ triple_of (step_view step.now) }
 {
     Triple {
@@ -184,25 +184,29 @@ fn any_is_thin(stems: &[Stem]) -> bool
     stems.iter().any(|stem| stem.is_thin())
 }
 
-fn is_hstem(token: CharToken) -> bool
+/// Whether a token is the command hstem.
+pub fn is_hstem(token: CharToken) -> bool
     ensures { result ≡ is_hstem token }
 {
     matches!(token, CharToken::Command(Command::Hstem))
 }
 
-fn is_hstem3(token: CharToken) -> bool
+/// Whether a token is the command hstem3.
+pub fn is_hstem3(token: CharToken) -> bool
     ensures { result ≡ is_hstem3 token }
 {
     matches!(token, CharToken::Command(Command::Hstem3))
 }
 
-fn is_vstem(token: CharToken) -> bool
+/// Whether a token is the command vstem.
+pub fn is_vstem(token: CharToken) -> bool
     ensures { result ≡ is_vstem token }
 {
     matches!(token, CharToken::Command(Command::Vstem))
 }
 
-fn is_vstem3(token: CharToken) -> bool
+/// Whether a token is the command vstem3.
+pub fn is_vstem3(token: CharToken) -> bool
     ensures { result ≡ is_vstem3 token }
 {
     matches!(token, CharToken::Command(Command::Vstem3))
