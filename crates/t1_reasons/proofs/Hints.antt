@@ -15,7 +15,7 @@ use Rattle.t1_reasons.specs.declared.reason.SetStem.{SetStem}
 use Rattle.t1_reasons.specs.HintSets.{all_set_at, replaces, set_by, stems_set}
 use Rattle.t1_reasons.specs.Standing.{HintsStandFor, set_after}
 
-numbered_more : (n : ℕ) (before : List StepView) (t : StepView)
+pub numbered_more : (n : ℕ) (before : List StepView) (t : StepView)
     → numbered n (before ++ t ∷ []) ≡ numbered n before ++ record { number = length before + n; step = t } ∷ []
 numbered_more n [] t = ap (λ (m : ℕ). record { number = m; step = t } ∷ []) (let same : n ≡ 0 + n = omega arith in same)
 numbered_more n (s ∷ ss) t =

@@ -1,15 +1,14 @@
 -- The last command of a kind, as it is told of: that which the rule book calls the last one.
-use Rattle.std.proofs.Common.{◌≡◌, ◌||◌, Bool, true, false, Option, Some, None, List, [], ◌∷◌, ◌++◌, ◌+◌, length, if◌then◌else◌, option_map, refl, sym, ◌∙◌}
+use Rattle.std.proofs.Common.{◌≡◌, ◌||◌, Bool, true, false, Option, Some, None, is_some, List, [], ◌∷◌, ◌++◌, ◌+◌, length, if◌then◌else◌, option_map, ℕ, refl, sym, ap, ◌∙◌}
 use Rattle.std.specs.List.{list_any}
 use Rattle.std.specs.Option.{option_or}
 use Rattle.t1_char.specs.declared.token.CharToken.{CharToken}
 use Rattle.t1_char.specs.Since.{last_of}
 use Rattle.t1_char.specs.Steps.{StepView}
-use Rattle.t1_reasons.specs.declared.background.SetTriple.{SetTriple}
 use Rattle.t1_reasons.specs.Backgrounds.{set_three}
 use Rattle.t1_reasons.specs.Carried.{carried_from, last_told, last_told_on}
-use Rattle.t1_rules.specs.declared.step_rules.triples.Triple.{Triple}
-use Rattle.t1_rules.specs.StepRules.Triples.{last_triple, triple_of}
+use Rattle.t1_reasons.specs.NamedSteps.{LastThreeStemsAreTheBooks}
+use Rattle.t1_rules.specs.StepRules.Triples.{came, triple_of}
 
 -- Where one is such, the last one doesn't depend on what came before.
 none_before : (f : StepView → Bool) (ss : List StepView) → list_any f ss ≡ true → (before : Option StepView) → option_or (last_of f ss) before ≡ last_of f ss
@@ -33,7 +32,7 @@ none_such f (s ∷ ss) none = go (list_any f ss) (f s) none
     go false false none = refl
 
 -- The last of some steps is the last of those after the first, or else the first.
-last_or : (f : StepView → Bool) (s : StepView) (ss : List StepView) → last_of f (s ∷ ss) ≡ option_or (last_of f ss) (if f s then Some s else None)
+pub last_or : (f : StepView → Bool) (s : StepView) (ss : List StepView) → last_of f (s ∷ ss) ≡ option_or (last_of f ss) (if f s then Some s else None)
 last_or f s ss = go (list_any f ss) refl
   where
     go : (later : Bool) → list_any f ss ≡ later
@@ -41,28 +40,44 @@ last_or f s ss = go (list_any f ss) refl
     go true is = sym (none_before f ss is (if f s then Some s else None))
     go false is = rw (none_such f ss is) refl
 
-abbrev triples : Option SetTriple → Option Triple
-triples last = option_map (λ t. t.triple) last
+-- What is told of the last command, as far as it depends on the step alone.
+module _ {A B : Type 0} (tell : ℕ → StepView → A) (view : A → B) (view_of : StepView → B)
+    (alone : (n : ℕ) (s : StepView) → view (tell n s) ≡ view_of s) where
+  seen_from : (kind : CharToken → Bool) (front ss : List StepView) (last : Option A)
+      → option_map view (carried_from (last_told_on kind tell) last front ss)
+      ≡ option_or (option_map view_of (last_of (λ s. kind s.token) ss)) (option_map view last)
+  seen_from kind front [] last = refl
+  seen_from kind front (s ∷ ss) last =
+      seen_from kind (front ++ s ∷ []) ss (last_told_on kind tell last front s)
+      ∙ go (last_of (λ s. kind s.token) ss) (kind s.token)
+      ∙ rw (last_or (λ s. kind s.token) s ss) refl
+    where
+      go : (later : Option StepView) (here : Bool)
+          → option_or (option_map view_of later) (option_map view (if here then Some (tell (length front + 1) s) else last))
+          ≡ option_or (option_map view_of (option_or later (if here then Some s else None))) (option_map view last)
+      go None true = ap (λ v. Some v) (alone (length front + 1) s)
+      go None false = refl
+      go (Some t) here = refl
 
-three_from : (kind : CharToken → Bool) (front ss : List StepView) (last : Option SetTriple)
-    → triples (carried_from (last_told_on kind set_three) last front ss)
-    ≡ option_or (option_map triple_of (last_of (λ s. kind s.token) ss)) (triples last)
-three_from kind front [] last = refl
-three_from kind front (s ∷ ss) last =
-    three_from kind (front ++ s ∷ []) ss (last_told_on kind set_three last front s)
-    ∙ go (last_of (λ s. kind s.token) ss) (kind s.token)
-    ∙ rw (last_or (λ s. kind s.token) s ss) refl
-  where
-    go : (later : Option StepView) (here : Bool)
-        → option_or (option_map triple_of later) (triples (if here then Some (set_three (length front + 1) s) else last))
-        ≡ option_or (option_map triple_of (option_or later (if here then Some s else None))) (triples last)
-    go None true = refl
-    go None false = refl
-    go (Some t) here = refl
+  last_seen : (kind : CharToken → Bool) (steps : List StepView)
+      → option_map view (last_told kind tell steps) ≡ option_map view_of (last_of (λ s. kind s.token) steps)
+  last_seen kind steps = seen_from kind [] steps None ∙ none (option_map view_of (last_of (λ s. kind s.token) steps))
+    where
+      none : (last : Option B) → option_or last None ≡ last
+      none None = refl
+      none (Some t) = refl
 
-pub last_three_is : (kind : CharToken → Bool) (steps : List StepView) → triples (last_told kind set_three steps) ≡ last_triple kind steps
-last_three_is kind steps = three_from kind [] steps None ∙ none (option_map triple_of (last_of (λ s. kind s.token) steps))
+pub last_three_is : LastThreeStemsAreTheBooks
+last_three_is = last_seen set_three (λ t. t.triple) triple_of (λ n s. refl)
+
+-- There is a last command of a kind where one came.
+pub told_where_it_came : {A : Type 0} (kind : CharToken → Bool) (tell : ℕ → StepView → A) (steps : List StepView)
+    → is_some (last_told kind tell steps) ≡ came kind steps
+told_where_it_came kind tell steps =
+    sym (kept (last_told kind tell steps))
+    ∙ ap is_some (last_seen tell (λ x. true) (λ s. true) (λ n s. refl) kind steps)
+    ∙ kept (last_of (λ s. kind s.token) steps)
   where
-    none : (last : Option Triple) → option_or last None ≡ last
-    none None = refl
-    none (Some t) = refl
+    kept : {X : Type 0} (found : Option X) → is_some (option_map (λ x. true) found) ≡ is_some found
+    kept None = refl
+    kept (Some x) = refl

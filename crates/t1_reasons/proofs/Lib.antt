@@ -7,6 +7,8 @@ mod Hints
 mod LastCommands
 mod LastSteps
 mod LawProofs
+mod NamedStems
+mod NamedSteps
 mod PathStarts
 mod RemedyLaws
 mod UnusedLaws

@@ -13,8 +13,8 @@ use Rattle.t1_rules.specs.StepRules.Paths.{drawing, flex_end, flex_start, in_fle
 use Rattle.t1_rules.specs.StepRules.Tokens.{closes, is_line, is_move, sets_point}
 use Rattle.t1_rules.proofs.Lemmas.Flex.{plus_origin, point_goes_on}
 use Rattle.t1_reasons.proofs.Backgrounds.{carried_on}
-use Rattle.t1_reasons.specs.Backgrounds.{ends_path, is_begun, outer_point, outer_point_on, path_start, start_on}
-use Rattle.t1_reasons.specs.PathStarts.{PathsBeginWhereThePenWasLeft, stirs}
+use Rattle.t1_reasons.specs.Backgrounds.{end_on, ends_path, is_begun, outer_point, outer_point_on, path_end, path_start, start_on}
+use Rattle.t1_reasons.specs.PathStarts.{PathsBeginWhereThePenWasLeft, PathsEndWhereThePenWasLeft, stirs}
 
 neither : (a b : Bool) → (a || b) ≡ false → (a ≡ false) × (b ≡ false)
 neither false b is = (refl, is)
@@ -170,3 +170,14 @@ paths_begin before ended between first more path =
     let still = kept_over stirs (IsStill p) (still_on p) (before ++ ended ∷ []) between path.still (still_after before ended path.outside path.ends) in
     let on = first_on p ((before ++ ended ∷ []) ++ between) first still path.draws in
     (kept_over ends_path (IsOn p) (more_on p) (((before ++ ended ∷ []) ++ between) ++ first ∷ []) more path.goes_on on).start
+
+-- ---- where a path was left
+
+pub paths_end : PathsEndWhereThePenWasLeft
+paths_end before drawn between draws none =
+    kept_over drawing (λ steps. path_end steps ≡ current_point (before ++ drawn ∷ [])) stays (before ++ drawn ∷ []) between none
+    (carried_on end_on origin before drawn ∙ rw draws refl)
+  where
+    stays : (steps : List StepView) (t : StepView) → path_end steps ≡ current_point (before ++ drawn ∷ []) → drawing steps t ≡ false
+        → path_end (steps ++ t ∷ []) ≡ current_point (before ++ drawn ∷ [])
+    stays steps t left none = carried_on end_on origin steps t ∙ rw none left

@@ -1,8 +1,8 @@
--- The law of where paths begin.
+-- The laws of where paths begin, and where they were left.
 use Rattle.std.specs.Prelude.{◌≡◌, ◌||◌, true, false, List, [], ◌∷◌, ◌++◌}
 use Rattle.t1_char.specs.Since.{Test, any_from}
 use Rattle.t1_char.specs.Steps.{StepView}
-use Rattle.t1_reasons.specs.Backgrounds.{ends_path, path_start}
+use Rattle.t1_reasons.specs.Backgrounds.{ends_path, path_end, path_start}
 use Rattle.t1_rules.specs.StepRules.Flex.{current_point}
 use Rattle.t1_rules.specs.StepRules.Paths.{drawing, in_flex}
 use Rattle.t1_rules.specs.StepRules.Tokens.{sets_point}
@@ -25,3 +25,10 @@ PathsBeginWhereThePenWasLeft =
     (before : List StepView) (ended : StepView) (between : List StepView) (first : StepView) (more : List StepView) →
     IsPath before ended between first more →
     path_start ((((before ++ ended ∷ []) ++ between) ++ first ∷ []) ++ more) ≡ current_point (before ++ ended ∷ [])
+
+-- The other end that a reason of P02 names is where the last step that drew left the pen.
+abbrev pub PathsEndWhereThePenWasLeft : Type 0
+PathsEndWhereThePenWasLeft =
+    (before : List StepView) (drawn : StepView) (between : List StepView) →
+    drawing before drawn ≡ true → any_from drawing (before ++ drawn ∷ []) between ≡ false →
+    path_end ((before ++ drawn ∷ []) ++ between) ≡ current_point (before ++ drawn ∷ [])

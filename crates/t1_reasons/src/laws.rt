@@ -2,7 +2,8 @@
 
 ghost use Rattle.t1_reasons.specs.CharstringReasons.{EndsAreFollowedAsTold};
 ghost use Rattle.t1_reasons.specs.FaultReasons.{FaultsHaveReasons, ReportedPlacesHaveReasons};
-ghost use Rattle.t1_reasons.specs.PathStarts.{PathsBeginWhereThePenWasLeft};
+ghost use Rattle.t1_reasons.specs.NamedSteps.{LastStepsAreTheBooks, LastThreeStemsAreTheBooks, NamedStemsAreSet, NamedStepsAreOfTheirKinds};
+ghost use Rattle.t1_reasons.specs.PathStarts.{PathsBeginWhereThePenWasLeft, PathsEndWhereThePenWasLeft};
 ghost use Rattle.t1_reasons.specs.Remedies.{FuzzDoesForAll, FuzzDoesForBoth, NumbersDo, ScaleDoesForAll};
 ghost use Rattle.t1_reasons.specs.UnusedWaivers.{WaiversAreUnusedForAReason};
 ghost use Rattle.t1_reasons.specs.Reported.{ReportedFaultsHaveReasons};
@@ -84,6 +85,36 @@ pub fn told_steps_are_the_last()
 /// The path that a reason of P02 names begins where the move or the closepath before it left the pen.
 pub fn paths_begin_where_the_pen_was_left()
     ensures { PathsBeginWhereThePenWasLeft }
+{}
+
+/// The other end of the path that a reason of P02 names is where the last step that drew left the pen.
+#[tactic(auto, using(crate::proofs::PathStarts::paths_end))]
+pub fn paths_end_where_the_pen_was_left()
+    ensures { PathsEndWhereThePenWasLeft }
+{}
+
+/// The step that a reason names is the last one of the kind that its rule speaks of. Where it names none, there was none.
+#[tactic(auto, using(crate::proofs::NamedSteps::named_steps))]
+pub fn named_steps_are_of_their_kinds()
+    ensures { NamedStepsAreOfTheirKinds }
+{}
+
+/// The last step of a kind, by its number, is the one that the rule book calls the last.
+#[tactic(auto, using(crate::proofs::NamedSteps::last_steps))]
+pub fn last_steps_are_the_books()
+    ensures { LastStepsAreTheBooks }
+{}
+
+/// The three stems that a reason of H07 compares with are those that the rule book calls the last.
+#[tactic(auto, using(crate::proofs::LastCommands::last_three_is))]
+pub fn last_three_stems_are_the_books()
+    ensures { LastThreeStemsAreTheBooks }
+{}
+
+/// The stem that a reason of H02, H06 or H07 names beside the step's own was set at the step that it names with it.
+#[tactic(auto, using(crate::proofs::NamedStems::named_stems))]
+pub fn named_stems_are_set()
+    ensures { NamedStemsAreSet }
 {}
 
 /// The BlueFuzz that would do does for all zones beside one another, and no greater one.

@@ -14,6 +14,7 @@
 //! - a reason is one of the rule's candidates, and its own numbers are against the rule;
 //! - the report has a fault of a glyph exactly where [`GlyphReasons::reason`] returns a reason;
 //! - a waiver isn't used exactly where what [`unused_reason`] returns of it holds;
+//! - a step that a reason names is one that its rule speaks of, and a stem was set at the step that is named with it;
 //! - what would do ([`scale_that_does`]) does, and nothing beyond it;
 //! - no call takes memory or fails, and no index, sum, product or cast goes wrong.
 //!
@@ -46,7 +47,9 @@ pub use glyph_reasons::GlyphReasons;
 pub use laws::{
     ends_are_followed_as_told, faults_have_reasons, font_reasons_are_against_their_rules,
     fonts_break_where_there_is_a_reason, fuzz_does_for_all, fuzz_does_for_both,
-    hint_sets_are_those_of_the_book, numbers_do, paths_begin_where_the_pen_was_left,
+    hint_sets_are_those_of_the_book, last_steps_are_the_books, last_three_stems_are_the_books,
+    named_stems_are_set, named_steps_are_of_their_kinds, numbers_do,
+    paths_begin_where_the_pen_was_left, paths_end_where_the_pen_was_left,
     reasons_are_against_their_rules, reported_faults_have_reasons, reported_places_have_reasons,
     scale_does_for_all, scales_do, steps_break_where_there_is_a_reason, told_steps_are_the_last,
     waivers_are_unused_for_a_reason,
