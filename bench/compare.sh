@@ -121,7 +121,7 @@ print_row() {
 rounds=${2:-3}
 [[ $rounds =~ ^[1-9][0-9]{0,2}$ ]] || misused "no number of rounds: $rounds"
 [[ -n ${EPOCHREALTIME:-} ]] || fail 'bash 5.0 or later is wanted'
-[[ -x $built ]] || fail "t1check isn't built; bin/t1check --help builds it"
+[[ -x $built ]] || fail "t1check isn't built; bin/t1check --build builds it"
 find_fonts "$(realpath -- "$1")"
 ((${#fonts[@]} > 0)) || fail "no PFA or PFB font below $1"
 

@@ -36,11 +36,11 @@ fail() {
 }
 
 if ! command -v valgrind >/dev/null; then
-    echo "skipped: counts of instructions, since valgrind isn't here"
+    echo "skipped: counts of instructions, since valgrind isn't here (Debian: valgrind)"
     finish
 fi
-if ! "$top/bin/t1check" --help >/dev/null; then
-    fail 'bin/t1check --help, which builds the program'
+if ! "$top/bin/t1check" --build; then
+    fail 'bin/t1check --build'
     finish
 fi
 work=$(mktemp -d) || exit 1
@@ -74,7 +74,7 @@ while read -r what before package sum font; do
         *) [ -n "$all" ] || continue ;;
     esac
     if [ ! -r "$font" ] || [ "$(sha256sum <"$font")" != "$sum  -" ]; then
-        echo "skipped: $what on $font, which isn't here as Debian's $package has it"
+        echo "skipped: $what on $font, which isn't here as it is in its package (Debian: $package)"
         continue
     fi
     name="$what on ${font##*/}"

@@ -163,7 +163,7 @@ mutate() {
 }
 
 (($# <= 1)) || fail "$usage"
-[[ -x $checker ]] || fail "t1check isn't built; bin/t1check --help builds it"
+[[ -x $checker ]] || fail "t1check isn't built; bin/t1check --build builds it"
 work=$(mktemp -d) || exit 1
 trap 'rm -rf "$work"' EXIT
 

@@ -38,6 +38,12 @@ is_proved() {
     [ -z "$newer" ]
 }
 
+# The checksum of what the page is made of.
+sources_sum() (
+    cd "$top" || exit 1
+    find crates crates.txt web docs/RULES.md -name out -prune -o -type f -print0 | LC_ALL=C sort -z | xargs -0 sha256sum | sha256sum | cut -d ' ' -f 1
+)
+
 # Shows a line, on a terminal in the place of the one before.
 show_line() {
     if [ -n "$moves" ]; then
@@ -95,8 +101,10 @@ build() {
         return
     fi
     if ! command -v rt >/dev/null; then
-        echo "$name: the program has to be built, and 'rt', the command of the Rattle kit, isn't on the path" >&2
-        echo "$name: see 'Build and test' in $top/README.md" >&2
+        needed="'rt', the command of the Rattle kit, isn't on the path"
+        [ "$name" != t1check ] || command -v node >/dev/null || needed="$needed; nor is node, which would do for a report"
+        echo "$name: the program has to be built, and $needed" >&2
+        echo "$name: $top/docs/t1check.html checks fonts in a browser; see 'Build and test' in $top/README.md" >&2
         return 1
     fi
     mkdir -p "$out" || return 1
@@ -108,4 +116,63 @@ build() {
         cat "$log" >&2
         return 1
     fi
+}
+
+# Answers a word that is alone and needs no program, and ends: `--build`, which builds the program of a crate, NAME, and `--help` and `--version`
+# where that isn't built. NAME WORDS...
+answer_alone() {
+    [ $# -eq 2 ] || return 0
+    name_files "$1"
+    command=$(printf '%s\n' "$name" | sed 's/_/-/')
+    case $2 in
+        --build)
+            build "$name" && exit
+            exit 3
+            ;;
+        --help | -h)
+            is_built && return
+            cat "$top/bin/help/$command.txt" && exit
+            exit 3
+            ;;
+        --version)
+            # t1check has no such option, so the script answers it always.
+            [ "$name" != t1check ] && is_built && return
+            commit=''
+            [ "$name" != t1check_all ] || commit=$(git -C "$top" rev-parse --short HEAD 2>/dev/null)
+            version=$(sed -n 's/^pub const VERSION: &str = "\(.*\)";$/\1/p' "$top/crates/t1_forms/src/version.rt")
+            printf '%s %s%s\n' "$command" "$version" "${commit:+ of commit $commit}" && exit
+            exit 3
+            ;;
+    esac
+}
+
+# Whether t1check was never built, and web/t1check.mjs answers these words as it does: options that both have, each once and with a value that
+# both take. All else is left to the program.
+is_for_node() {
+    [ ! -e "$program" ] && [ -f "$top/docs/t1check.html" ] && command -v node >/dev/null || return 1
+    given=' '
+    while [ $# -gt 0 ]; do
+        case $1 in
+            --edition | --waive | --after | --max)
+                [ $# -gt 1 ] || return 1
+                option=$1 value=$2
+                shift
+                ;;
+            --edition=* | --waive=* | --after=* | --max=*) option=${1%%=*} value=${1#*=} ;;
+            -) option=file value=- ;;
+            -*) return 1 ;;
+            *) option=file value=$1 ;;
+        esac
+        shift
+        case $given in *" $option "*) return 1 ;; esac
+        given="$given$option "
+        case $option,$value in
+            --edition,[123]) ;;
+            --edition,* | --waive, | --waive,-*) return 1 ;;
+            --after,* | --max,*)
+                # Up to 19 digits are below 2^64.
+                case $value in '' | *[!0-9]* | ????????????????????*) return 1 ;; esac
+                ;;
+        esac
+    done
 }

@@ -51,14 +51,14 @@ fail() {
 }
 
 built=yes
-"$top/bin/t1check" --help >/dev/null || {
+"$top/bin/t1check" --build || {
     built=''
-    fail 'bin/t1check --help, which builds the program'
+    fail 'bin/t1check --build'
 }
 many_built=yes
-"$top/bin/t1check-all" --help >/dev/null || {
+"$top/bin/t1check-all" --build || {
     many_built=''
-    fail 'bin/t1check-all --help, which builds the program'
+    fail 'bin/t1check-all --build'
 }
 
 # The examples below the rules' headings, a line each: the rule's code, the example's number, then the line; `Several` is the code of the

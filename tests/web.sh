@@ -56,8 +56,8 @@ run() {
 }
 
 for tool in t1check t1check-all t1draw; do
-    "$top/bin/$tool" --help >/dev/null || {
-        fail "bin/$tool --help, which builds the program"
+    "$top/bin/$tool" --build || {
+        fail "bin/$tool --build"
         finish
     }
 done
@@ -73,9 +73,9 @@ fi
 if grep -q '^{{' "$made/t1check.html"; then fail 'the page lacks a part'; else pass; fi
 if [ "$(grep -c '</script>' "$made/t1check.html")" -eq 5 ]; then pass; else fail 'a part of the page ends its element'; fi
 
-has wasm-opt || echo "tests/web.sh: without wasm-opt the module's memory has 64 bits; that of 32 bits is not tried"
+has wasm-opt || echo "skipped: a module whose memory has 32 bits, since wasm-opt isn't here (Debian: binaryen)"
 if ! has node; then
-    echo 'tests/web.sh: without node neither the module nor the page is tried'
+    echo "skipped: the module and the page, since node isn't here (Debian: nodejs)"
     finish
 fi
 if node -e 'new WebAssembly.Module(fs.readFileSync(process.argv[1]))' "$made/t1_web.wasm" 2>/dev/null; then
@@ -86,10 +86,25 @@ elif has wasm-opt; then
 else
     echo "tests/web.sh: this node has no 64-bit memory, so the module is not compared with the programs"
 fi
+
+# The page of the repository is the one that is made here, or its module answers as the programs do.
+kept=$top/docs/t1check.html
+if [ ! -f "$kept" ]; then
+    fail 'docs/t1check.html is not there: run bin/release'
+elif cmp -s "$kept" "$made/t1check.html"; then
+    pass
+else
+    echo 'docs/t1check.html is not the page that these sources and tools make: bin/release makes it'
+    sed -n '/^<script [^>]*id="module">$/{n;p;}' "$kept" | base64 -d | gzip -d >"$scratch/kept.wasm"
+    before=$failed
+    mkdir -p "$scratch/kept"
+    run module.mjs "$scratch/kept.wasm" "$scratch/kept"
+    [ "$failed" -eq "$before" ] || echo 'failed: docs/t1check.html is older than the sources: run bin/release'
+fi
 if has chromium || has chromium-browser || has google-chrome; then
     mkdir "$scratch/downloads"
     run page.mjs "$made/t1check.html" "$scratch/downloads"
 else
-    echo 'tests/web.sh: without Chromium the page is not tried'
+    echo "skipped: the page, since Chromium isn't here (Debian: chromium)"
 fi
 finish

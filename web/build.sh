@@ -14,6 +14,9 @@ crate=t1_web
 exports='t1_web_lines t1_web_document t1_web_picture web_room web_free memory'
 out=$here/out
 
+# shellcheck source=bin/build.sh
+. "$top/bin/build.sh"
+
 die() {
     printf 'web/build.sh: %s\n' "$*" >&2
     exit 3
@@ -59,14 +62,14 @@ below() {
 }
 
 # The gate proves the crate, and leaves a stamp of that.
-is_proved() {
+is_crate_proved() {
     stamp=$top/crates/$crate/out/built
     [ -f "$stamp" ] || return 1
     newer=$(cd "$top" && find crates.txt crates/*/src crates/*/specs crates/*/proofs -newer "$stamp" 2>/dev/null | head -n 1)
     [ -z "$newer" ]
 }
 
-prove() (is_proved || { cd "$top/crates/$crate" && rt check; })
+prove() (is_crate_proved || { cd "$top/crates/$crate" && rt check; })
 
 # ---- what rattle hands to clang
 
@@ -191,6 +194,8 @@ make_page() {
     { sed 's/^export //' "$here/host.mjs" && cat "$here/worker.js"; } >"$scratch/parts/worker"
     cp "$top/docs/RULES.md" "$scratch/parts/rules"
     base64 -w 0 "$top/tests/draw/fonts/letter.pfb" >"$scratch/parts/example"
+    version=$(sed -n 's/^pub const VERSION: &str = "\(.*\)";$/\1/p' "$top/crates/t1_forms/src/version.rt")
+    printf '<meta name="generator" content="t1check %s, of sources with the checksum %s">\n' "$version" "$(sources_sum)" >"$scratch/parts/made"
     awk -v parts="$scratch/parts/" '
         /^\{\{[a-z0-9_]+\}\}$/ {
             file = parts substr($0, 3, length($0) - 4)

@@ -1,7 +1,8 @@
 #!/usr/bin/env node
-// t1check on any system that has node, by the module that web/build.sh makes: the same output and the same status as t1check with these
-// options, unless memory runs out.
+// t1check on any system that has node, by the module that web/build.sh makes, or else by that in docs/t1check.html: the same output and the same
+// status as t1check with these options, unless memory runs out.
 import fs from 'node:fs';
+import zlib from 'node:zlib';
 import { compile, report } from './host.mjs';
 
 const USAGE = 'usage: t1check.mjs [--edition N] [--waive FILE] [--after K] [--max M] [FILE]\n';
@@ -131,11 +132,20 @@ function choose(pieces, after, max) {
   return written > 0n;
 }
 
+// The module: as it was built here, or as the page of the release has it.
+function moduleBytes() {
+  const built = new URL('out/t1_web.wasm', import.meta.url);
+  if (fs.existsSync(built)) return fs.readFileSync(built);
+  const page = fs.readFileSync(new URL('../docs/t1check.html', import.meta.url), 'latin1');
+  const [, packed] = page.match(/<script id="module"[^>]*>\n([A-Za-z0-9+/=]+)\n<\/script>/);
+  return zlib.gunzipSync(Buffer.from(packed, 'base64'));
+}
+
 async function compiled() {
   try {
-    return await compile(fs.readFileSync(new URL('out/t1_web.wasm', import.meta.url)));
+    return await compile(moduleBytes());
   } catch (error) {
-    throw new Ended(`t1check.mjs: web/out/t1_web.wasm can't be had (${error.message}): web/build.sh makes it\n`, FAILED);
+    throw new Ended(`t1check.mjs: the module in docs/t1check.html can't be had (${error.message}): web/build.sh makes it anew\n`, FAILED);
   }
 }
 

@@ -159,7 +159,7 @@ if [ "$(limited script -qec 'echo here' /dev/null </dev/null 2>/dev/null | tr -d
         fail "a build on a terminal: $(cat "$scratch/shown")"
     fi
 else
-    echo 'skipped: a build on a terminal, since script is not here'
+    echo "skipped: a build on a terminal, since script isn't here (Debian: bsdutils)"
 fi
 : >"$build/crates.txt"
 
@@ -178,5 +178,124 @@ t1check_all: proving and building crate 1 of 1, t1check_all
 not proved
 END
 try 'a build of t1check-all that fails' 3 env PATH="$scratch/kit:$PATH" "$build/bin/t1check-all" a
+
+# ---- without a build
+
+# `--build` alone builds and runs nothing.
+rm "$build/fails"
+touch -t 200001010000 "$build/crates.txt"
+rm -f "$build/crates/t1draw/out/built"
+wanted <<'END'
+--
+t1draw: proving and building crate 1 of 1, t1draw
+END
+try 'a build alone' 0 env PATH="$scratch/kit:$PATH" "$build/bin/t1draw" --build
+
+# Help and versions need no program. The files of help are what the programs print.
+mkdir -p "$scratch/fresh/crates/t1_forms/src" "$scratch/fresh/docs" "$scratch/fresh/web" "$scratch/no tools" "$scratch/nodes"
+cp -R "$top/bin" "$scratch/fresh/"
+cp "$top/crates/t1_forms/src/version.rt" "$scratch/fresh/crates/t1_forms/src/"
+cp "$top/docs/RULES.md" "$scratch/fresh/docs/"
+: >"$scratch/fresh/crates.txt"
+for tool in sh dirname sed cat find head git grep; do
+    ln -s "$(command -v "$tool")" "$scratch/no tools/"
+done
+for tool in t1check t1check-all t1draw; do
+    "$top/bin/$tool" --help >"$scratch/help"
+    wanted <"$scratch/help"
+    try "the file of $tool's help" 0 cat "$top/bin/help/$tool.txt"
+    try "$tool's help without a build" 0 env PATH="$scratch/no tools" "$scratch/fresh/bin/$tool" --help
+    wanted <<END
+$tool 1.0.0
+--
+END
+    try "$tool's version without a build" 0 env PATH="$scratch/no tools" "$scratch/fresh/bin/$tool" --version
+done
+wanted <<'END'
+t1explain 1.0.0
+--
+END
+try "t1explain's version without a build" 0 env PATH="$scratch/no tools" "$scratch/fresh/bin/t1explain" --version
+for script in install release; do
+    wanted <<END
+$script of t1check 1.0.0
+--
+END
+    try "$script's version without a build" 0 env PATH="$scratch/no tools" "$scratch/fresh/bin/$script" --version
+done
+
+# Where t1check was never built, node answers what both take in the same way. A script in its place prints its words.
+cat >"$scratch/nodes/node" <<'END'
+#!/bin/sh
+printf 'node'
+shift
+printf ' %s' "$@"
+echo
+exit 1
+END
+chmod +x "$scratch/nodes/node"
+: >"$scratch/fresh/web/t1check.mjs"
+: >"$scratch/fresh/docs/t1check.html"
+while IFS= read -r words; do
+    wanted <<END
+node${words:+ $words}
+--
+END
+    # shellcheck disable=SC2086
+    try "by node: $words" 1 env PATH="$scratch/nodes:$scratch/no tools" "$scratch/fresh/bin/t1check" $words
+done <<'END'
+font.pfb
+-
+--edition 3 --waive list --after 10 --max 2 font.pfb
+--edition=1 --max=9999999999999999999
+END
+while IFS= read -r words; do
+    wanted <<END
+--
+t1check: the program has to be built, and 'rt', the command of the Rattle kit, isn't on the path
+t1check: $scratch/fresh/docs/t1check.html checks fonts in a browser; see 'Build and test' in $scratch/fresh/README.md
+END
+    # shellcheck disable=SC2086
+    try "not by node: $words" 3 env PATH="$scratch/nodes:$scratch/no tools" "$scratch/fresh/bin/t1check" $words
+done <<'END'
+--trace A font.pfb
+--edition 4 font.pfb
+--after -1 font.pfb
+--max 99999999999999999999 font.pfb
+--edition 1 --edition 1 font.pfb
+one.pfb two.pfb
+-- font.pfb
+--edition
+END
+wanted <<END
+--
+t1check: the program has to be built, and 'rt', the command of the Rattle kit, isn't on the path; nor is node, which would do for a report
+t1check: $scratch/fresh/docs/t1check.html checks fonts in a browser; see 'Build and test' in $scratch/fresh/README.md
+END
+try 'neither node nor rt' 3 env PATH="$scratch/no tools" "$scratch/fresh/bin/t1check" font.pfb
+wanted <<END
+--
+t1draw: the program has to be built, and 'rt', the command of the Rattle kit, isn't on the path
+t1draw: $scratch/fresh/docs/t1check.html checks fonts in a browser; see 'Build and test' in $scratch/fresh/README.md
+END
+try 'no rt for t1draw' 3 env PATH="$scratch/nodes:$scratch/no tools" "$scratch/fresh/bin/t1draw" A font.pfb
+
+# Where it is built, or was, the program answers.
+mkdir -p "$scratch/fresh/crates/t1check/out"
+cp "$build/crates/t1check/out/t1check" "$scratch/fresh/crates/t1check/out/"
+: >"$scratch/fresh/crates/t1check/out/built"
+wanted <<'END'
+t1check: font.pfb
+--
+END
+try 'the program, where it is built' 0 env PATH="$scratch/nodes:$scratch/no tools" "$scratch/fresh/bin/t1check" font.pfb
+
+# On a terminal it is said that node answers.
+rm -r "$scratch/fresh/crates/t1check"
+if [ "$(limited script -qec 'echo here' /dev/null </dev/null 2>/dev/null | tr -d '\r')" = here ]; then
+    printf '%s\r\n%s\r\n' "t1check: answered by node, since the program isn't built; bin/t1check --build builds it" 'node font.pfb' >"$scratch/said"
+    limited env PATH="$scratch/nodes:$PATH" script -qec "exec '$scratch/fresh/bin/t1check' font.pfb" /dev/null </dev/null >"$scratch/shown"
+    if cmp -s "$scratch/said" "$scratch/shown"; then pass; else fail "node on a terminal: $(cat "$scratch/shown")"; fi
+fi
 
 finish

@@ -13,8 +13,8 @@ all=$top/bin/t1check-all
 explain=$top/bin/t1explain
 # Status 3 makes tests/tools.sh stop: without the programs no script here can try anything. There is no time limit, since this may build.
 for tool in t1check t1check-all t1draw; do
-    if ! "$top/bin/$tool" --help >/dev/null; then
-        echo "failed: bin/$tool --help, which builds the program"
+    if ! "$top/bin/$tool" --build; then
+        echo "failed: bin/$tool --build"
         echo "0 passed, 1 failed"
         exit 3
     fi
@@ -202,7 +202,7 @@ find_reader() {
     elif [ "$(node -e 'console.log(3)' 2>/dev/null)" = 3 ]; then
         reader=node
     else
-        echo "skipped: ${0##*/}: JSON read by a parser, since neither python3 nor node runs here"
+        echo "skipped: ${0##*/}: JSON read by a parser, since neither python3 nor node runs here (Debian: python3, nodejs)"
         return
     fi
     mv "$scratch/read.$reader" "$scratch/read"

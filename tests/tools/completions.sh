@@ -81,7 +81,7 @@ END
         try "options of $tool in bash's completions" 0 diff "$scratch/options" "$tool.options"
     done
 else
-    echo 'skipped: completions of bash, since it is not here'
+    echo "skipped: completions of bash, which isn't here (Debian: bash)"
 fi
 
 if command -v fish >/dev/null; then
@@ -135,7 +135,7 @@ END
         try "options of $tool in fish's completions" 0 diff "$scratch/options" "$scratch/completed"
     done
 else
-    echo 'skipped: completions of fish, since it is not here'
+    echo "skipped: completions of fish, which isn't here (Debian: fish)"
 fi
 
 wanted <<'END'
@@ -189,7 +189,7 @@ t1draw A font.pfb
 END
     try 'completions of zsh' 0 zsh -f "$scratch/ask.zsh" "$prefix"
 else
-    echo 'skipped: completions of zsh, since it or its zpty is not here'
+    echo "skipped: completions of zsh, since it or its zpty isn't here (Debian: zsh)"
 fi
 
 finish

@@ -120,7 +120,7 @@ columns and one of them.
 END
     try 'a page on a terminal of 30 columns' 0 cat typed
 else
-    echo 'skipped: a page on a terminal, since script does not make one here'
+    echo 'skipped: a page on a terminal, since script makes none here (Debian: bsdutils)'
 fi
 
 finish

@@ -9,7 +9,7 @@ install_all
 printf '.TH A 1 2026-01-01\n.SH NAME\na \\- b\n' >"$scratch/a.1"
 readers=''
 limited man --warnings -E UTF-8 -l -Tutf8 -Z "$scratch/a.1" >/dev/null 2>&1 && readers='man --warnings -E UTF-8 -l -Tutf8 -Z' ||
-    echo 'skipped: manual pages read by man, since man-db is not here'
+    echo "skipped: manual pages read by man, which isn't here (Debian: man-db)"
 pages="man1/t1check.1 man1/t1check-all.1 man1/t1draw.1 man1/t1explain.1 man7/t1check-rules.7"
 wanted <<'END'
 --
@@ -19,7 +19,7 @@ for page in $pages; do
     [ -z "$readers" ] || try "$page by man" 0 sh -c "$readers \"$prefix/share/man/$page\" >/dev/null"
     ! command -v mandoc >/dev/null || try "$page by mandoc" 0 mandoc -T lint "$prefix/share/man/$page"
 done
-command -v mandoc >/dev/null || echo 'skipped: manual pages read by mandoc, since it is not here'
+command -v mandoc >/dev/null || echo "skipped: manual pages read by mandoc, which isn't here (Debian: mandoc)"
 for tool in t1check t1check-all t1draw; do
     options "$tool" >"$scratch/options"
     sed -n '/^.SH OPTIONS/,/^.SH EXIT/p' "$prefix/share/man/man1/$tool.1" | grep '^\.B' | tr -d '\\",' | tr ' ' '\n' | grep '^-' |

@@ -5,7 +5,7 @@
 . "$(dirname "$0")/common.sh"
 
 if [ "$(script -qec 'echo shown' /dev/null </dev/null 2>/dev/null | tr -d '\r')" != shown ]; then
-    echo 'skipped: progress, since script is not here'
+    echo "skipped: progress, since script isn't here (Debian: bsdutils)"
     finish
     exit
 fi

@@ -153,7 +153,7 @@ END
 END
     try 'each line on a terminal' 0 cmp "$scratch/long" "$scratch/shown"
 else
-    echo 'skipped: a terminal, since script is not here'
+    echo "skipped: a terminal, since script isn't here (Debian: bsdutils)"
 fi
 
 finish

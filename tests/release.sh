@@ -1,0 +1,150 @@
+#!/bin/sh
+# Tries bin/release over programs and a page that are built: its files, that a second run makes the same bytes, and the package in a root with
+# these packages alone: libc6, and a shell, coreutils and awk. Names what fails and what is skipped; the last line counts passed and failed.
+set -u
+LC_ALL=C
+export LC_ALL
+
+top=$(CDPATH='' cd -P -- "$(dirname "$0")/.." && pwd -P) || exit 1
+fonts=$top/tests/program/fonts
+scratch=$(mktemp -d) || exit 1
+trap 'rm -rf "$scratch"' EXIT
+trap 'exit 1' HUP INT TERM
+passed=0
+failed=0
+
+pass() {
+    passed=$((passed + 1))
+}
+
+fail() {
+    failed=$((failed + 1))
+    printf 'failed: %s\n' "$1"
+}
+
+finish() {
+    printf '%d passed, %d failed\n' "$passed" "$failed"
+    [ "$failed" -eq 0 ]
+    exit
+}
+
+for tool in dpkg-deb:dpkg wasm-opt:binaryen; do
+    command -v "${tool%:*}" >/dev/null || {
+        echo "skipped: a release, since ${tool%:*} isn't here (Debian: ${tool#*:})"
+        finish
+    }
+done
+command -v lintian >/dev/null || echo "skipped: what lintian says of the package, since it isn't here (Debian: lintian)"
+
+# The page of the repository is left as it is.
+cp "$top/docs/t1check.html" "$scratch/page.html"
+for folder in one two; do
+    SOURCE_DATE_EPOCH=1000000000 "$top/bin/release" "$scratch/$folder" >"$scratch/out" 2>"$scratch/err" || {
+        cat "$scratch/out" "$scratch/err"
+        fail "bin/release $folder"
+        cp "$scratch/page.html" "$top/docs/t1check.html"
+        finish
+    }
+done
+cmp -s "$scratch/page.html" "$top/docs/t1check.html" || cp "$scratch/page.html" "$top/docs/t1check.html"
+sed -n 's/^release: lintian: /lintian: /p' "$scratch/err"
+if grep '^release: lintian: E: ' "$scratch/err" | grep -qv no-copyright-file; then fail 'lintian finds errors beside the copyright file'; else pass; fi
+deb=$(ls "$scratch"/one/*.deb) tarball=$(ls "$scratch"/one/*.tar.gz)
+
+if diff -r "$scratch/one" "$scratch/two"; then pass; else fail 'two releases differ'; fi
+if (cd "$scratch/one" && sha256sum --quiet -c SHA256SUMS); then pass; else fail 'SHA256SUMS'; fi
+
+# What the tarball has runs from any folder.
+mkdir "$scratch/unpacked" && tar -C "$scratch/unpacked" -xzf "$tarball"
+unpacked=$(echo "$scratch"/unpacked/t1check-*)
+"$top/bin/t1check" "$fonts/edge.pfb" >"$scratch/wanted"
+"$unpacked/bin/t1check" "$fonts/edge.pfb" >"$scratch/given"
+if cmp "$scratch/wanted" "$scratch/given"; then pass; else fail 't1check of the tarball'; fi
+"$unpacked/bin/t1check-all" -q --only H02 "$fonts/edge.pfb" >"$scratch/given"
+if [ -s "$scratch/given" ]; then pass; else fail 't1check-all of the tarball'; fi
+
+# ---- the package, in a root of its own
+
+if [ "$(id -u)" -ne 0 ] || ! command -v chroot >/dev/null || [ ! -f /var/lib/dpkg/status ]; then
+    echo 'skipped: the package in a root of its own, since this is not root on Debian'
+    finish
+fi
+
+# The packages that those stand on, too.
+needed() {
+    seen=' '
+    set -- libc6 dash coreutils mawk grep sed diffutils
+    while [ $# -gt 0 ]; do
+        package=$1
+        shift
+        case $seen in *" $package "*) continue ;; esac
+        seen="$seen$package "
+        # shellcheck disable=SC2016,SC2046
+        set -- "$@" $(dpkg-query -W -f '${Pre-Depends}, ${Depends}\n' "$package" 2>/dev/null | tr ',' '\n' | sed 's/|.*//; s/(.*//; s/:any//; s/ //g')
+    done
+    for package in $seen; do
+        case $package in debconf* | debianutils) ;; *) echo "$package" ;; esac
+    done
+}
+
+root=$scratch/root
+mkdir -p "$root/usr/bin" "$root/usr/sbin" "$root/usr/lib" "$root/usr/lib64" "$root/tmp" "$root/dev" "$root/var/lib/dpkg/info" "$root/var/lib/dpkg/updates"
+for folder in bin sbin lib lib64; do
+    ln -s "usr/$folder" "$root/$folder"
+done
+: >"$root/dev/null"
+for package in $(needed); do
+    dpkg -s "$package" 2>/dev/null && echo
+    dpkg -L "$package" 2>/dev/null | while IFS= read -r file; do
+        real=$(readlink -f "$(dirname "$file")")/$(basename "$file")
+        { [ -f "$real" ] || [ -h "$real" ]; } && case $real in /usr/share/*) ;; *) cp -a --parents "$real" "$root" ;; esac
+    done
+done >"$root/var/lib/dpkg/status"
+[ -e "$root/bin/sh" ] || ln -s dash "$root/usr/bin/sh"
+[ -e "$root/bin/awk" ] || ln -s mawk "$root/usr/bin/awk"
+cp "$fonts/edge.pfb" "$root/tmp/"
+
+# The files of the root, but for what dpkg keeps of its own.
+list() (
+    cd "$root" && find . -path ./var/lib/dpkg -prune -o -print | sort
+)
+list >"$scratch/before"
+if dpkg --root="$root" --force-script-chrootless -i "$deb" >"$scratch/log" 2>&1; then
+    pass
+else
+    cat "$scratch/log"
+    fail 'installing the package'
+    finish
+fi
+
+# Compares what a program prints there with what it prints here: STATUS TOOL WORDS...
+try() {
+    status=$1 tool=$2
+    shift 2
+    "$top/bin/$tool" "$@" >"$scratch/wanted" 2>&1
+    chroot "$root" "/usr/bin/$tool" "$@" >"$scratch/given" 2>&1
+    given=$?
+    if [ "$given" -eq "$status" ] && cmp "$scratch/wanted" "$scratch/given"; then
+        pass
+    else
+        fail "$tool $* of the package: status $given, $(head -n 3 "$scratch/given")"
+    fi
+}
+cp "$fonts/edge.pfb" /tmp/edge.pfb 2>/dev/null
+try 1 t1check /tmp/edge.pfb
+try 0 t1check --help
+try 1 t1check-all -q /tmp/edge.pfb
+try 0 t1draw A /tmp/edge.pfb
+try 0 t1explain H02
+rm -f /tmp/edge.pfb
+for page in man1/t1check.1 man1/t1check-all.1 man1/t1draw.1 man1/t1explain.1 man7/t1check-rules.7; do
+    if gzip -t "$root/usr/share/man/$page.gz"; then pass; else fail "the manual page $page"; fi
+done
+if dpkg --root="$root" --force-script-chrootless -P t1check >"$scratch/log" 2>&1 && list | cmp -s "$scratch/before" -; then
+    pass
+else
+    cat "$scratch/log"
+    list | diff "$scratch/before" -
+    fail 'removing the package leaves something'
+fi
+finish
