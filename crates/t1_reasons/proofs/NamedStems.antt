@@ -51,9 +51,10 @@ AreIn all stems = AllByRecursion (λ s. Contains all s) stems
 
 are_in : (all stems : List SetStem) → ((s : SetStem) → Contains stems s → Contains all s) → AreIn all stems
 are_in all [] each = tt
-are_in all (s ∷ ss) each =
-    (each s (Contains-append_left (s ∷ []) ss s (0, omega arith, refl)),
-    are_in all ss (λ t in_rest. each t (Contains-append_right (s ∷ []) ss t in_rest)))
+are_in all (s ∷ ss) each = (
+  each s (Contains-append_left (s ∷ []) ss s (0, omega arith, refl)),
+  are_in all ss (λ t in_rest. each t (Contains-append_right (s ∷ []) ss t in_rest)),
+)
 
 -- ---- the stems that steps set
 
@@ -208,9 +209,10 @@ each_holds : (steps : List StepView) (ns : List NumberedStep)
     → ((y : SetStem) → Contains (flat_map (set_by sets_stems) ns) y → Contains (all_stems steps) y) → AllByRecursion (Holds steps) ns
 unfolding Holds
 each_holds steps [] all = tt
-each_holds steps (s ∷ ss) all =
-    (λ y here. all y (Contains-append_left (set_by sets_stems s) (flat_map (set_by sets_stems) ss) y here),
-    each_holds steps ss (λ y later. all y (Contains-append_right (set_by sets_stems s) (flat_map (set_by sets_stems) ss) y later)))
+each_holds steps (s ∷ ss) all = (
+  λ y here. all y (Contains-append_left (set_by sets_stems s) (flat_map (set_by sets_stems) ss) y here),
+  each_holds steps ss (λ y later. all y (Contains-append_right (set_by sets_stems s) (flat_map (set_by sets_stems) ss) y later)),
+)
 
 last_holds : {A : Type 0} (R : A → Type 0) (kind : CharToken → Bool) (tell : ℕ → StepView → A) (before : List StepView) (step : StepView)
     → ((s : NumberedStep) → Holds (before ++ step ∷ []) s → kind s.step.token ≡ true → R (tell s.number s.step))
