@@ -13,7 +13,6 @@ use Rattle.t1_picture.specs.declared.bands.Direction.{Direction}
 use Rattle.t1_picture.specs.declared.bands.Direction.TheVariants.{Across, Upright}
 use Rattle.t1_picture.specs.declared.causes.Cause.{Cause}
 use Rattle.t1_picture.specs.declared.causes.Cause.TheVariants.{Accent, Base, Ends, Named, Miss as Missed, Zone}
-use Rattle.t1_picture.specs.declared.causes.NamedStem.{NamedStem}
 use Rattle.t1_picture.specs.declared.causes.Role.{Role}
 use Rattle.t1_picture.specs.declared.causes.Role.TheVariants.{Other, Own}
 use Rattle.t1_picture.specs.declared.causes.StemPlace.{StemPlace}
