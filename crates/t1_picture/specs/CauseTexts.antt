@@ -61,7 +61,7 @@ cause_band frame _ = []
 
 unfoldable pub causes_start : List ℕ
 causes_start =
-    codes "<g id=\"causes\" clip-path=\"url(#frame)\" fill=\"red\" fill-opacity=\"0.15\" stroke=\"red\" stroke-opacity=\"0.5\">\n"
+    codes "<g id=\"causes\" clip-path=\"url(#frame)\" fill=\"red\" fill-opacity=\"0.25\" stroke=\"red\">\n"
 
 unfoldable pub causes_part : Frame → List Cause → List ℕ
 causes_part frame causes = causes_start ++ (flat_map (cause_band frame) causes ++ codes "</g>\n")

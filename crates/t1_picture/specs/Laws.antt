@@ -9,8 +9,10 @@ use Rattle.t1_outline.specs.Parts.{parts_of_both}
 use Rattle.t1_picture.specs.Drawings.{all_steps, component_part, components_of, drawing_of, own_part}
 use Rattle.t1_picture.specs.Parts.{PartView, drawn_steps, part_outline}
 use Rattle.t1_picture.specs.Pictures.{IsPictureOf}
-use Rattle.t1_picture.specs.Subjects.{Subject}
+use Rattle.t1_picture.specs.Marks.{faults_of, mark_of_one, pen_at}
+use Rattle.t1_picture.specs.Subjects.{Subject, everything, one_fault, up_to}
 use Rattle.t1_picture.specs.Texts.{legible, xml_text}
+use Rattle.t1_report.specs.Faults.{FaultValue}
 use Rattle.t1_report.specs.Waivers.{largest_waivers}
 
 -- A subject has a picture, within the limits that each font and all waivers that are read keep.
@@ -36,6 +38,25 @@ OutlineIsThatOfItsParts =
 abbrev pub WholePartsAreOutlines : Type 0
 WholePartsAreOutlines =
     (part : PartView) → part.last ≡ all_steps → drawn_of (drawn_steps part) ≡ outline_of part.edition part.font part.glyph
+
+-- ---- one fault
+
+-- A fault that is shown alone is drawn as far as it is known: one of the font with all steps, and one of a glyph up to its own step.
+abbrev pub FontFaultsShowAllSteps : Type 0
+FontFaultsShowAllSteps =
+    (s : Subject) (fault : FaultValue) → fault.unit ≡ 0 →
+    drawing_of (record s { shown = one_fault fault }) ≡ drawing_of (record s { shown = everything })
+
+abbrev pub GlyphFaultsShowTheirSteps : Type 0
+GlyphFaultsShowTheirSteps =
+    (s : Subject) (fault : FaultValue) → 0 < fault.unit →
+    drawing_of (record s { shown = one_fault fault }) ≡ drawing_of (record s { shown = up_to fault.step })
+
+-- Nor is more marked than that fault.
+abbrev pub OneFaultIsMarked : Type 0
+OneFaultIsMarked =
+    (s : Subject) (fault : FaultValue) (faults all : List FaultValue) → 0 < fault.unit →
+    (faults_of (record s { shown = one_fault fault }) faults all).marks ≡ mark_of_one (pen_at s fault.step) fault.number ∷ []
 
 -- ---- texts in XML
 

@@ -18,7 +18,7 @@ use t1_rules::Point;
 
 /// The group of stems and zones, which the frame cuts.
 const CAUSES: &str =
-    r##"<g id="causes" clip-path="url(#frame)" fill="red" fill-opacity="0.15" stroke="red" stroke-opacity="0.5">
+    r##"<g id="causes" clip-path="url(#frame)" fill="red" fill-opacity="0.25" stroke="red">
 "##;
 
 /// The width of lines and of the lines of marks.
