@@ -7,7 +7,7 @@ use Rattle.t1_picture.specs.declared.bands.Direction.{Direction}
 use Rattle.t1_picture.specs.declared.bands.Direction.TheVariants.{Across, Upright}
 use Rattle.t1_picture.specs.declared.bounds.Bounds.{Bounds}
 use Rattle.t1_picture.specs.declared.causes.Cause.{Cause}
-use Rattle.t1_picture.specs.declared.causes.Cause.TheVariants.{Ends, Miss, Named, Zone}
+use Rattle.t1_picture.specs.declared.causes.Cause.TheVariants.{Ends, Miss, Stem, Zone}
 use Rattle.t1_picture.specs.declared.causes.NamedStem.{NamedStem}
 use Rattle.t1_picture.specs.declared.causes.Role.{Role}
 use Rattle.t1_picture.specs.declared.causes.Role.TheVariants.{Other, Own}
@@ -29,7 +29,7 @@ near_coordinate z = kept (int_div z (pos 1000000000) *ℤ pos unit)
 
 -- The drawing reaches as far as what is named. A component is drawn anyway.
 abbrev pub with_cause : Bounds → Cause → Bounds
-with_cause b (Named stem) = with_band b stem.band
+with_cause b (Stem stem) = with_band b stem.band
 with_cause b (Zone edges) = with_y (with_y b (near_coordinate edges.lower)) (near_coordinate edges.upper)
 with_cause b (Miss named pen) = with_point (with_point b named) pen
 with_cause b (Ends start pen) = with_point (with_point b start) pen
@@ -55,7 +55,7 @@ end_text size =
 
 -- Stems and zones, as bands.
 abbrev pub cause_band : Frame → Cause → List ℕ
-cause_band frame (Named stem) = band_text frame stem.band
+cause_band frame (Stem stem) = band_text frame stem.band
 cause_band frame (Zone edges) = across_text frame (value_of edges.lower) (value_of edges.upper)
 cause_band frame _ = []
 
@@ -135,7 +135,7 @@ abbrev pub edge_numbers : Frame → NamedStem → List ℕ
 edge_numbers frame stem = lower_number frame stem ++ edge_at (upper_place stem.band.direction frame stem) stem.upper
 
 abbrev pub cause_numbers : Frame → Cause → List ℕ
-cause_numbers frame (Named stem) = edge_numbers frame stem
+cause_numbers frame (Stem stem) = edge_numbers frame stem
 cause_numbers frame _ = []
 
 unfoldable pub edges_start : Exact → List ℕ

@@ -12,7 +12,7 @@ use Rattle.t1_font.specs.Values.{Value, numbers}
 use Rattle.t1_picture.specs.declared.bands.Direction.{Direction}
 use Rattle.t1_picture.specs.declared.bands.Direction.TheVariants.{Across, Upright}
 use Rattle.t1_picture.specs.declared.causes.Cause.{Cause}
-use Rattle.t1_picture.specs.declared.causes.Cause.TheVariants.{Accent, Base, Ends, Named, Miss as Missed, Zone}
+use Rattle.t1_picture.specs.declared.causes.Cause.TheVariants.{Accent, Base, Ends, Miss as Missed, Stem as NamedOne, Zone}
 use Rattle.t1_picture.specs.declared.causes.Role.{Role}
 use Rattle.t1_picture.specs.declared.causes.Role.TheVariants.{Other, Own}
 use Rattle.t1_picture.specs.declared.causes.StemPlace.{StemPlace}
@@ -52,7 +52,7 @@ start_along Upright start = start.x
 -- A stem that a reason names: its band, as the bands in force are placed, and its edges, as the font counts them.
 abbrev pub named_stem : Edition → Point → Role → Stem → Direction → Cause
 named_stem edition start role stem direction =
-    Named (record {
+    NamedOne (record {
       band = band_of direction (start_along direction start) edition stem;
       lower = lower_edge edition stem;
       upper = upper_edge edition stem;

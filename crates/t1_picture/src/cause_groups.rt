@@ -56,7 +56,7 @@ fn widen_by_cause(bounds: &mut Bounds, cause: Cause)
     ensures { bounds.new ≡ with_cause bounds.old cause }
 {
     match cause {
-        Cause::Named(stem) => stem.band.widen(bounds),
+        Cause::Stem(stem) => stem.band.widen(bounds),
         Cause::Zone(edges) => {
             bounds.take_y(near_coordinate(edges.lower));
             bounds.take_y(near_coordinate(edges.upper));
@@ -115,7 +115,7 @@ fn write_cause_band(svg: &mut String, frame: &Frame, cause: Cause) -> Result<(),
     ensures { OnOk result (string_bytes svg.new ≡ string_bytes svg.old ++ cause_band frame.now cause) }
 {
     match cause {
-        Cause::Named(stem) => stem.band.write(svg, frame),
+        Cause::Stem(stem) => stem.band.write(svg, frame),
         Cause::Zone(edges) => write_across(svg, frame, value(edges.lower), value(edges.upper)),
         Cause::Miss { .. } | Cause::Ends { .. } | Cause::Base | Cause::Accent => Ok(()),
     }
@@ -162,7 +162,7 @@ fn write_miss(svg: &mut String, cause: Cause) -> Result<(), AllocError>
 {
     match cause {
         Cause::Miss { named, pen } => write_stretch(svg, pen, named),
-        Cause::Named(_) | Cause::Zone(_) | Cause::Ends { .. } | Cause::Base | Cause::Accent => {
+        Cause::Stem(_) | Cause::Zone(_) | Cause::Ends { .. } | Cause::Base | Cause::Accent => {
             Ok(())
         }
     }
@@ -211,7 +211,7 @@ fn write_points_of(svg: &mut String, cause: Cause) -> Result<(), AllocError>
             write_mark(svg, "end", start)?;
             write_mark(svg, "end", pen)
         }
-        Cause::Named(_) | Cause::Zone(_) | Cause::Base | Cause::Accent => Ok(()),
+        Cause::Stem(_) | Cause::Zone(_) | Cause::Base | Cause::Accent => Ok(()),
     }
 }
 
@@ -253,7 +253,7 @@ fn write_numbers_of(svg: &mut String, frame: &Frame, cause: Cause) -> Result<(),
     ensures { OnOk result (string_bytes svg.new ≡ string_bytes svg.old ++ cause_numbers frame.now cause) }
 {
     match cause {
-        Cause::Named(stem) => write_stem_numbers(svg, frame, stem),
+        Cause::Stem(stem) => write_stem_numbers(svg, frame, stem),
         Cause::Zone(_) | Cause::Miss { .. } | Cause::Ends { .. } | Cause::Base | Cause::Accent => {
             Ok(())
         }

@@ -41,7 +41,7 @@ pub(crate) struct NamedStem {
 #[derive(Clone, Copy, Debug, PartialEq, Eq)]
 pub(crate) enum Cause {
     /// A stem: H02 to H07.
-    Named(NamedStem),
+    Stem(NamedStem),
     /// A zone: the one that a fault of the font is at, and Z06's other one.
     Zone(Edges),
     /// The point that the end of a flex names, and where the pen is: X05.
@@ -91,7 +91,7 @@ impl StemPlace {
 fn named_stem(edition: Edition, start: Point, role: Role, stem: Stem, direction: Direction) -> Cause
     ensures { result ≡ named_stem edition start role stem direction }
 {
-    Cause::Named(NamedStem {
+    Cause::Stem(NamedStem {
         band: Band::of(stem, direction, start_along(direction, start), edition),
         lower: lower_edge(stem, edition),
         upper: upper_edge(stem, edition),

@@ -3,7 +3,7 @@
 ghost use Rattle.std.specs.Prelude.{◌≡◌, None, Some, if◌then◌else◌, unwrap_or, ◌==◌};
 ghost use Rattle.t1_font.specs.Fonts.{glyph_name};
 ghost use Rattle.t1_picture.specs.Drawings.{all_steps};
-ghost use Rattle.t1_picture.specs.Subjects.{shown_up_to, shown_value, step_in};
+ghost use Rattle.t1_picture.specs.Subjects.{fault_in, shown_up_to, shown_value, step_in};
 
 use t1_char::Edition;
 use t1_font::Font;
@@ -24,7 +24,8 @@ pub enum Shown {
 impl Shown {
     /// Returns [`Shown::UpTo`] of a step, and [`Shown::All`] without one.
     pub fn up_to(step: Option<u64>) -> Shown
-        ensures { shown_value result ≡ shown_up_to step }
+        ensures shown { shown_value result ≡ shown_up_to step }
+        ensures no_fault { fault_in (shown_value result) ≡ None }
     {
         match step {
             Some(number) => Shown::UpTo(number),
