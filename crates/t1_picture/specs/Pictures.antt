@@ -97,14 +97,16 @@ clip_text left bottom right top =
     ++ (codes "H" ++ (exact_text right ++ (codes "V" ++ (exact_text top
     ++ (codes "H" ++ (exact_text left ++ codes "Z\"/></clipPath>\n")))))))))
 
+-- All forms, by their sizes: of a point, and of a mark and a cross; of an end.
+unfoldable pub forms_text : Exact → Exact → Exact → List ℕ
+forms_text size radius end = square_text size ++ (circles_text size radius ++ cause_forms radius end)
+
 unfoldable pub defs_text : Frame → List ℕ
 defs_text frame =
     codes "<defs>\n"
-    ++ (square_text (length_of frame (pos 4))
-    ++ (circles_text (length_of frame (pos 4)) (length_of frame (pos 9))
-    ++ (cause_forms (length_of frame (pos 9)) (length_of frame (pos 7))
+    ++ (forms_text (length_of frame (pos 4)) (length_of frame (pos 9)) (length_of frame (pos 7))
     ++ (clip_text (length_of frame frame.left) (length_of frame frame.bottom) (length_of frame frame.right) (length_of frame frame.top)
-    ++ codes "</defs>\n"))))
+    ++ codes "</defs>\n"))
 
 -- What lies below all.
 unfoldable pub ground_text : Exact → Exact → Exact → Exact → List ℕ

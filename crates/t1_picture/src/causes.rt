@@ -19,7 +19,7 @@ const BLUE_VALUES: u32 = 9;
 const OTHER_BLUES: u32 = 10;
 
 /// Whose stem it is that a reason names.
-#[derive(Clone, Copy, Debug, PartialEq, Eq)]
+#[derive(Clone, Copy)]
 pub(crate) enum Role {
     /// The step sets it.
     Own,
@@ -28,7 +28,7 @@ pub(crate) enum Role {
 }
 
 /// A stem that a reason names.
-#[derive(Clone, Copy, Debug, PartialEq, Eq)]
+#[derive(Clone, Copy)]
 pub(crate) struct NamedStem {
     pub(crate) band: Band,
     /// Its edges, counted from the sidebearing point, as the font does.
@@ -38,7 +38,7 @@ pub(crate) struct NamedStem {
 }
 
 /// What a reason names that can be drawn.
-#[derive(Clone, Copy, Debug, PartialEq, Eq)]
+#[derive(Clone, Copy)]
 pub(crate) enum Cause {
     /// A stem: H02 to H07.
     Stem(NamedStem),
@@ -55,7 +55,7 @@ pub(crate) enum Cause {
 }
 
 /// Where the stems of a step are.
-#[derive(Clone, Copy, Debug, PartialEq, Eq)]
+#[derive(Clone, Copy)]
 pub(crate) struct StemPlace {
     pub(crate) edition: Edition,
     /// What their positions count from.

@@ -3,7 +3,7 @@
 ghost use Rattle.std.specs.Prelude.{◌≡◌, ◌++◌, OnOk, string_bytes};
 ghost use Rattle.t1_picture.specs.Drawings.{texts_of};
 ghost use Rattle.t1_picture.specs.CauseTexts.{cross_text, end_text};
-ghost use Rattle.t1_picture.specs.Pictures.{cause_forms, circles_text, clip_text, columns_from, defs_text, ground_part, ground_text, head_by, head_text, letters_of, plane_text, size_text, square_text, svg_start, title_text, view_box_text};
+ghost use Rattle.t1_picture.specs.Pictures.{cause_forms, circles_text, clip_text, columns_from, defs_text, forms_text, ground_part, ground_text, head_by, head_text, letters_of, plane_text, size_text, square_text, svg_start, title_text, view_box_text};
 
 use crate::frame::Frame;
 use crate::marks::MARK;
@@ -150,9 +150,12 @@ fn write_defs(svg: &mut String, frame: &Frame) -> Result<(), AllocError>
     ensures { OnOk result (string_bytes svg.new ≡ string_bytes svg.old ++ defs_text frame.now) }
 {
     push(svg, "<defs>\n")?;
-    write_square(svg, frame.length(POINT))?;
-    write_circle_forms(svg, frame.length(POINT), frame.length(MARK))?;
-    write_cause_forms(svg, frame.length(MARK), frame.length(END_POINT))?;
+    write_forms(
+        svg,
+        frame.length(POINT),
+        frame.length(MARK),
+        frame.length(END_POINT),
+    )?;
     write_clip(
         svg,
         frame.left(),
@@ -161,6 +164,16 @@ fn write_defs(svg: &mut String, frame: &Frame) -> Result<(), AllocError>
         frame.top(),
     )?;
     push(svg, "</defs>\n")
+}
+
+/// Writes the forms: of points by a size, of marks and crosses by a radius, and of the ends of paths.
+#[tactic(auto, unfolding(crate::specs::Pictures::forms_text))]
+fn write_forms(svg: &mut String, size: Exact, radius: Exact, end: Exact) -> Result<(), AllocError>
+    ensures { OnOk result (string_bytes svg.new ≡ string_bytes svg.old ++ forms_text size radius end) }
+{
+    write_square(svg, size)?;
+    write_circle_forms(svg, size, radius)?;
+    write_cause_forms(svg, radius, end)
 }
 
 fn write_square(svg: &mut String, size: Exact) -> Result<(), AllocError>
