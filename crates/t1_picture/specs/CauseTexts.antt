@@ -131,8 +131,11 @@ abbrev pub lower_number : Frame → NamedStem → List ℕ
 lower_number frame stem =
     if int_eq stem.lower stem.upper then [] else edge_at (lower_place stem.band.direction frame stem) stem.lower
 
+abbrev pub upper_number : Frame → NamedStem → List ℕ
+upper_number frame stem = edge_at (upper_place stem.band.direction frame stem) stem.upper
+
 abbrev pub edge_numbers : Frame → NamedStem → List ℕ
-edge_numbers frame stem = lower_number frame stem ++ edge_at (upper_place stem.band.direction frame stem) stem.upper
+edge_numbers frame stem = lower_number frame stem ++ upper_number frame stem
 
 abbrev pub cause_numbers : Frame → Cause → List ℕ
 cause_numbers frame (Stem stem) = edge_numbers frame stem

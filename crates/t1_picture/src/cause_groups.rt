@@ -2,7 +2,7 @@
 
 ghost use Rattle.std.specs.Prelude.{◌≡◌, ◌++◌, OnOk, string_bytes};
 ghost use Rattle.std.specs.List.{flat_map};
-ghost use Rattle.t1_picture.specs.CauseTexts.{cause_band, cause_line, cause_lines_part, cause_lines_start, cause_numbers, cause_points, cause_points_part, cause_points_start, causes_part, causes_start, column_of, edge_at, edge_numbers, edge_text, edges_part, edges_start, first_row, lower_number, lower_place, near_coordinate, second_row, upper_place, with_cause, with_causes};
+ghost use Rattle.t1_picture.specs.CauseTexts.{cause_band, cause_line, cause_lines_part, cause_lines_start, cause_numbers, cause_points, cause_points_part, cause_points_start, causes_part, causes_start, column_of, edge_at, edge_numbers, edge_text, edges_part, edges_start, first_row, lower_number, lower_place, near_coordinate, second_row, upper_number, upper_place, with_cause, with_causes};
 
 use crate::bands::{Direction, write_across};
 use crate::bounds::Bounds;
@@ -265,6 +265,13 @@ fn write_stem_numbers(svg: &mut String, frame: &Frame, stem: NamedStem) -> Resul
     ensures { OnOk result (string_bytes svg.new ≡ string_bytes svg.old ++ edge_numbers frame.now stem) }
 {
     write_lower_number(svg, frame, stem)?;
+    write_upper_number(svg, frame, stem)
+}
+
+/// Writes the number of the upper or right edge.
+fn write_upper_number(svg: &mut String, frame: &Frame, stem: NamedStem) -> Result<(), AllocError>
+    ensures { OnOk result (string_bytes svg.new ≡ string_bytes svg.old ++ upper_number frame.now stem) }
+{
     write_edge_at(svg, upper_place(frame, stem), stem.upper)
 }
 
