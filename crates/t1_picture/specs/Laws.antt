@@ -7,12 +7,12 @@ use Rattle.t1_font.specs.Keys.{same_name}
 use Rattle.t1_outline.specs.Outlines.{drawn_of, outline_of}
 use Rattle.t1_outline.specs.Parts.{parts_of_both}
 use Rattle.t1_picture.specs.Drawings.{all_steps, component_part, components_of, drawing_of, own_part}
-use Rattle.t1_picture.specs.Layers.{segment_text}
-use Rattle.t1_picture.specs.Parts.{PartView, drawn_steps}
+use Rattle.t1_picture.specs.Parts.{PartView, drawn_steps, part_outline}
 use Rattle.t1_picture.specs.Pictures.{IsPictureOf}
-use Rattle.t1_picture.specs.Subjects.{Subject}
-use Rattle.t1_picture.specs.Subpaths.{placed}
+use Rattle.t1_picture.specs.Marks.{faults_of, mark_of_one, pen_at}
+use Rattle.t1_picture.specs.Subjects.{Subject, everything, one_fault, up_to}
 use Rattle.t1_picture.specs.Texts.{legible, xml_text}
+use Rattle.t1_report.specs.Faults.{FaultValue}
 use Rattle.t1_report.specs.Waivers.{largest_waivers}
 
 -- A subject has a picture, within the limits that each font and all waivers that are read keep.
@@ -27,10 +27,6 @@ HasNoOtherPicture = (s : Subject) (a b : List ℕ) → IsPictureOf s a → IsPic
 
 -- ---- the outline
 
--- The outline of a part, as data of a path: the segments that its steps draw, where its origin is.
-abbrev pub part_outline : PartView → List ℕ
-part_outline part = flat_map (λ d. segment_text (placed part.origin d.segment)) (drawn_of (drawn_steps part))
-
 -- The outline of a picture is that of the glyph, up to the last step, and then that of each component that is there.
 abbrev pub OutlineIsThatOfItsParts : Type 0
 OutlineIsThatOfItsParts =
@@ -42,6 +38,25 @@ OutlineIsThatOfItsParts =
 abbrev pub WholePartsAreOutlines : Type 0
 WholePartsAreOutlines =
     (part : PartView) → part.last ≡ all_steps → drawn_of (drawn_steps part) ≡ outline_of part.edition part.font part.glyph
+
+-- ---- one fault
+
+-- A fault that is shown alone is drawn as far as it is known: one of the font with all steps, and one of a glyph up to its own step.
+abbrev pub FontFaultsShowAllSteps : Type 0
+FontFaultsShowAllSteps =
+    (s : Subject) (fault : FaultValue) → fault.unit ≡ 0 →
+    drawing_of (record s { shown = one_fault fault }) ≡ drawing_of (record s { shown = everything })
+
+abbrev pub GlyphFaultsShowTheirSteps : Type 0
+GlyphFaultsShowTheirSteps =
+    (s : Subject) (fault : FaultValue) → 0 < fault.unit →
+    drawing_of (record s { shown = one_fault fault }) ≡ drawing_of (record s { shown = up_to fault.step })
+
+-- Nor is more marked than that fault.
+abbrev pub OneFaultIsMarked : Type 0
+OneFaultIsMarked =
+    (s : Subject) (fault : FaultValue) (faults all : List FaultValue) → 0 < fault.unit →
+    (faults_of (record s { shown = one_fault fault }) faults all).marks ≡ mark_of_one (pen_at s fault.step) fault.number ∷ []
 
 -- ---- texts in XML
 

@@ -1,10 +1,10 @@
 //! Laws of pictures. A call of one does nothing but call the laws that it rests on: a proof cites what it ensures.
 
-ghost use Rattle.t1_picture.specs.Laws.{AmpersandsBeginEntities, HasNoOtherPicture, HasPicture, LegibleTextsAreFit, OutlineIsThatOfItsParts, TextsHaveNoMarkup, WholePartsAreOutlines};
+ghost use Rattle.t1_picture.specs.Laws.{AmpersandsBeginEntities, FontFaultsShowAllSteps, GlyphFaultsShowTheirSteps, HasNoOtherPicture, HasPicture, LegibleTextsAreFit, OneFaultIsMarked, OutlineIsThatOfItsParts, TextsHaveNoMarkup, WholePartsAreOutlines};
 
 use t1_report::faults_of_a_unit_are_the_reports;
 
-/// A font of at most 65,535 glyphs, a glyph of it, at most 1,048,576 waivers, an edition and a step have a picture, and no two.
+/// A font of at most 65,535 glyphs, a glyph of it, at most 1,048,576 waivers, an edition and what is shown have a picture, and no two.
 /// What [`picture`](crate::picture) gives is a function of these.
 pub fn a_subject_has_one_picture()
     ensures some { HasPicture }
@@ -18,6 +18,14 @@ pub fn a_subject_has_one_picture()
 pub fn outlines_are_drawn()
     ensures parts { OutlineIsThatOfItsParts }
     ensures whole { WholePartsAreOutlines }
+{}
+
+/// A fault that is shown alone is drawn with all steps where it is one of the font, and else up to its own step; then it alone is
+/// marked.
+pub fn a_fault_is_drawn_up_to_its_step()
+    ensures font { FontFaultsShowAllSteps }
+    ensures glyph { GlyphFaultsShowTheirSteps }
+    ensures marked { OneFaultIsMarked }
 {}
 
 /// No text of a font ends an element of the picture or a value in double quotes: as it is written there, it has no `<`, `>` and

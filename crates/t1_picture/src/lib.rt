@@ -1,13 +1,16 @@
 //! A picture of one glyph of a Type 1 font, with its faults, as a text of SVG 1.1: its outline and its points, the stems that
-//! are in force after the last step drawn, sidebearing, width and base line, the zones of BlueValues and OtherBlues, and for
-//! each fault a numbered mark, with t1check's line in a legend. Adobe Type 1 Font Format 1.1, chapters 5, 6 and 8.
+//! are in force after the last step drawn, sidebearing, width and base line, the zones of BlueValues and OtherBlues, for
+//! each fault a numbered mark, with t1check's line in a legend, and in red what its reason names: stems, points, components. Adobe Type 1
+//! Font Format 1.1, chapters 5, 6 and 8.
 //!
-//! [`picture`] makes it, up to a step or as a whole. What is drawn, and the form of the text, is said in docs/PICTURES.md.
+//! [`picture`] makes it: of a whole glyph, up to a step, or of one fault alone ([`Shown`]), which may be one of the font's zones. What is
+//! drawn, and the form of the text, is said in docs/PICTURES.md.
 //!
 //! What is promised, for all fonts:
 //!
 //! - the text is the picture that the definition says, byte for byte (`IsPictureOf`), and a subject has just one
 //!   ([`a_subject_has_one_picture`]);
+//! - a fault that is shown alone is drawn up to its step, or with all steps where it is the font's ([`a_fault_is_drawn_up_to_its_step`]);
 //! - no name in a font ends an element or an attribute of it ([`texts_stay_in_their_elements`]);
 //! - no index, sum or cast goes wrong, and each call returns.
 //!
@@ -16,13 +19,17 @@
 //! ```
 //! let sidebearings = Sidebearings::prepare(alloc, font, Edition::One)?;
 //! let waivers = Waivers::none();
-//! let view = View { font, sidebearings: &sidebearings, waivers: &waivers, glyph: 0, step: None };
+//! let view = View { font, sidebearings: &sidebearings, waivers: &waivers, glyph: 0, shown: Shown::All };
 //! println!(rt; "{}", picture(alloc, &view)?)?;
 //! ```
 #![tactic(auto)]
 
 mod bands;
 mod bounds;
+mod cause_groups;
+mod causes;
+mod component_outlines;
+mod directions;
 mod drawing;
 mod faults;
 mod frame;
@@ -33,6 +40,7 @@ mod laws;
 mod layers;
 mod legend;
 mod marks;
+mod one_fault;
 mod parts;
 mod run;
 mod subpath;
@@ -40,6 +48,9 @@ mod svg;
 mod texts;
 mod view;
 
-pub use laws::{a_subject_has_one_picture, outlines_are_drawn, texts_stay_in_their_elements};
+pub use laws::{
+    a_fault_is_drawn_up_to_its_step, a_subject_has_one_picture, outlines_are_drawn,
+    texts_stay_in_their_elements,
+};
 pub use svg::picture;
-pub use view::View;
+pub use view::{Shown, View};
