@@ -1,3 +1,6 @@
 pub mod AnAnswer
 pub mod GlyphWordLemmas
 pub mod OneAnswer
+pub mod Spelled
+pub mod Pictures
+pub mod Slices

@@ -1,6 +1,5 @@
 -- Options, a font's file and the text of waivers have one answer.
-use Rattle.std.proofs.Common.{◌≡◌, ℕ, Bool, List, Option, None, Some, Result, Ok, Err, option_and_then, ap, arith, refl, subst, sym, ◌∙◌}
-use Rattle.std.proofs.lemmas.Bool.{false≢true}
+use Rattle.std.proofs.Common.{◌≡◌, ◌++◌, ℕ, Bool, List, [], ◌∷◌, Option, None, Some, Result, Ok, Err, ap, ap₂, refl, subst, sym, ◌∙◌}
 use Rattle.std.specs.Option.{is_some}
 use Rattle.clap.specs.Words.{Text}
 use Rattle.t1_char.specs.declared.edition.Edition.{Edition}
@@ -8,43 +7,103 @@ use Rattle.t1_char.proofs.EditionLemmas.{one_edition}
 use Rattle.t1_font.specs.Fonts.{FontValue}
 use Rattle.t1_refusals.specs.declared.refusal.Reason.{Reason}
 use Rattle.t1_picture.specs.Laws.{HasNoOtherPicture}
+use Rattle.t1_picture.specs.Subjects.{ShownValue}
+use Rattle.t1_picture.specs.Subjects.ShownValue.{everything, one_fault, up_to}
+use Rattle.t1_report.specs.Checked.{checked}
+use Rattle.t1_report.specs.Faults.{FaultValue}
+use Rattle.t1_report.specs.Reports.{IsReport, IsTold, path_at}
 use Rattle.t1_report.specs.Waivers.{Waiver}
+use Rattle.t1_report.proofs.OneReport.{one_report}
 use Rattle.t1_rules.specs.Components.{glyph_named}
 use Rattle.t1_run.specs.FontFiles.{font_of}
 use Rattle.t1_run.specs.Programs.{asks_waivers}
-use Rattle.t1_run.specs.Words.{AreNumber, IsEditionOrFirst}
-use Rattle.t1draw.specs.CommandLine.{AreGiven, glyph_word}
+use Rattle.t1_run.specs.Words.{IsEditionOrFirst}
 use Rattle.t1draw.specs.Answers.{drawing}
-use Rattle.t1_forms.specs.NameWords.{name_of_word}
-use Rattle.t1draw.specs.Laws.{Answer, HasNoOtherAnswer, IsAnswerAt, IsAnswerTo, Wish, waived_by, wish_of}
-use Rattle.t1draw.specs.Laws.Answer.{Picture}
-use Rattle.t1draw.specs.declared.command_line.Options.{Options}
+use Rattle.t1draw.specs.CommandLine.{AreGiven, AskedValue, all_faulty, asked_in, asked_value, given_by, one_glyph}
+use Rattle.t1draw.specs.Draws.{AreFiles, ArePictures, fault_for}
+use Rattle.t1draw.specs.Folders.{FolderFile, faulty_glyphs, index_file}
+use Rattle.t1draw.specs.Laws.{Answer, HasNoOtherAnswer, IsAnswerAt, IsAnswerTo, IsAnswerToAsked, IsAnswerToExtent, IsAnswerToFault, IsPictureAs, Sheet, Wish, waived_by, wish_of}
+use Rattle.t1draw.specs.Laws.Answer.{Files, Picture}
+use Rattle.t1draw.specs.declared.options.Extent.{Extent}
+use Rattle.t1draw.specs.declared.options.Extent.TheVariants as extent
+use Rattle.t1draw.specs.declared.options.Options.{Options}
 
 -- ---- the answer
 
-one_at : HasNoOtherPicture → (wish : Wish) (font : FontValue) (waivers : List Waiver) (glyph : Option ℕ) (a b : Answer)
-    → IsAnswerAt wish font waivers glyph a → IsAnswerAt wish font waivers glyph b → a ≡ b
-one_at no_other wish font waivers None a b is is' = is ∙ sym is'
-one_at no_other wish font waivers (Some glyph) a b (p, (shown, at)) (q, (shown', at')) =
-    at ∙ ap Picture (no_other _ p q shown shown') ∙ sym at'
+one_picture : HasNoOtherPicture → (sheet : Sheet) (glyph : ℕ) (visible : ShownValue) (a b : Answer)
+    → IsPictureAs sheet glyph visible a → IsPictureAs sheet glyph visible b → a ≡ b
+one_picture no_other sheet glyph visible a b (p, (shown, at)) (q, (shown', at')) = at ∙ ap Picture (no_other _ p q shown shown') ∙ sym at'
+
+one_of_report : (sheet : Sheet) (faults faults' : List FaultValue) → IsReport (checked sheet.font sheet.edition) sheet.waivers faults
+    → IsReport (checked sheet.font sheet.edition) sheet.waivers faults' → faults ≡ faults'
+one_of_report sheet faults faults' is is' =
+    one_report (IsTold (checked sheet.font sheet.edition) sheet.waivers) (path_at (checked sheet.font sheet.edition)) faults faults' is is'
+
+same_fault : HasNoOtherPicture → (sheet : Sheet) (glyph : ℕ) (fault : Option FaultValue) (a b : Answer)
+    → IsAnswerToFault sheet glyph fault a → IsAnswerToFault sheet glyph fault b → a ≡ b
+same_fault no_other sheet glyph None a b is is' = is ∙ sym is'
+same_fault no_other sheet glyph (Some fault) a b is is' = one_picture no_other sheet glyph (one_fault fault) a b is is'
+
+one_extent : HasNoOtherPicture → (sheet : Sheet) (glyph : ℕ) (wanted : Extent) (a b : Answer)
+    → IsAnswerToExtent sheet glyph wanted a → IsAnswerToExtent sheet glyph wanted b → a ≡ b
+one_extent no_other sheet glyph extent.All a b is is' = one_picture no_other sheet glyph everything a b is is'
+one_extent no_other sheet glyph (extent.UpTo step) a b is is' = one_picture no_other sheet glyph (up_to step) a b is is'
+one_extent no_other sheet glyph (extent.Fault number) a b (faults, (reported, is)) (faults', (reported', is')) =
+    same_fault no_other sheet glyph (fault_for glyph number faults) a b is
+    (subst (λ (fs : List FaultValue). IsAnswerToFault sheet glyph (fault_for glyph number fs) b) (one_of_report sheet faults' faults reported' reported) is')
+
+one_at : HasNoOtherPicture → (sheet : Sheet) (wanted : Extent) (glyph : Option ℕ) (a b : Answer)
+    → IsAnswerAt sheet wanted glyph a → IsAnswerAt sheet wanted glyph b → a ≡ b
+one_at no_other sheet wanted None a b is is' = is ∙ sym is'
+one_at no_other sheet wanted (Some glyph) a b is is' = one_extent no_other sheet glyph wanted a b is is'
+
+file_of : List ℕ → List ℕ → FolderFile
+file_of name text = record { name = name; text = text }
+
+one_file : (a b : FolderFile) → a.name ≡ b.name → a.text ≡ b.text → a ≡ b
+unfolding file_of
+one_file a b name text = ap₂ file_of name text
+
+one_pictures : HasNoOtherPicture → (sheet : Sheet) (glyphs : List ℕ) (files files' : List FolderFile)
+    → ArePictures sheet.font sheet.edition sheet.waivers glyphs files → ArePictures sheet.font sheet.edition sheet.waivers glyphs files'
+    → files ≡ files'
+one_pictures no_other sheet [] [] [] are are' = refl
+one_pictures no_other sheet [] [] (f ∷ fs) are are' = absurd are'
+one_pictures no_other sheet [] (f ∷ fs) files' are are' = absurd are
+one_pictures no_other sheet (glyph ∷ glyphs) [] files' are are' = absurd are
+one_pictures no_other sheet (glyph ∷ glyphs) (f ∷ fs) [] are are' = absurd are'
+one_pictures no_other sheet (glyph ∷ glyphs) (f ∷ fs) (f' ∷ fs') (name, picture, rest) (name', picture', rest') =
+    ap₂ (λ (x : FolderFile) (xs : List FolderFile). x ∷ xs) (one_file f f' (name ∙ sym name') (no_other _ f.text f'.text picture picture'))
+    (one_pictures no_other sheet glyphs fs fs' rest rest')
+
+one_files : HasNoOtherPicture → (sheet : Sheet) (files files' : List FolderFile) → AreFiles sheet.font sheet.edition sheet.waivers files
+    → AreFiles sheet.font sheet.edition sheet.waivers files' → files ≡ files'
+one_files no_other sheet files files' is is' =
+    let faults = one_of_report sheet is'.faults is.faults is'.reported is.reported in
+    let pictures = one_pictures no_other sheet (faulty_glyphs sheet.font is.faults) is.pictures is'.pictures is.are_pictures
+    (subst (λ (fs : List FaultValue). ArePictures sheet.font sheet.edition sheet.waivers (faulty_glyphs sheet.font fs) is'.pictures) faults is'.are_pictures) in
+    is.are
+    ∙ ap₂ (λ (ps : List FolderFile) (fs : List FaultValue). ps ++ (index_file sheet.font sheet.waivers fs ∷ [])) pictures (sym faults)
+    ∙ sym is'.are
+
+one_asked : HasNoOtherPicture → (sheet : Sheet) (asked : AskedValue) (a b : Answer)
+    → IsAnswerToAsked sheet asked a → IsAnswerToAsked sheet asked b → a ≡ b
+one_asked no_other sheet (one_glyph name wanted) a b is is' = one_at no_other sheet wanted (glyph_named sheet.font name) a b is is'
+one_asked no_other sheet (all_faulty folder) a b (files, (are, at)) (files', (are', at')) =
+    at ∙ ap Files (one_files no_other sheet files files' are are') ∙ sym at'
 
 one_to : HasNoOtherPicture → (wish : Wish) (read : Result FontValue Reason) (waived : Result (List Waiver) Reason) (a b : Answer)
     → IsAnswerTo wish read waived a → IsAnswerTo wish read waived b → a ≡ b
 one_to no_other wish (Err why) waived a b is is' = is ∙ sym is'
 one_to no_other wish (Ok font) (Err why) a b is is' = is ∙ sym is'
-one_to no_other wish (Ok font) (Ok waivers) a b is is' = one_at no_other wish font waivers (glyph_named font wish.name) a b is is'
+one_to no_other wish (Ok font) (Ok waivers) a b is is' =
+    one_asked no_other (record { font = font; edition = wish.edition; waivers = waivers }) wish.asked a b is is'
 
 -- ---- options of the same words
 
 same_edition : (text : Option Text) (e e' : Edition) → IsEditionOrFirst text e → IsEditionOrFirst text e' → e ≡ e'
 same_edition None e e' is is' = is ∙ sym is'
 same_edition (Some text) e e' is is' = one_edition e e' (is.1 ∙ sym is'.1)
-
-one_step : (text : Option Text) (step step' : Option ℕ) → AreNumber text step → AreNumber text step' → step ≡ step'
-one_step None step step' is is' = is ∙ sym is'
-one_step (Some text) None step' is is' = absurd (false≢true is.1)
-one_step (Some text) (Some n) None is is' = absurd (false≢true is'.1)
-one_step (Some text) (Some n) (Some n') is is' = ap (λ (k : ℕ). Some k) (is.0.1 ∙ sym is'.0.1)
 
 some_or : {A : Type 0} → A → Option A → A
 some_or x (Some y) = y
@@ -57,9 +116,8 @@ one_some o x y is is' = ap (some_or x) (sym is ∙ is')
 same_wish : (words : List Text) (options options' : Options) → AreGiven words options → AreGiven words options' → wish_of options' ≡ wish_of options
 same_wish words options options' given given' =
     let edition = same_edition _ options'.edition options.edition given'.edition given.edition in
-    let step = one_step _ options'.step options.step given'.step given.step in
-    let glyph = one_some (option_and_then name_of_word (glyph_word words)) options'.glyph.items options.glyph.items given'.glyph given.glyph in
-    rw (edition, step, glyph) refl
+    let asked = one_some (asked_in (given_by words)) (asked_value options'.asked) (asked_value options.asked) given'.asked given.asked in
+    rw (edition, asked) refl
 
 same_asking : (words : List Text) (options options' : Options) → AreGiven words options → AreGiven words options'
     → asks_waivers drawing options' ≡ asks_waivers drawing options

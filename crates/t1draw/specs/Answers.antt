@@ -3,7 +3,7 @@ use Rattle.std.specs.Prelude.{option_map, string_bytes}
 use Rattle.t1_run.specs.Programs.{Meaning}
 use Rattle.t1draw.specs.CommandLine.{AreTaken, AreUntaken}
 use Rattle.t1draw.specs.Draws.{Draws, program}
-use Rattle.t1draw.specs.declared.command_line.Options.{Options}
+use Rattle.t1draw.specs.declared.options.Options.{Options}
 
 abbrev pub drawing : Meaning Options
 drawing = record {

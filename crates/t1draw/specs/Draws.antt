@@ -1,8 +1,16 @@
 -- What is printed of a font that was read, by waivers, and the status.
-use Rattle.std.specs.Prelude.{◌≡◌, ℕ, List, None, Some, codes}
+use Rattle.std.specs.Prelude.{◌≡◌, ℕ, ◌+◌, ◌-◌, ◌==◌, ◌||◌, Bool, List, [], ◌∷◌, ◌++◌, None, Some, Option, codes, if◌then◌else◌, slice_get}
+use Rattle.std.specs.Fmt.{decimal}
+use Rattle.std.specs.List.{concat}
+use Rattle.t1_char.specs.declared.edition.Edition.{Edition}
 use Rattle.t1_font.specs.Fonts.{FontValue}
 use Rattle.t1_forms.specs.Shown.{shown}
 use Rattle.t1_picture.specs.Pictures.{IsPictureOf}
+use Rattle.t1_picture.specs.Subjects.{ShownValue, Subject}
+use Rattle.t1_picture.specs.Subjects.ShownValue.{everything, one_fault, up_to}
+use Rattle.t1_report.specs.Checked.{checked}
+use Rattle.t1_report.specs.Faults.{FaultValue}
+use Rattle.t1_report.specs.Reports.{IsReport}
 use Rattle.t1_report.specs.Waivers.{Waiver}
 use Rattle.t1_rules.specs.Components.{glyph_named}
 use Rattle.t1_run.specs.Failures.{no_glyph_line, out_of_memory_line}
@@ -10,34 +18,112 @@ use Rattle.t1_run.specs.Opening.{Sinks}
 use Rattle.t1_run.specs.Telling.{Gives, Tells}
 use Rattle.t1_run.specs.declared.status.Status.{Status}
 use Rattle.t1_run.specs.declared.status.Status.TheVariants.{Clean, Failed}
-use Rattle.t1draw.specs.declared.command_line.Options.{Options}
+use Rattle.t1draw.specs.CommandLine.{AskedValue, all_faulty, asked_value, one_glyph}
+use Rattle.t1draw.specs.Folders.{FolderFile, faulty_glyphs, folder_text, index_file, picture_name_of}
+use Rattle.t1draw.specs.declared.options.Extent.{Extent}
+use Rattle.t1draw.specs.declared.options.Extent.TheVariants as extent
+use Rattle.t1draw.specs.declared.options.Options.{Options}
 
 -- The program's name, before what it prints.
 abbrev pub program : List ℕ
 program = codes "t1draw"
 
--- This is the picture of what the options ask for of a font.
-pub record IsPicture (options : Options) (font : FontValue) (waivers : List Waiver) (picture : List ℕ) : Type 0 where
-  -- The font has a glyph of the name.
-  pub glyph : ℕ
-  pub named : glyph_named font options.glyph.items ≡ Some glyph
-  -- It shows that glyph, by the edition, the waivers and up to the step that are requested.
-  pub is :
-      IsPictureOf (record { font = font; edition = options.edition; waivers = waivers; glyph = glyph; step = options.step }) picture
+-- ---- one picture
 
-pub data Draws (options : Options) (font : FontValue) (waivers : List Waiver) (sinks sinks' : Sinks) (status : Status) : Type 0 where
+-- A fault that a glyph's picture can show: one of the glyph, or of the font.
+abbrev pub is_for : ℕ → FaultValue → Bool
+is_for glyph fault = fault.unit == 0 || fault.unit == glyph + 1
+
+abbrev pub if_for : ℕ → Option FaultValue → Option FaultValue
+if_for glyph None = None
+if_for glyph (Some fault) = if is_for glyph fault then Some fault else None
+
+-- The fault of this number among those of a report, which are numbered from 1.
+abbrev pub fault_at : ℕ → List FaultValue → Option FaultValue
+fault_at number faults = if number == 0 then None else slice_get faults (number - 1)
+
+-- The same, if a glyph's picture can show it.
+abbrev pub fault_for : ℕ → ℕ → List FaultValue → Option FaultValue
+fault_for glyph number faults = if_for glyph (fault_at number faults)
+
+-- How much of a glyph is shown, as it is requested.
+pub data IsShown (font : FontValue) (edition : Edition) (waivers : List Waiver) (glyph : ℕ) : Extent → ShownValue → Type 0 where
+  all : IsShown font edition waivers glyph extent.All everything
+  steps : (step : ℕ) → IsShown font edition waivers glyph (extent.UpTo step) (up_to step)
+  -- The fault is that of the number in the report.
+  fault :
+      (number : ℕ) (faults : List FaultValue) (fault : FaultValue) → IsReport (checked font edition) waivers faults
+      → fault_for glyph number faults ≡ Some fault
+      → IsShown font edition waivers glyph (extent.Fault number) (one_fault fault)
+
+-- `PROGRAM: no fault N of glyph NAME or of the font`
+abbrev pub no_fault_line : List ℕ → ℕ → List ℕ
+no_fault_line name number = concat (program ∷ codes ": no fault " ∷ decimal number ∷ codes " of glyph " ∷ shown name ∷ codes " or of the font\n" ∷ [])
+
+-- A glyph, and how much of it is shown.
+abbrev pub subject : FontValue → Edition → List Waiver → ℕ → ShownValue → Subject
+subject font edition waivers glyph extent = record { font = font; edition = edition; waivers = waivers; glyph = glyph; shown = extent }
+
+-- What is printed where a glyph of this name is requested.
+pub data DrawsGlyph (font : FontValue) (edition : Edition) (waivers : List Waiver) (name : List ℕ) (wanted : Extent) (sinks sinks' : Sinks)
+    (status : Status) : Type 0 where
   -- A picture was written whole, and flushed once, and nothing was reported: status 0. Or a put or the flush failed, a beginning
   -- of it went out, and that was reported: status 3.
   drawn :
-      (picture : List ℕ) → IsPicture options font waivers picture
-      → Gives program picture Clean sinks sinks' status
-      → Draws options font waivers sinks sinks' status
+      (glyph : ℕ) (visible : ShownValue) (picture : List ℕ) → glyph_named font name ≡ Some glyph → IsShown font edition waivers glyph wanted visible
+      → IsPictureOf (subject font edition waivers glyph visible) picture → Gives program picture Clean sinks sinks' status
+      → DrawsGlyph font edition waivers name wanted sinks sinks' status
   -- The font has no glyph of the name, and nothing was put on the output: status 3.
   no_glyph :
-      glyph_named font options.glyph.items ≡ None → sinks'.out ≡ sinks.out
-      → Tells (no_glyph_line program (shown options.glyph.items)) Failed sinks.errors sinks'.errors status
-      → Draws options font waivers sinks sinks' status
+      glyph_named font name ≡ None → sinks'.out ≡ sinks.out
+      → Tells (no_glyph_line program (shown name)) Failed sinks.errors sinks'.errors status
+      → DrawsGlyph font edition waivers name wanted sinks sinks' status
+  -- The report has no such fault of the glyph or of the font, and nothing was put on the output: status 3.
+  no_fault :
+      (glyph number : ℕ) (faults : List FaultValue) → glyph_named font name ≡ Some glyph → wanted ≡ extent.Fault number
+      → IsReport (checked font edition) waivers faults → fault_for glyph number faults ≡ None → sinks'.out ≡ sinks.out
+      → Tells (no_fault_line name number) Failed sinks.errors sinks'.errors status
+      → DrawsGlyph font edition waivers name wanted sinks sinks' status
   -- Memory ran out, and nothing was put on the output: status 3.
   no_memory :
       sinks'.out ≡ sinks.out → Tells (out_of_memory_line program) Failed sinks.errors sinks'.errors status
-      → Draws options font waivers sinks sinks' status
+      → DrawsGlyph font edition waivers name wanted sinks sinks' status
+
+-- ---- a folder
+
+-- The files are pictures of these glyphs, in their order, named by them.
+abbrev pub ArePictures : FontValue → Edition → List Waiver → List ℕ → List FolderFile → Type 0
+ArePictures font edition waivers [] [] = Unit {0}
+ArePictures font edition waivers [] (file ∷ files) = ⊥
+ArePictures font edition waivers (glyph ∷ glyphs) [] = ⊥
+ArePictures font edition waivers (glyph ∷ glyphs) (file ∷ files) =
+    (file.name ≡ picture_name_of font glyph) × IsPictureOf (subject font edition waivers glyph everything) file.text
+    × ArePictures font edition waivers glyphs files
+
+-- A picture of each glyph that has faults, and then the index.
+pub record AreFiles (font : FontValue) (edition : Edition) (waivers : List Waiver) (files : List FolderFile) : Type 0 where
+  pub faults : List FaultValue
+  pub reported : IsReport (checked font edition) waivers faults
+  pub pictures : List FolderFile
+  pub are_pictures : ArePictures font edition waivers (faulty_glyphs font faults) pictures
+  pub are : files ≡ pictures ++ (index_file font waivers faults ∷ [])
+
+-- What is printed where the glyphs with faults are requested: the files, one after another.
+pub data DrawsFolder (font : FontValue) (edition : Edition) (waivers : List Waiver) (sinks sinks' : Sinks) (status : Status) : Type 0 where
+  -- They were written whole, and flushed once, as one picture is.
+  filed :
+      (files : List FolderFile) → AreFiles font edition waivers files → Gives program (folder_text files) Clean sinks sinks' status
+      → DrawsFolder font edition waivers sinks sinks' status
+  -- Memory ran out, and nothing was put on the output: status 3.
+  no_memory :
+      sinks'.out ≡ sinks.out → Tells (out_of_memory_line program) Failed sinks.errors sinks'.errors status
+      → DrawsFolder font edition waivers sinks sinks' status
+
+-- ---- all
+
+abbrev pub DrawsAsked : AskedValue → FontValue → Edition → List Waiver → Sinks → Sinks → Status → Type 0
+DrawsAsked (one_glyph name wanted) font edition waivers sinks sinks' status = DrawsGlyph font edition waivers name wanted sinks sinks' status
+DrawsAsked (all_faulty folder) font edition waivers sinks sinks' status = DrawsFolder font edition waivers sinks sinks' status
+
+abbrev pub Draws : Options → FontValue → List Waiver → Sinks → Sinks → Status → Type 0
+Draws options font waivers sinks sinks' status = DrawsAsked (asked_value options.asked) font options.edition waivers sinks sinks' status

@@ -1,2 +1,3 @@
 -- Words that private contracts alone cite: no clause of a public function rests on them.
 pub mod FirstBytes
+pub mod Sheets

@@ -12,15 +12,26 @@
 #![tactic(auto)]
 
 mod command_line;
+mod complaint;
+mod drawing;
+mod files;
+mod folder;
 mod glyph_word;
+mod index;
 mod laws;
+mod options;
 mod running;
+mod sheet;
+mod spelling;
 
-use crate::command_line::Options;
+use crate::command_line::read_words;
+use crate::files::Files;
+use crate::options::{Asked, Options};
+use std::alloc::Global;
 use std::fs;
 use std::io::BufWriter;
 use t1_forms::VERSION;
-use t1_io::{In, Out};
+use t1_io::{In, Out, Sink};
 use t1_run::{Failure, Status, answer, explain, give, tell_failure, words_given};
 
 /// The program's name, before what it prints.
@@ -43,29 +54,58 @@ fn asks_version(words: &[String]) -> bool {
 fn main(rt: HostRuntime) -> Status {
     let alloc = rt.alloc();
     let mut errors = Out::new(rt.stderr());
+    let words = match words_given(&rt, NOT_UTF8) {
+        Ok(words) => words,
+        Err(error) => return explain(PROGRAM, &error, &mut Out::new(rt.stdout()), &mut errors),
+    };
+    if let Some(folder) = folder_of(alloc, words.as_slice()) {
+        let mut files = Out::new(Files::of(&rt, folder.as_str()));
+        return run(&rt, words.as_slice(), &mut files, &mut errors);
+    }
     let Ok(writer) = BufWriter::new(alloc, rt.stdout()) else {
         return tell_failure(PROGRAM, Failure::Memory, &mut errors);
     };
     let mut out = Out::new(writer);
-    match words_given(&rt, NOT_UTF8) {
-        Ok(words) if asks_version(words.as_slice()) => {
-            match format!(in alloc; "{PROGRAM} {VERSION}\n") {
-                Ok(text) => give(PROGRAM, text.as_bytes(), &mut out, &mut errors),
-                Err(_) => tell_failure(PROGRAM, Failure::Memory, &mut errors),
-            }
-        }
-        Ok(words) => {
-            let answered = answer::<Options, _, _, _, _, _, _, _>(
-                alloc,
-                words.as_slice(),
-                &mut In::new(rt.stdin()),
-                |name| fs::open(&rt, name),
-                |name| fs::open(&rt, name),
-                &mut out,
-                &mut errors,
-            );
-            answered.status
-        }
-        Err(error) => explain(PROGRAM, &error, &mut out, &mut errors),
+    if asks_version(words.as_slice()) {
+        return match format!(in alloc; "{PROGRAM} {VERSION}\n") {
+            Ok(text) => give(PROGRAM, text.as_bytes(), &mut out, &mut errors),
+            Err(_) => tell_failure(PROGRAM, Failure::Memory, &mut errors),
+        };
     }
+    run(&rt, words.as_slice(), &mut out, &mut errors)
+}
+
+/// The folder that the words name, if their output is files.
+fn folder_of(alloc: Global, words: &[String]) -> Option<String> {
+    match read_words(alloc, words) {
+        Ok(options) => folder_in(options.asked),
+        Err(_) => None,
+    }
+}
+
+/// The folder of the pictures that are wanted, if there is one.
+fn folder_in(asked: Asked) -> Option<String> {
+    match asked {
+        Asked::Faulty { folder } => Some(folder),
+        Asked::Glyph { .. } => None,
+    }
+}
+
+/// Does what the words request.
+fn run<W: Sink, E: Sink>(
+    rt: &HostRuntime,
+    words: &[String],
+    out: &mut W,
+    errors: &mut E,
+) -> Status {
+    let answered = answer::<Options, _, _, _, _, _, _, _>(
+        rt.alloc(),
+        words,
+        &mut In::new(rt.stdin()),
+        |name| fs::open(rt, name),
+        |name| fs::open(rt, name),
+        out,
+        errors,
+    );
+    answered.status
 }

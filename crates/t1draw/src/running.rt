@@ -1,23 +1,29 @@
 //! Draws what the options ask for of a font that was read.
 
-ghost use Rattle.std.specs.Prelude.{◌<◌, IfOk, length, string_bytes};
-ghost use Rattle.t1_picture.specs.Pictures.{IsPictureOf};
-ghost use Rattle.t1draw.specs.Draws.{Draws};
+ghost use Rattle.std.specs.Prelude.{◌≡◌, ◌<◌, IfSome, Some, length};
+ghost use Rattle.t1_picture.specs.Subjects.{fault_in, shown_value};
+ghost use Rattle.t1_rules.specs.Components.{glyph_named};
+ghost use Rattle.t1draw.specs.Draws.{Draws, DrawsFolder, DrawsGlyph};
+ghost use Rattle.t1draw.specs.Private.Sheets.{CanShow, DrawsAs, IsSound, TellsNoFault, edition_of, font_of, waivers_of};
 
 use crate::PROGRAM;
-use crate::command_line::Options;
-use std::alloc::{AllocError, Global};
+use crate::drawing::{drawn, fault_for};
+use crate::folder::folder_text;
+use crate::options::{Asked, Extent, Options};
+use crate::sheet::Sheet;
+use itoa::Buffer;
+use std::alloc::Global;
 use t1_font::Font;
 use t1_forms::shown;
 use t1_io::Sink;
-use t1_picture::{View, picture};
+use t1_picture::Shown;
 use t1_report::Waivers;
 use t1_rules::{Sidebearings, glyph_named};
-use t1_run::{Failure, Status, give, tell_failure, tell_no_glyph};
+use t1_run::{Failure, Status, give, tell_failure, tell_no_glyph, tell_parts};
 
-/// Writes the picture of the glyph that the options name. Where there is none, the reason is reported, and nothing is put on the
-/// output.
-pub(crate) fn draw<W: Sink, E: Sink>(
+/// Writes the picture of the glyph that the options name, or those of all glyphs with faults. Where there is none, the reason is reported, and
+/// nothing is put on the output.
+pub(crate) fn show<W: Sink, E: Sink>(
     alloc: Global,
     options: &Options,
     font: &Font<'_>,
@@ -29,38 +35,130 @@ pub(crate) fn draw<W: Sink, E: Sink>(
         (record { out = W.state out.old; errors = E.state errors.old })
         (record { out = W.state out.new; errors = E.state errors.new }) result }
 {
-    let Some(glyph) = glyph_named(font, options.glyph.as_slice()) else {
-        return match shown(alloc, options.glyph.as_slice()) {
+    let Ok(sidebearings) = Sidebearings::prepare(alloc, font, options.edition) else {
+        return tell_failure(PROGRAM, Failure::Memory, errors);
+    };
+    let sheet = Sheet {
+        font: &*font,
+        sidebearings: &sidebearings,
+        waivers: &*waivers,
+    };
+    match &options.asked {
+        Asked::Glyph { name, extent } => {
+            show_glyph(alloc, &sheet, name.as_slice(), *extent, out, errors)
+        }
+        Asked::Faulty { .. } => show_folder(alloc, &sheet, out, errors),
+    }
+}
+
+/// Draws a glyph by its name.
+fn show_glyph<W: Sink, E: Sink>(
+    alloc: Global,
+    sheet: &Sheet<'_>,
+    name: &[u8],
+    extent: Extent,
+    out: &mut W,
+    errors: &mut E,
+) -> Status
+    requires { IsSound sheet.now }
+    ensures { DrawsGlyph (font_of sheet.now) (edition_of sheet.now) (waivers_of sheet.now) name.now extent
+        (record { out = W.state out.old; errors = E.state errors.old })
+        (record { out = W.state out.new; errors = E.state errors.new }) result }
+{
+    let Some(glyph) = glyph_named(sheet.font, name) else {
+        return match shown(alloc, name) {
             Ok(name) => tell_no_glyph(PROGRAM, name.as_str(), errors),
             Err(_) => tell_failure(PROGRAM, Failure::Memory, errors),
         };
     };
-    match drawn(alloc, options, font, waivers, glyph) {
+    match extent {
+        Extent::All => give_picture(alloc, sheet, glyph, Shown::All, out, errors),
+        Extent::UpTo(step) => give_picture(alloc, sheet, glyph, Shown::UpTo(step), out, errors),
+        Extent::Fault(number) => show_fault(alloc, sheet, glyph, name, number, out, errors),
+    }
+}
+
+/// Draws a fault by its number in the report, if it is one of the glyph or of the font.
+fn show_fault<W: Sink, E: Sink>(
+    alloc: Global,
+    sheet: &Sheet<'_>,
+    glyph: usize,
+    name: &[u8],
+    number: u64,
+    out: &mut W,
+    errors: &mut E,
+) -> Status
+    requires sound { IsSound sheet.now }
+    requires glyph { glyph < length sheet.now.font.now.glyphs }
+    requires named { glyph_named (font_of sheet.now) name.now ≡ Some glyph }
+    ensures { DrawsGlyph (font_of sheet.now) (edition_of sheet.now) (waivers_of sheet.now) name.now (Extent.Fault number)
+        (record { out = W.state out.old; errors = E.state errors.old })
+        (record { out = W.state out.new; errors = E.state errors.new }) result }
+{
+    match fault_for(alloc, sheet, glyph, number) {
+        Ok(Some(fault)) => give_picture(alloc, sheet, glyph, Shown::Fault(fault), out, errors),
+        Ok(None) => tell_no_fault(alloc, name, number, errors),
+        Err(_) => tell_failure(PROGRAM, Failure::Memory, errors),
+    }
+}
+
+/// Prints that the report has no such fault of the glyph or of the font.
+fn tell_no_fault<E: Sink>(alloc: Global, name: &[u8], number: u64, errors: &mut E) -> Status
+    ensures { TellsNoFault name.now number (E.state errors.old) (E.state errors.new) result }
+{
+    match shown(alloc, name) {
+        Ok(name) => {
+            let mut digits = Buffer::new();
+            let parts = [
+                PROGRAM.as_bytes(),
+                b": no fault ",
+                digits.format(number).as_bytes(),
+                b" of glyph ",
+                name.as_bytes(),
+                b" or of the font\n",
+            ];
+            tell_parts(errors, &parts, Status::Failed)
+        }
+        Err(_) => tell_failure(PROGRAM, Failure::Memory, errors),
+    }
+}
+
+/// Writes the picture of a glyph, of which so much is shown.
+fn give_picture<W: Sink, E: Sink>(
+    alloc: Global,
+    sheet: &Sheet<'_>,
+    glyph: usize,
+    shown: Shown,
+    out: &mut W,
+    errors: &mut E,
+) -> Status
+    requires sound { IsSound sheet.now }
+    requires glyph { glyph < length sheet.now.font.now.glyphs }
+    requires fault { IfSome (fault_in (shown_value shown)) (CanShow sheet.now glyph) }
+    ensures { DrawsAs sheet.now glyph (shown_value shown)
+        (record { out = W.state out.old; errors = E.state errors.old })
+        (record { out = W.state out.new; errors = E.state errors.new }) result }
+{
+    match drawn(alloc, sheet, glyph, shown) {
         Ok(text) => give(PROGRAM, text.as_bytes(), out, errors),
         Err(_) => tell_failure(PROGRAM, Failure::Memory, errors),
     }
 }
 
-/// The picture of a glyph, by its place.
-fn drawn(
+/// Draws all glyphs with faults.
+fn show_folder<W: Sink, E: Sink>(
     alloc: Global,
-    options: &Options,
-    font: &Font<'_>,
-    waivers: &Waivers<'_>,
-    glyph: usize,
-) -> Result<String, AllocError>
-    requires { glyph < length font.now.glyphs }
-    ensures { IfOk result (λ text. IsPictureOf
-        (record { font = font.now; edition = options.now.edition; waivers = waivers.now; glyph = glyph; step = options.now.step })
-        (string_bytes text)) }
+    sheet: &Sheet<'_>,
+    out: &mut W,
+    errors: &mut E,
+) -> Status
+    requires { IsSound sheet.now }
+    ensures { DrawsFolder (font_of sheet.now) (edition_of sheet.now) (waivers_of sheet.now)
+        (record { out = W.state out.old; errors = E.state errors.old })
+        (record { out = W.state out.new; errors = E.state errors.new }) result }
 {
-    let sidebearings = Sidebearings::prepare(alloc, font, options.edition)?;
-    let view = View {
-        font: &*font,
-        sidebearings: &sidebearings,
-        waivers: &*waivers,
-        glyph,
-        step: options.step,
-    };
-    picture(alloc, &view)
+    match folder_text(alloc, sheet) {
+        Ok(text) => give(PROGRAM, text.as_bytes(), out, errors),
+        Err(_) => tell_failure(PROGRAM, Failure::Memory, errors),
+    }
 }

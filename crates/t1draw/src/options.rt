@@ -1,0 +1,36 @@
+//! What the words of the command line request.
+
+use t1_char::Edition;
+
+/// What is to be drawn.
+#[derive(Drop)]
+pub struct Options {
+    /// By which edition of the rule book faults are found, and how many steps count.
+    pub edition: Edition,
+    /// The name of the file of waivers, if there is one.
+    pub waive: Option<String>,
+    /// Which pictures are wanted.
+    pub asked: Asked,
+    /// The name of the font's file; without it standard input is read.
+    pub font: Option<String>,
+}
+
+/// Which pictures are wanted.
+#[derive(Drop)]
+pub enum Asked {
+    /// One of a glyph, by its name.
+    Glyph { name: Vec<u8>, extent: Extent },
+    /// One of each glyph that has faults, in the folder of this name.
+    Faulty { folder: String },
+}
+
+/// How much of a glyph is drawn, and which faults.
+#[derive(Clone, Copy, Debug, PartialEq, Eq, Drop)]
+pub enum Extent {
+    /// All.
+    All,
+    /// The steps up to this one.
+    UpTo(u64),
+    /// The fault of this number in the report.
+    Fault(u64),
+}
