@@ -6,13 +6,14 @@ use Rattle.std.specs.Ordering.{match_ordering}
 use Rattle.serde_json.specs.Data.{Data, Members, member, no_members, number as of_number, put}
 use Rattle.serde_json.specs.Find.{of_integer}
 use Rattle.serde_json.specs.Written.{has_float, members_have_float}
+use Rattle.t1_char.specs.declared.token.CharToken.{CharToken}
 use Rattle.t1_font.specs.Fonts.{FontValue}
-use Rattle.t1_forms.specs.Members.{edges_data, found_data, one_member, point_data, reason_members, since_members, stem_data, three_members, two_members}
+use Rattle.t1_forms.specs.Members.{edges_data, found_data, last_members, one_member, point_data, reason_members, since_members, stem_data, three_members, two_members}
 use Rattle.t1_reasons.specs.declared.reason.Edges.{Edges}
 use Rattle.t1_reasons.specs.declared.reason.Found.{Found}
 use Rattle.t1_reasons.specs.declared.reason.Found.TheVariants.{Absent, One, Other, Several}
 use Rattle.t1_reasons.specs.declared.reason.Reason.{Reason}
-use Rattle.t1_reasons.specs.declared.reason.Reason.TheVariants.{Argument, Arguments, Behind, Code, Codes, Count, Depth, Ending, Entry, Following, Features, Form, Full, Gap, Glyph, Glyphs, Ids, Kind, Length, Limit, Miss, Nothing, Numbers, Open, Othersubr, Pairs, Quotient, Sidebearings, Since, Stem, Stems, Subr, SubrEntry, Token, TooMany, Triple, Waiver, Width, Zone, Zones}
+use Rattle.t1_reasons.specs.declared.reason.Reason.TheVariants.{Argument, Arguments, Behind, Code, Codes, Corners, Count, Depth, Ending, Entry, Following, Features, Form, Full, Gap, Glyph, Glyphs, Ids, Kind, LastToken, Length, Limit, Miss, Nothing, Number as InList, Numbers, Open, Othersubr, Pairs, Quotient, Sidebearings, Since, Stem, Stems, Subr, SubrEntry, Token, TooMany, Triple, Waiver, Width, Zone, Zones}
 use Rattle.t1_rules.specs.declared.step_rules.flex.Point.{Point}
 use Rattle.t1_rules.specs.declared.step_rules.stems.Stem.{Stem as OneStem}
 
@@ -70,6 +71,10 @@ since_none : (step : Option ℕ) → members_have_float (since_members step) ≡
 since_none None = refl
 since_none (Some step) = one_none _ _ refl
 
+last_none : (token : Option CharToken) → members_have_float (last_members token) ≡ false
+last_none None = refl
+last_none (Some token) = one_none _ _ refl
+
 pub no_floats : (font : FontValue) (reason : Reason) → members_have_float (reason_members font reason) ≡ false
 unfolding reason_members
 no_floats font Nothing = refl
@@ -107,6 +112,9 @@ no_floats font (TooMany count most) = two_none _ _ _ _ refl refl
 no_floats font (Numbers count) = one_none _ _ refl
 no_floats font (Glyph glyph) = one_none _ _ refl
 no_floats font (Code code) = two_none _ _ _ _ refl refl
+no_floats font (Corners first last) = two_none _ _ _ _ refl refl
+no_floats font (InList number) = one_none _ _ refl
+no_floats font (LastToken token) = last_none token
 no_floats font (Following before number) = two_none _ _ _ _ refl refl
 no_floats font (Gap upper lower distance) = three_none _ _ _ _ _ _ refl refl refl
 no_floats font (Zones own other distance) = three_none _ _ _ _ _ _ (edges_none own) (edges_none other) refl

@@ -2,6 +2,7 @@
 use Rattle.std.specs.Prelude.{ℕ, ℤ, Option, Some, None, List, codes}
 use Rattle.serde_json.specs.Data.{Data, Members, boolean, number as of_number, unsigned, string, object, no_members, put}
 use Rattle.serde_json.specs.Find.{of_integer}
+use Rattle.t1_char.specs.declared.token.CharToken.{CharToken}
 use Rattle.t1_char.specs.Commands.{name_of}
 use Rattle.t1_font.specs.declared.encoding.Encoding.{Encoding}
 use Rattle.t1_font.specs.declared.encoding.Encoding.TheVariants.{Absent as NoEncoding, Standard, Custom, Other as OtherEncoding}
@@ -13,7 +14,7 @@ use Rattle.t1_reasons.specs.declared.reason.EntryKind.TheVariants.{Number as One
 use Rattle.t1_reasons.specs.declared.reason.Found.{Found}
 use Rattle.t1_reasons.specs.declared.reason.Found.TheVariants.{Absent, One, Other, Several}
 use Rattle.t1_reasons.specs.declared.reason.Reason.{Reason}
-use Rattle.t1_reasons.specs.declared.reason.Reason.TheVariants.{Argument, Arguments, Behind, Code, Codes, Count, Depth, Ending, Entry, Following, Features, Form, Full, Gap, Glyph, Glyphs, Ids, Kind, Length, Limit, Miss, Nothing, Numbers, Open, Othersubr, Pairs, Quotient, Sidebearings, Since, Stem, Stems, Subr, SubrEntry, Token, TooMany, Triple, Waiver, Width, Zone, Zones}
+use Rattle.t1_reasons.specs.declared.reason.Reason.TheVariants.{Argument, Arguments, Behind, Code, Codes, Corners, Count, Depth, Ending, Entry, Following, Features, Form, Full, Gap, Glyph, Glyphs, Ids, Kind, LastToken, Length, Limit, Miss, Nothing, Number as InList, Numbers, Open, Othersubr, Pairs, Quotient, Sidebearings, Since, Stem, Stems, Subr, SubrEntry, Token, TooMany, Triple, Waiver, Width, Zone, Zones}
 use Rattle.t1_reason_texts.specs.declared.decimals.Unit.TheVariants.{Value}
 use Rattle.t1_reason_texts.specs.Decimals.{coordinate_text, text_in}
 use Rattle.t1_reason_texts.specs.FontTexts.{encoded_name, value_text}
@@ -81,6 +82,10 @@ abbrev pub since_members : Option ℕ → Members
 since_members None = no_members
 since_members (Some step) = one_member (codes "step") (count_data step)
 
+abbrev pub last_members : Option CharToken → Members
+last_members None = no_members
+last_members (Some token) = one_member (codes "token") (string (token_text token))
+
 -- ---- all
 
 unfoldable pub reason_members : FontValue → Reason → Members
@@ -129,6 +134,9 @@ reason_members font (TooMany count most) = two_members (codes "count") (count_da
 reason_members font (Numbers count) = one_member (codes "count") (count_data count)
 reason_members font (Glyph glyph) = one_member (codes "name") (name_data (glyph_name font glyph))
 reason_members font (Code code) = two_members (codes "code") (count_data code) (codes "name") (name_data (encoded_name font code))
+reason_members font (Corners first last) = two_members (codes "first") (value_data first) (codes "last") (value_data last)
+reason_members font (InList number) = one_member (codes "number") (value_data number)
+reason_members font (LastToken token) = last_members token
 reason_members font (Following before number) = two_members (codes "before") (value_data before) (codes "number") (value_data number)
 reason_members font (Gap upper lower distance) =
     three_members (codes "upper") (value_data upper) (codes "lower") (value_data lower) (codes "distance") (distance_data distance)

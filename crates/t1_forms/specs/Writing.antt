@@ -1,5 +1,5 @@
 -- What a call that writes does.
-use Rattle.std.specs.Prelude.{◌≡◌, List, ℕ, Option, Some, Result, Ok, Err}
+use Rattle.std.specs.Prelude.{◌≡◌, List, ℕ, Some, Result, Ok, Err}
 use Rattle.t1_io.specs.Devices.{SinkState, Wrote, PutFailed}
 use Rattle.t1_forms.specs.declared.error.FormatError.{FormatError}
 use Rattle.t1_forms.specs.declared.error.FormatError.TheVariants.{Memory, Broken}

@@ -6,7 +6,7 @@ ghost use Rattle.serde_json.specs.View.{members_view, view};
 ghost use Rattle.std.specs.Prelude.{◌≡◌, IfOk, codes};
 ghost use Rattle.t1_char.specs.Commands.{name_of};
 ghost use Rattle.t1_font.specs.Fonts.{glyph_name};
-ghost use Rattle.t1_forms.specs.Members.{coordinate_data, count_data, distance_data, edges_data, form_word, found_data, found_members, kind_word, name_data, one_member, point_data, reason_members, since_members, stem_data, three_members, two_members, value_data};
+ghost use Rattle.t1_forms.specs.Members.{coordinate_data, count_data, distance_data, edges_data, form_word, found_data, found_members, kind_word, last_members, name_data, one_member, point_data, reason_members, since_members, stem_data, three_members, two_members, value_data};
 ghost use Rattle.t1_reason_texts.specs.FontTexts.{encoded_name};
 ghost use Rattle.t1_reason_texts.specs.StepTexts.{token_text};
 
@@ -463,7 +463,31 @@ fn code_members(alloc: Global, font: &Font<'_>, code: u32) -> Result<Members, Al
     two_members(alloc, "code", first, "name", second)
 }
 
-fn falling_members(alloc: Global, before: i64, number: i64) -> Result<Members, AllocError>
+fn corners_members(alloc: Global, lower: i64, upper: i64) -> Result<Members, AllocError>
+    ensures { IfOk result (λ m. members_view m.entries ≡ two_members (codes "first") (value_data lower) (codes "last") (value_data upper)) }
+{
+    let first = decimal_value(alloc, lower)?;
+    let second = decimal_value(alloc, upper)?;
+    two_members(alloc, "first", first, "last", second)
+}
+
+fn number_members(alloc: Global, number: i64) -> Result<Members, AllocError>
+    ensures { IfOk result (λ m. members_view m.entries ≡ one_member (codes "number") (value_data number)) }
+{
+    let first = decimal_value(alloc, number)?;
+    one_member(alloc, "number", first)
+}
+
+fn last_members(alloc: Global, token: Option<CharToken>) -> Result<Members, AllocError>
+    ensures { IfOk result (λ m. members_view m.entries ≡ last_members token) }
+{
+    match token {
+        Some(token) => token_members(alloc, token),
+        None => Ok(Map::new(alloc)),
+    }
+}
+
+fn following_members(alloc: Global, before: i64, number: i64) -> Result<Members, AllocError>
     ensures { IfOk result (λ m. members_view m.entries ≡ two_members (codes "before") (value_data before) (codes "number") (value_data number)) }
 {
     let first = decimal_value(alloc, before)?;
@@ -567,7 +591,10 @@ pub fn reason_members(
         Reason::Numbers { count } => numbers_members(alloc, count),
         Reason::Glyph { glyph } => glyph_members(alloc, font, glyph),
         Reason::Code { code } => code_members(alloc, font, code),
-        Reason::Following { before, number } => falling_members(alloc, before, number),
+        Reason::Corners { first, last } => corners_members(alloc, first, last),
+        Reason::Number { number } => number_members(alloc, number),
+        Reason::LastToken { token } => last_members(alloc, token),
+        Reason::Following { before, number } => following_members(alloc, before, number),
         Reason::Gap {
             upper,
             lower,

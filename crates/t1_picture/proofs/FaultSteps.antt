@@ -1,5 +1,6 @@
 -- The faults of a glyph that were added so far.
-use Rattle.std.proofs.Common.{◌≡◌, ℕ, zero, suc, ◌+◌, ◌-◌, ◌<◌, ◌≤◌, inl, inr, min, Bool, true, false, cond, nat_le, if◌then◌else◌, Option, None, Some, List, [], ◌∷◌, ◌++◌, take, append_assoc, append-nil, refl, sym, ap, subst, ◌∙◌, arith}
+use Rattle.std.proofs.Common.{◌≡◌, ℕ, zero, suc, ◌+◌, ◌-◌, ◌<◌, ◌≤◌, inl, inr, min, Bool, true, false, cond, nat_le, if◌then◌else◌, ◌==◌, length, slice_get, Option, None, Some, List, [], ◌∷◌, ◌++◌, take, append_assoc, append-nil, refl, sym, ap, subst, ◌∙◌, arith}
+use Rattle.std.proofs.lemmas.Bool.{eqb-true}
 use Rattle.std.proofs.lemmas.List.Sums.{sum_by-cons}
 use Rattle.std.specs.List.{count_by}
 use Rattle.std.specs.Option.{option_to_list}
@@ -7,15 +8,23 @@ use Rattle.t1_char.specs.Steps.{StepView}
 use Rattle.t1_char.specs.Turns.{MachineView}
 use Rattle.t1_outline.specs.Private.Outlining.{steps_in}
 use Rattle.t1_font.specs.Fonts.{glyph_name}
+use Rattle.t1_char.specs.declared.edition.Edition.{Edition}
+use Rattle.t1_picture.specs.declared.bands.Direction.{Direction}
+use Rattle.t1_picture.specs.declared.causes.Cause.{Cause}
+use Rattle.t1_picture.specs.declared.causes.StemPlace.{StemPlace}
 use Rattle.t1_picture.specs.declared.marks.FaultMark.{FaultMark}
 use Rattle.t1_picture.specs.declared.marks.Marks.{Marks}
-use Rattle.t1_picture.specs.Drawings.{all_steps}
+use Rattle.t1_picture.specs.Causes.{causes_of_reason, direction_among, zone_at}
+use Rattle.t1_picture.specs.Drawings.{all_steps, own_part}
+use Rattle.t1_picture.specs.Parts.{start_of}
 use Rattle.t1_picture.specs.Private.FaultViews.{AreThose, IsRunFor, counted}
 use Rattle.t1_picture.specs.Private.MarkViews.{IsMarked, done_with, last_with}
-use Rattle.t1_picture.specs.Marks.{fault_lines, glyph_steps, is_waived_of, last_of, lines_of, marks_from, pen_at, reason_in, same_point, shown_of, up_to, waived_of}
+use Rattle.t1_picture.specs.Marks.{all_causes, causes_of, direction_at, fault_lines, glyph_steps, is_waived_of, last_of, lines_of, marks_from, pen_at, place_of_stems, reason_of, same_point, shown_of, up_to, waived_of}
 use Rattle.t1_picture.specs.Private.Runs.{GoesTo, IsOfSameGlyph, seen_steps}
 use Rattle.t1_picture.specs.Subjects.{Subject}
-use Rattle.t1_reasons.specs.GlyphReasons.{IsOfSameGlyph as IsSameMachine, reason_at}
+use Rattle.t1_reasons.specs.GlyphReasons.{IsOfSameGlyph as IsSameMachine, glyph_reason, reason_at}
+use Rattle.t1_reasons.specs.Reported.{key_reason, waiver_reason}
+use Rattle.t1_reasons.specs.declared.reason.Reason.{Reason}
 use Rattle.t1_report.specs.declared.marks.Mark.{Mark}
 use Rattle.t1_report.specs.Checked.{CheckedFont, checked}
 use Rattle.t1_report.specs.Faults.{FaultValue}
@@ -25,6 +34,7 @@ use Rattle.t1_report.specs.Waivers.{Waiver, is_waived}
 use Rattle.t1_report.specs.Walks.{AreLaterOf, IsNextOf, mark_of}
 use Rattle.t1_report.proofs.OneReport.{both, same_fault}
 use Rattle.t1_rules.specs.declared.rule.Rule.{Rule}
+use Rattle.t1_rules.specs.declared.step_rules.flex.Point.{Point}
 use Rattle.t1_rules.specs.Book.{number_of}
 use Rattle.t1_rules.specs.StepRules.Flex.{current_point}
 
@@ -53,10 +63,11 @@ steps_rise font waivers unit mark fault at next = elim next.later [
 abbrev pub left_to_add : Subject → ℕ → List FaultValue → List FaultValue
 left_to_add s n rest = take (all_steps - n) (up_to (last_of s) rest)
 
-pub record HasAdded (s : Subject) (faults : List FaultValue) (n : ℕ) (mark : Mark) (marks : Marks) (lines : List (List ℕ)) : Type 0 where
+pub record HasAdded (s : Subject) (faults : List FaultValue) (n : ℕ) (mark : Mark) (marks : Marks) (causes : List Cause) (lines : List (List ℕ)) : Type 0 where
   pub rest : List FaultValue
   pub are : AreLaterOf (IsToldOf (checked s.font s.edition) s.waivers (s.glyph + 1)) (path_at (checked s.font s.edition)) mark rest
   pub marks_are : marks.done.items ++ marks_from s marks.last (left_to_add s n rest) ≡ marks_from s None (shown_of s faults)
+  pub causes_are : causes ++ all_causes s (left_to_add s n rest) ≡ all_causes s (shown_of s faults)
   pub lines_are : lines ++ lines_of s (left_to_add s n rest) ≡ lines_of s (shown_of s faults)
 
 marks_next : (s : Subject) (o : Option FaultMark) (f : FaultValue) (fs : List FaultValue)
@@ -75,21 +86,24 @@ left_next s n f fs less shown =
     let more : all_steps - n ≡ suc (all_steps - (n + 1)) = omega (arith, less) in
     ap (λ b. take (all_steps - n) (cond b (f ∷ up_to (last_of s) fs) [])) shown ∙ ap (λ (k : ℕ). take k (f ∷ up_to (last_of s) fs)) more
 
-pub one_added : (s : Subject) (faults : List FaultValue) (n : ℕ) (mark : Mark) (marks marks' : Marks) (lines lines' : List (List ℕ)) (f : FaultValue)
-    → HasAdded s faults n mark marks lines → n < all_steps → IsNextInUnit (checked s.font s.edition) s.waivers (s.glyph + 1) mark f
-    → nat_le f.step (last_of s) ≡ true → IsMarked marks marks' (pen_at s f.step) f.number → lines' ≡ lines ++ fault_lines s f
-    → HasAdded s faults (n + 1) (mark_of f) marks' lines'
-one_added s faults n mark marks marks' lines lines' f has less next shown marked lined = go has.rest has.are has.marks_are has.lines_are
+pub one_added : (s : Subject) (faults : List FaultValue) (n : ℕ) (mark : Mark) (marks marks' : Marks) (causes causes' : List Cause)
+    (lines lines' : List (List ℕ)) (f : FaultValue)
+    → HasAdded s faults n mark marks causes lines → n < all_steps → IsNextInUnit (checked s.font s.edition) s.waivers (s.glyph + 1) mark f
+    → nat_le f.step (last_of s) ≡ true → IsMarked marks marks' (pen_at s f.step) f.number → causes' ≡ causes ++ causes_of s f
+    → lines' ≡ lines ++ fault_lines s f → HasAdded s faults (n + 1) (mark_of f) marks' causes' lines'
+one_added s faults n mark marks marks' causes causes' lines lines' f has less next shown marked caused lined =
+    go has.rest has.are has.marks_are has.causes_are has.lines_are
   where
     Told : Place → Type 0
     Told = IsToldOf (checked s.font s.edition) s.waivers (s.glyph + 1)
 
     go : (rest : List FaultValue) → AreLaterOf (IsToldOf (checked s.font s.edition) s.waivers (s.glyph + 1)) (path_at (checked s.font s.edition)) mark rest
         → marks.done.items ++ marks_from s marks.last (left_to_add s n rest) ≡ marks_from s None (shown_of s faults)
+        → causes ++ all_causes s (left_to_add s n rest) ≡ all_causes s (shown_of s faults)
         → lines ++ lines_of s (left_to_add s n rest) ≡ lines_of s (shown_of s faults)
-        → HasAdded s faults (n + 1) (mark_of f) marks' lines'
-    go [] none marks_are lines_are = absurd (none (place_of f) next.violation.violated next.later)
-    go (x ∷ xs) later marks_are lines_are =
+        → HasAdded s faults (n + 1) (mark_of f) marks' causes' lines'
+    go [] none marks_are causes_are lines_are = absurd (none (place_of f) next.violation.violated next.later)
+    go (x ∷ xs) later marks_are causes_are lines_are =
         let same : x ≡ f =
         one_next (IsToldOf (checked s.font s.edition) s.waivers (s.glyph + 1)) (path_at (checked s.font s.edition)) mark x f later.0 next in
         let left : left_to_add s n (x ∷ xs) ≡ f ∷ left_to_add s (n + 1) xs =
@@ -105,6 +119,11 @@ one_added s faults n mark marks marks' lines lines' f has less next shown marked
               ∙ ap (λ (ms : List FaultMark). marks.done.items ++ ms) (sym (marks_next s marks.last f (left_to_add s (n + 1) xs)))
               ∙ ap (λ (fs : List FaultValue). marks.done.items ++ marks_from s marks.last fs) (sym left)
               ∙ marks_are;
+          causes_are =
+              ap (λ (cs : List Cause). cs ++ all_causes s (left_to_add s (n + 1) xs)) caused
+              ∙ append_assoc causes (causes_of s f) (all_causes s (left_to_add s (n + 1) xs))
+              ∙ ap (λ (fs : List FaultValue). causes ++ all_causes s fs) (sym left)
+              ∙ causes_are;
           lines_are =
               ap (λ (ls : List (List ℕ)). ls ++ lines_of s (left_to_add s (n + 1) xs)) lined
               ∙ append_assoc lines (fault_lines s f) (lines_of s (left_to_add s (n + 1) xs))
@@ -116,11 +135,12 @@ last_alone : (s : Subject) (o : Option FaultMark) → option_to_list o ≡ marks
 last_alone s None = refl
 last_alone s (Some mark) = refl
 
-pub all_added : (s : Subject) (faults : List FaultValue) (n : ℕ) (mark : Mark) (marks : Marks) (lines : List (List ℕ))
-    → (has : HasAdded s faults n mark marks lines) → left_to_add s n has.rest ≡ [] → AreThose s faults marks lines
-all_added s faults n mark marks lines has none = record {
+pub all_added : (s : Subject) (faults : List FaultValue) (n : ℕ) (mark : Mark) (marks : Marks) (causes : List Cause) (lines : List (List ℕ))
+    → (has : HasAdded s faults n mark marks causes lines) → left_to_add s n has.rest ≡ [] → AreThose s faults marks causes lines
+all_added s faults n mark marks causes lines has none = record {
   marks_are = ap (λ (ms : List FaultMark). marks.done.items ++ ms) (last_alone s marks.last)
       ∙ ap (λ (fs : List FaultValue). marks.done.items ++ marks_from s marks.last fs) (sym none) ∙ has.marks_are;
+  causes_are = sym (append-nil causes) ∙ ap (λ (fs : List FaultValue). causes ++ all_causes s fs) (sym none) ∙ has.causes_are;
   lines_are = sym (append-nil lines) ∙ ap (λ (fs : List FaultValue). lines ++ lines_of s fs) (sym none) ∙ has.lines_are;
 }
 
@@ -213,9 +233,60 @@ still_of s m m' run same = record {
   edition = same.edition ∙ run.edition;
 }
 
-pub reason_is : (s : Subject) (m : MachineView) (rule : Rule) (step : ℕ) → IsRunFor s m → reason_at m rule step ≡ reason_in s rule step
-reason_is s m rule zero run = refl
-reason_is s m rule (suc place) run = rw (run.font, run.glyph, run.edition) refl
+reason_in_glyph : (s : Subject) (m : MachineView) (rule : Rule) (step : ℕ) → IsRunFor s m
+    → reason_at m rule step ≡ glyph_reason s.font s.edition s.glyph rule step
+reason_in_glyph s m rule zero run = refl
+reason_in_glyph s m rule (suc place) run = rw (run.font, run.glyph, run.edition) refl
+
+-- A fault of the glyph is none of the font, and no waiver.
+other_unit : (unit other : ℕ) → (unit ≡ other → ⊥) → (unit == other) ≡ false
+other_unit unit other differ = by_test (unit == other) refl
+  where
+    by_test : (b : Bool) → (unit == other) ≡ b → b ≡ false
+    by_test true same = absurd (differ (eqb-true unit other same))
+    by_test false not = refl
+
+pub in_glyph : (s : Subject) (f : FaultValue) → f.unit ≡ s.glyph + 1 → (f.unit == 0) ≡ false
+in_glyph s f unit = other_unit f.unit 0 (λ none. omega (arith, unit, none))
+
+no_waiver : (s : Subject) (f : FaultValue) → f.unit ≡ s.glyph + 1 → s.glyph < length s.font.glyphs → (f.unit == length s.font.glyphs + 1) ≡ false
+no_waiver s f unit there = other_unit f.unit (length s.font.glyphs + 1) (λ past. omega (arith, unit, there, past))
+
+pub reason_is : (s : Subject) (m : MachineView) (f : FaultValue) → IsRunFor s m → f.unit ≡ s.glyph + 1 → s.glyph < length s.font.glyphs
+    → reason_at m f.rule f.step ≡ reason_of s f
+reason_is s m f run unit there =
+    let place : f.unit - 1 ≡ s.glyph = omega (arith, unit) in
+    reason_in_glyph s m f.rule f.step run
+    ∙ ap (λ (g : ℕ). glyph_reason s.font s.edition g f.rule f.step) (sym place)
+    ∙ sym (ap (λ b. cond b (key_reason (checked s.font s.edition) f.rule f.step)
+    (cond (f.unit == length s.font.glyphs + 1) (waiver_reason s.font (slice_get s.waivers (f.step - 1)))
+    (glyph_reason s.font s.edition (f.unit - 1) f.rule f.step))) (in_glyph s f unit)
+    ∙ ap (λ b. cond b (waiver_reason s.font (slice_get s.waivers (f.step - 1))) (glyph_reason s.font s.edition (f.unit - 1) f.rule f.step))
+    (no_waiver s f unit there))
+
+-- Where the stems of its step are, and what its reason names.
+pub steps_of_glyph : (s : Subject) (m : MachineView) → IsRunFor s m → steps_in m ≡ glyph_steps s
+steps_of_glyph s m run = rw (run.font, run.glyph, run.edition) refl
+
+pub direction_is : (s : Subject) (m : MachineView) (f : FaultValue) (direction : Option Direction) → IsRunFor s m → f.unit ≡ s.glyph + 1
+    → direction ≡ direction_among (steps_in m) f.step → direction ≡ direction_at s f
+direction_is s m f direction run unit is =
+    is ∙ ap (λ (ss : List StepView). direction_among ss f.step) (steps_of_glyph s m run)
+    ∙ sym (ap (λ b. cond b None (direction_among (glyph_steps s) f.step)) (in_glyph s f unit))
+
+pub place_is : (s : Subject) (f : FaultValue) (place : StemPlace) → place.edition ≡ s.edition → place.start ≡ start_of (own_part s)
+    → place.direction ≡ direction_at s f → place ≡ place_of_stems s f
+place_is s f place edition start direction =
+    ap (λ (e : Edition). record place { edition = e }) edition
+    ∙ ap (λ (p : Point). record { edition = s.edition; start = p; direction = place.direction }) start
+    ∙ ap (λ (d : Option Direction). record { edition = s.edition; start = start_of (own_part s); direction = d }) direction
+
+pub causes_are : (s : Subject) (f : FaultValue) (place : StemPlace) (reason : Option Reason) → f.unit ≡ s.glyph + 1
+    → place ≡ place_of_stems s f → reason ≡ reason_of s f → causes_of_reason place f.rule reason ≡ causes_of s f
+causes_are s f place reason unit placed is =
+    ap (λ (p : StemPlace). causes_of_reason p f.rule reason) placed
+    ∙ ap (λ (r : Option Reason). causes_of_reason (place_of_stems s f) f.rule r) is
+    ∙ sym (ap (λ b. cond b (option_to_list (zone_at s.font f.step)) [] ++ causes_of_reason (place_of_stems s f) f.rule (reason_of s f)) (in_glyph s f unit))
 
 -- Without waivers nothing is waived.
 none_is_waived : (s : Subject) (faults : List FaultValue) → s.waivers ≡ [] → count_by (is_waived_of s) faults ≡ 0
@@ -232,5 +303,5 @@ none_waived s faults none = sym (ap (λ (k : ℕ). min k all_steps) (none_is_wai
 pub pen_there : (s : Subject) (m m' : MachineView) (count number : ℕ) → IsRunFor s m' → GoesTo m m' count → count ≡ number - 1
     → current_point (seen_steps m') ≡ pen_at s number
 pen_there s m m' count number run goes is =
-    let steps : steps_in m' ≡ glyph_steps s = rw (run.font, run.glyph, run.edition) refl in
+    let steps : steps_in m' ≡ glyph_steps s = steps_of_glyph s m' run in
     ap current_point (goes.seen ∙ ap (λ (ss : List StepView). take count ss) steps ∙ ap (λ (k : ℕ). take k (glyph_steps s)) is)

@@ -1,9 +1,9 @@
 pub mod FaultSteps
 pub mod Joined
 pub mod Made
+pub mod OnePicture
 pub mod OutlineLayers
 pub mod PartSteps
 pub mod Runs
-pub mod Shown
 pub mod XmlCharacters
 pub mod XmlTexts

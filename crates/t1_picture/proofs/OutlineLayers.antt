@@ -1,5 +1,5 @@
 -- The layer of the outline, part by part.
-use Rattle.std.proofs.Common.{◌≡◌, ◌&&◌, ◌+◌, ◌≤◌, ℕ, Bool, cond, codes, true, false, Option, None, Some, List, [], ◌∷◌, ◌++◌, length, map, take, refl, sym, ap, ◌∙◌, arith, append_assoc, append-nil}
+use Rattle.std.proofs.Common.{◌≡◌, ◌&&◌, ◌+◌, ℕ, Bool, cond, codes, true, false, Option, None, Some, List, [], ◌∷◌, ◌++◌, length, map, take, refl, sym, ap, ◌∙◌, arith, append_assoc, append-nil}
 use Rattle.std.proofs.lemmas.Grind.{flat_map-append}
 use Rattle.std.proofs.lemmas.List.{length-take, take_all}
 use Rattle.std.proofs.lemmas.List.Folds.{flat_map-map}
@@ -15,9 +15,9 @@ use Rattle.t1_outline.specs.declared.segment.Segment.{Segment}
 use Rattle.t1_outline.specs.Outlines.{DrawnView, drawn, drawn_from, drawn_of, placed as drawn_at}
 use Rattle.t1_outline.specs.Parts.{part_of, parts_of_both}
 use Rattle.t1_picture.specs.Drawings.{all_steps, called_part, component_part, components_of, own_part, with_component, with_components}
-use Rattle.t1_picture.specs.Laws.{OutlineIsThatOfItsParts, WholePartsAreOutlines, part_outline}
+use Rattle.t1_picture.specs.Laws.{OutlineIsThatOfItsParts, WholePartsAreOutlines}
 use Rattle.t1_picture.specs.Layers.{LayersView, begun, no_layers, segment_text, with_gap, with_segment, with_segments}
-use Rattle.t1_picture.specs.Parts.{PartView, drawn_steps, is_step, with_gap_if, with_part, with_step, with_steps}
+use Rattle.t1_picture.specs.Parts.{PartView, drawn_steps, is_step, part_outline, with_gap_if, with_part, with_step, with_steps}
 use Rattle.t1_picture.specs.Subjects.{Subject}
 use Rattle.t1_picture.specs.Subpaths.{placed}
 use Rattle.t1_rules.specs.declared.step_rules.flex.Point.{Point}
@@ -64,7 +64,7 @@ of_steps part l before (step ∷ steps) =
     ∙ ap (λ (o : List ℕ). l.outline ++ o)
     (sym (of_drawn part (length before + 1) step.path (drawn before step) (drawn_from (before ++ step ∷ []) steps)))
 
-of_part : (part : PartView) (l : LayersView) → (with_part part l).outline ≡ l.outline ++ part_outline part
+pub of_part : (part : PartView) (l : LayersView) → (with_part part l).outline ≡ l.outline ++ part_outline part
 of_part part l = of_steps part (begun l) [] (drawn_steps part)
 
 -- ---- components

@@ -9,7 +9,9 @@ use Rattle.t1_char.specs.Steps.{NumberedStep, StepView, steps_of}
 use Rattle.t1_char.specs.Turns.{MachineView, TurnValue, answered, counted_after, ended, is_told, limit_or_end, limited, step_of_number, step_or_end, turn_at}
 use Rattle.t1_outline.proofs.Outlining.{IsOver, IsTold, same_steps}
 use Rattle.t1_outline.specs.Private.Outlining.{steps_in}
-use Rattle.t1_picture.specs.Private.Runs.{AreAllSeen, IsInHand}
+use Rattle.t1_outline.specs.declared.pen.DrawnStep.{DrawnStep}
+use Rattle.t1_picture.specs.Causes.{direction_among, direction_of, direction_of_step}
+use Rattle.t1_picture.specs.Private.Runs.{AreAllSeen, IsDrawnNext, IsInHand, IsOfSameGlyph}
 
 -- What is left of a list begins with what is at its place.
 pub at_drop : (n : ℕ) (xs : List StepView) (y : StepView) (ys : List StepView) → drop n xs ≡ y ∷ ys → slice_get xs n ≡ Some y
@@ -62,6 +64,9 @@ all_seen old new answer is asked = record {
   most = subst (λ (n : ℕ). n ≤ old.counted + 1)
       (sym (asked.counted ∙ ap (counted_after (limit_of old.edition) (steps_of old.font old.glyph)) (asked.told refl)))
       (no_more (limit_of old.edition) (steps_of old.font old.glyph) old.counted);
+  past = subst (λ (n : ℕ). length (steps_in old) < n)
+      (sym (asked.counted ∙ ap (counted_after (limit_of old.edition) (steps_of old.font old.glyph)) (asked.told refl)))
+      (past_counted (limit_of old.edition) (steps_of old.font old.glyph) old.counted is.all);
 }
 
 -- What the answer says of the steps after the limit.
@@ -105,3 +110,25 @@ goes_past old new step is asked =
     let steps = steps_of old.font old.glyph in
     limited_long limit steps step (slice_get steps limit) refl
     (asked.turn ∙ ap (turn_at limit steps) (asked.told refl) ∙ last_turn limit steps old.counted is.all)
+
+-- ---- directions
+
+pub same_steps_in : (old new : MachineView) → IsOfSameGlyph old new → steps_in new ≡ steps_in old
+same_steps_in old new same = rw (same.font, same.glyph, same.edition) refl
+
+pub direction_next : (old new : MachineView) (next : DrawnStep) → IsOfSameGlyph old new → IsDrawnNext old new next
+    → direction_of new.step.step.token ≡ direction_among (steps_in new) new.counted
+direction_next old new next same is =
+    let counted : new.counted ≡ suc old.counted = omega (arith, is.counted) in
+    let there : slice_get (steps_in new) old.counted ≡ Some new.step.step =
+    ap (λ (ss : List StepView). slice_get ss old.counted) (same_steps_in old new same) ∙ at_drop old.counted (steps_in old) new.step.step _ is.ahead in
+    sym (ap (direction_among (steps_in new)) counted ∙ ap direction_of_step there)
+
+none_there : (xs : List StepView) (n : ℕ) → length xs ≤ n → slice_get xs n ≡ None
+none_there [] n past = refl
+none_there (x ∷ xs) zero past = absurd (omega (arith, past))
+none_there (x ∷ xs) (suc n) past = none_there xs n (omega (arith, past))
+
+pub direction_past : (steps : List StepView) (n : ℕ) → length steps < n → None ≡ direction_among steps n
+direction_past steps zero past = refl
+direction_past steps (suc n) past = sym (ap direction_of_step (none_there steps n (omega (arith, past))))

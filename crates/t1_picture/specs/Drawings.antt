@@ -13,7 +13,7 @@ use Rattle.t1_outline.specs.Parts.{composition_of, seac_parts_in}
 use Rattle.t1_picture.specs.declared.drawing.Drawing.{Drawing}
 use Rattle.t1_picture.specs.Layers.{LayersView, layers_view, no_layers}
 use Rattle.t1_picture.specs.Parts.{PartView, drawn_steps, last_step_of, note_if, part_notes, with_part}
-use Rattle.t1_picture.specs.Subjects.{Subject}
+use Rattle.t1_picture.specs.Subjects.{Subject, step_of}
 use Rattle.t1_picture.specs.Texts.{legible}
 use Rattle.t1_rules.specs.StandardEncoding.{standard_name}
 use Rattle.t1_rules.specs.StepRules.Flex.{origin}
@@ -30,8 +30,8 @@ own_part s =
       edition = s.edition;
       glyph = s.glyph;
       origin = origin;
-      last = unwrap_or s.step all_steps;
-      thick = s.step;
+      last = unwrap_or (step_of s) all_steps;
+      thick = step_of s;
       label = [];
     }
 

@@ -51,6 +51,19 @@ frame_of b = frame_by (power_for (extent_of b)) b
 abbrev pub units_of : Frame → ℤ → ℤ
 units_of frame count = kept (count *ℤ int_shl w64 (pos 1) (frame.power % 64))
 
+-- So many units from an edge of the frame, towards the inside.
+abbrev pub from_left : Frame → ℤ → ℤ
+from_left frame count = units_of frame (kept (frame.left +ℤ count))
+
+abbrev pub from_bottom : Frame → ℤ → ℤ
+from_bottom frame count = units_of frame (kept (frame.bottom +ℤ count))
+
+abbrev pub from_right : Frame → ℤ → ℤ
+from_right frame count = units_of frame (kept (frame.right -ℤ count))
+
+abbrev pub from_top : Frame → ℤ → ℤ
+from_top frame count = units_of frame (kept (frame.top -ℤ count))
+
 unfoldable pub length_of : Frame → ℤ → Exact
 length_of frame count = coordinate_of (units_of frame count)
 

@@ -7,11 +7,9 @@ use Rattle.t1_font.specs.Keys.{same_name}
 use Rattle.t1_outline.specs.Outlines.{drawn_of, outline_of}
 use Rattle.t1_outline.specs.Parts.{parts_of_both}
 use Rattle.t1_picture.specs.Drawings.{all_steps, component_part, components_of, drawing_of, own_part}
-use Rattle.t1_picture.specs.Layers.{segment_text}
-use Rattle.t1_picture.specs.Parts.{PartView, drawn_steps}
+use Rattle.t1_picture.specs.Parts.{PartView, drawn_steps, part_outline}
 use Rattle.t1_picture.specs.Pictures.{IsPictureOf}
 use Rattle.t1_picture.specs.Subjects.{Subject}
-use Rattle.t1_picture.specs.Subpaths.{placed}
 use Rattle.t1_picture.specs.Texts.{legible, xml_text}
 use Rattle.t1_report.specs.Waivers.{largest_waivers}
 
@@ -26,10 +24,6 @@ abbrev pub HasNoOtherPicture : Type 0
 HasNoOtherPicture = (s : Subject) (a b : List ℕ) → IsPictureOf s a → IsPictureOf s b → a ≡ b
 
 -- ---- the outline
-
--- The outline of a part, as data of a path: the segments that its steps draw, where its origin is.
-abbrev pub part_outline : PartView → List ℕ
-part_outline part = flat_map (λ d. segment_text (placed part.origin d.segment)) (drawn_of (drawn_steps part))
 
 -- The outline of a picture is that of the glyph, up to the last step, and then that of each component that is there.
 abbrev pub OutlineIsThatOfItsParts : Type 0

@@ -7,7 +7,7 @@ use Rattle.t1_font.specs.Fonts.{glyph_name}
 use Rattle.t1_picture.specs.Drawings.{DrawingView}
 use Rattle.t1_picture.specs.Marks.{FaultsView}
 use Rattle.t1_picture.specs.Parts.{note_if}
-use Rattle.t1_picture.specs.Subjects.{Subject}
+use Rattle.t1_picture.specs.Subjects.{ShownValue, Subject, one_fault, step_of}
 use Rattle.t1_picture.specs.Texts.{legible}
 
 -- Which glyph it is, and by which edition.
@@ -33,16 +33,22 @@ abbrev pub waived_line : ℕ → List ℕ
 waived_line waived =
     if waived == 1 then codes "1 waived fault isn't shown" else decimal waived ++ codes " waived faults aren't shown"
 
+-- What is above the lines of faults: whether their numbers count in the glyph, or one is that of the report.
+abbrev pub heading_of : ShownValue → List ℕ
+heading_of (one_fault fault) = codes "fault, by its number in the report:"
+heading_of _ = codes "faults, by numbers that count in this glyph:"
+
 -- The others, or that there is none.
 abbrev pub no_fault : ℕ → List ℕ
 no_fault waived = if nat_lt 0 waived then codes "no other fault" else codes "no fault"
 
-abbrev pub lines_or_none : ℕ → List (List ℕ) → List (List ℕ)
-lines_or_none waived [] = no_fault waived ∷ []
-lines_or_none waived (line ∷ lines) = codes "faults, by numbers that count in this glyph:" ∷ line ∷ lines
+abbrev pub lines_or_none : List ℕ → ℕ → List (List ℕ) → List (List ℕ)
+lines_or_none heading waived [] = no_fault waived ∷ []
+lines_or_none heading waived (line ∷ lines) = heading ∷ line ∷ lines
 
-abbrev pub lines_of_faults : FaultsView → List (List ℕ)
-lines_of_faults faults = note_if (nat_lt 0 faults.waived) (waived_line faults.waived) ++ lines_or_none faults.waived faults.lines
+abbrev pub lines_of_faults : List ℕ → FaultsView → List (List ℕ)
+lines_of_faults heading faults =
+    note_if (nat_lt 0 faults.waived) (waived_line faults.waived) ++ lines_or_none heading faults.waived faults.lines
 
 abbrev pub is_empty : List ℕ → Bool
 is_empty [] = true
@@ -52,5 +58,6 @@ is_empty (c ∷ cs) = false
 abbrev pub legend_of : Subject → DrawingView → FaultsView → List (List ℕ)
 legend_of s drawing faults =
     title_line s.edition (title_of s)
-    ∷ (step_lines s.step drawing.last_step ++ (drawing.notes
-    ++ (note_if (not (is_empty drawing.layers.unclosed)) (codes "dashed: a path that isn't closed") ++ lines_of_faults faults)))
+    ∷ (step_lines (step_of s) drawing.last_step ++ (drawing.notes
+    ++ (note_if (not (is_empty drawing.layers.unclosed)) (codes "dashed: a path that isn't closed")
+    ++ lines_of_faults (heading_of s.shown) faults)))

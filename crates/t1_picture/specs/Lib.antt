@@ -1,5 +1,7 @@
 pub mod Bands
 pub mod Bounds
+pub mod CauseTexts
+pub mod Causes
 pub mod Drawings
 pub mod Frames
 pub mod Laws

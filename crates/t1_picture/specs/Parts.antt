@@ -1,6 +1,7 @@
 -- What the steps of a part draw, and what isn't drawn. Type 1 Font Format 1.1, chapters 6 and 8.
 use Rattle.std.specs.Prelude.{ℕ, ℤ, ◌+◌, ◌-◌, ◌==◌, ◌&&◌, nat_lt, if◌then◌else◌, Bool, true, false, Option, None, Some, List, [], ◌∷◌, ◌++◌, codes, length, map, slice_get, take}
 use Rattle.std.specs.Fmt.{decimal}
+use Rattle.std.specs.List.{flat_map}
 use Rattle.std.specs.Option.{option_map}
 use Rattle.t1_char.specs.declared.edition.Edition.{Edition}
 use Rattle.t1_char.specs.Arguments.{is_flex_end}
@@ -9,14 +10,14 @@ use Rattle.t1_char.specs.Steps.{StepView, steps_of}
 use Rattle.t1_char.specs.Turns.{step_of_number}
 use Rattle.t1_font.specs.Fonts.{FontValue}
 use Rattle.t1_outline.specs.declared.segment.Segment.{Segment}
-use Rattle.t1_outline.specs.Outlines.{drawn}
+use Rattle.t1_outline.specs.Outlines.{drawn, drawn_of}
 use Rattle.t1_outline.specs.Parts.{composition_of, sidebearing_by}
 use Rattle.t1_picture.specs.declared.bands.Band.{Band}
 use Rattle.t1_picture.specs.declared.bands.Direction.{Direction}
 use Rattle.t1_picture.specs.declared.bands.Direction.TheVariants.{Across, Upright}
 use Rattle.t1_picture.specs.Bands.{band_of}
-use Rattle.t1_picture.specs.Layers.{LayersView, begun, with_bands, with_gap, with_segments}
-use Rattle.t1_picture.specs.Subpaths.{behind}
+use Rattle.t1_picture.specs.Layers.{LayersView, begun, segment_text, with_bands, with_gap, with_segments}
+use Rattle.t1_picture.specs.Subpaths.{behind, placed}
 use Rattle.t1_picture.specs.Texts.{legible_line}
 use Rattle.t1_report.specs.Traces.{step_line}
 use Rattle.t1_rules.specs.declared.step_rules.flex.Point.{Point}
@@ -81,6 +82,10 @@ with_stems part l =
 
 abbrev pub with_part : PartView → LayersView → LayersView
 with_part part l = with_stems part (with_steps part (begun l) [] (drawn_steps part))
+
+-- The outline of a part, as data of a path: the segments that its steps draw, where its origin is.
+abbrev pub part_outline : PartView → List ℕ
+part_outline part = flat_map (λ d. segment_text (placed part.origin d.segment)) (drawn_of (drawn_steps part))
 
 -- ---- notes
 

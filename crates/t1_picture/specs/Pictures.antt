@@ -7,17 +7,19 @@ use Rattle.t1_font.specs.Fonts.{FontValue}
 use Rattle.t1_outline.specs.declared.composition.Metrics.{Metrics}
 use Rattle.t1_picture.specs.declared.bands.Band.{Band}
 use Rattle.t1_picture.specs.declared.bounds.Bounds.{Bounds}
+use Rattle.t1_picture.specs.declared.causes.Cause.{Cause}
 use Rattle.t1_reason_texts.specs.declared.decimals.Exact.{Exact}
 use Rattle.t1_picture.specs.declared.frame.Frame.{Frame}
 use Rattle.t1_picture.specs.declared.marks.FaultMark.{FaultMark}
 use Rattle.t1_picture.specs.Bands.{band_text, upright_line, with_band, zones_in}
 use Rattle.t1_picture.specs.Bounds.{kept, with_point, with_x}
+use Rattle.t1_picture.specs.CauseTexts.{cause_lines_part, cause_points_part, causes_part, cross_text, edges_part, end_text, with_causes}
 use Rattle.t1_reason_texts.specs.Decimals.{coordinate_of, exact_text}
 use Rattle.t1_picture.specs.Drawings.{DrawingView, drawing_of}
 use Rattle.t1_picture.specs.Frames.{frame_of, height_of, legend_left_of, legend_line_of, length_of, opposite, units_of, width_of}
 use Rattle.t1_picture.specs.Layers.{LayersView, mark_text}
 use Rattle.t1_picture.specs.Legends.{legend_of, title_of}
-use Rattle.t1_picture.specs.Marks.{AreShownOf, FaultsView, faults_of}
+use Rattle.t1_picture.specs.Marks.{AreShownOf, FaultLayersView, FaultsView, fault_layers, faults_of}
 use Rattle.t1_picture.specs.Subjects.{Subject}
 use Rattle.t1_picture.specs.Texts.{xml_text}
 use Rattle.t1_report.specs.Faults.{FaultValue}
@@ -25,7 +27,7 @@ use Rattle.t1_rules.specs.StepRules.Flex.{at}
 
 -- ---- the frame
 
--- With each band, with sidebearing and width, and with each mark.
+-- With each band, with sidebearing and width, with each mark, and with what reasons name.
 abbrev pub with_all_bands : Bounds → List Band → Bounds
 with_all_bands b [] = b
 with_all_bands b (band ∷ bands) = with_all_bands (with_band b band) bands
@@ -40,7 +42,9 @@ with_marks b (mark ∷ marks) = with_marks (with_point b mark.point) marks
 
 abbrev pub bounds_of : DrawingView → FaultsView → Bounds
 bounds_of drawing faults =
-    with_marks (with_metrics (with_all_bands drawing.layers.bounds drawing.layers.bands) drawing.composition.metrics) faults.marks
+    with_causes
+    (with_marks (with_metrics (with_all_bands drawing.layers.bounds drawing.layers.bands) drawing.composition.metrics) faults.marks)
+    faults.causes
 
 -- ---- before the drawing
 
@@ -82,6 +86,10 @@ circles_text size radius =
     codes "<circle id=\"off\" r=\"" ++ (exact_text size
     ++ (codes "\"/>\n<circle id=\"mark\" r=\"" ++ (exact_text radius ++ codes "\"/>\n")))
 
+-- The forms of what reasons name.
+unfoldable pub cause_forms : Exact → Exact → List ℕ
+cause_forms cross end = cross_text cross ++ end_text end
+
 -- The frame, by which zones are cut.
 unfoldable pub clip_text : Exact → Exact → Exact → Exact → List ℕ
 clip_text left bottom right top =
@@ -94,8 +102,9 @@ defs_text frame =
     codes "<defs>\n"
     ++ (square_text (length_of frame (pos 4))
     ++ (circles_text (length_of frame (pos 4)) (length_of frame (pos 9))
+    ++ (cause_forms (length_of frame (pos 9)) (length_of frame (pos 7))
     ++ (clip_text (length_of frame frame.left) (length_of frame frame.bottom) (length_of frame frame.right) (length_of frame frame.top)
-    ++ codes "</defs>\n")))
+    ++ codes "</defs>\n"))))
 
 -- What lies below all.
 unfoldable pub ground_text : Exact → Exact → Exact → Exact → List ℕ
@@ -206,17 +215,24 @@ marks_part frame marks = marks_start (length_of frame (pos 3)) ++ (flat_map mark
 unfoldable pub drawing_start : Exact → List ℕ
 drawing_start thin = codes "<g transform=\"scale(1 -1)\" fill=\"none\" stroke-width=\"" ++ (exact_text thin ++ codes "\">\n")
 
--- What lies behind the outline, and the rest.
-unfoldable pub back_text : Frame → FontValue → LayersView → Option Metrics → List ℕ
-back_text frame font layers metrics = zones_part frame font ++ (stems_part frame layers.bands ++ lines_part frame metrics)
+-- What lies behind the outline, the outline, and what faults draw upon it.
+unfoldable pub back_text : Frame → FontValue → LayersView → Option Metrics → List Cause → List ℕ
+back_text frame font layers metrics causes =
+    zones_part frame font ++ (stems_part frame layers.bands ++ (causes_part frame causes ++ lines_part frame metrics))
 
-unfoldable pub front_text : Frame → LayersView → List FaultMark → List ℕ
-front_text frame layers marks = outline_part frame layers ++ (points_part layers.points layers.controls ++ marks_part frame marks)
+unfoldable pub front_text : Frame → LayersView → List ℕ
+front_text frame layers = outline_part frame layers ++ points_part layers.points layers.controls
 
-unfoldable pub drawing_text : Frame → FontValue → LayersView → Option Metrics → List FaultMark → List ℕ
-drawing_text frame font layers metrics marks =
+unfoldable pub faults_part : Frame → FaultLayersView → List ℕ
+faults_part frame faults =
+    cause_lines_part frame faults.causes faults.components
+    ++ (cause_points_part frame faults.causes ++ marks_part frame faults.marks)
+
+unfoldable pub drawing_text : Frame → FontValue → LayersView → Option Metrics → FaultLayersView → List ℕ
+drawing_text frame font layers metrics faults =
     drawing_start (length_of frame (pos 1))
-    ++ (back_text frame font layers metrics ++ (front_text frame layers marks ++ codes "</g>\n"))
+    ++ (back_text frame font layers metrics faults.causes
+    ++ (front_text frame layers ++ (faults_part frame faults ++ codes "</g>\n")))
 
 -- ---- numbers and legend, y downwards
 
@@ -267,15 +283,19 @@ legend_text frame lines =
 
 -- ---- all of it
 
-unfoldable pub svg_text : Frame → FontValue → List ℕ → LayersView → Option Metrics → List FaultMark → List (List ℕ) → List ℕ
-svg_text frame font title layers metrics marks lines =
+-- The numbers of marks and of edges, and the legend.
+unfoldable pub labels_text : Frame → FaultLayersView → List (List ℕ) → List ℕ
+labels_text frame faults lines =
+    numbers_text frame faults.marks ++ (edges_part frame faults.causes ++ legend_text frame lines)
+
+unfoldable pub svg_text : Frame → FontValue → List ℕ → LayersView → Option Metrics → FaultLayersView → List (List ℕ) → List ℕ
+svg_text frame font title layers metrics faults lines =
     head_text frame title lines
-    ++ (drawing_text frame font layers metrics marks
-    ++ (numbers_text frame marks ++ (legend_text frame lines ++ codes "</svg>\n")))
+    ++ (drawing_text frame font layers metrics faults ++ (labels_text frame faults lines ++ codes "</svg>\n"))
 
 abbrev pub picture_with : Subject → DrawingView → FaultsView → List ℕ
 picture_with s drawing faults =
-    svg_text (frame_of (bounds_of drawing faults)) s.font (title_of s) drawing.layers drawing.composition.metrics faults.marks
+    svg_text (frame_of (bounds_of drawing faults)) s.font (title_of s) drawing.layers drawing.composition.metrics (fault_layers s faults)
     (legend_of s drawing faults)
 
 -- The picture of a subject, given the faults of its glyph: those that its waivers leave, and all that there are without waivers.

@@ -34,9 +34,9 @@ pub(crate) enum Direction {
 /// A stem as it is drawn, by its edges in units of 1/65536.
 #[derive(Clone, Copy, Debug, PartialEq, Eq)]
 pub(crate) struct Band {
-    direction: Direction,
-    lower: i64,
-    upper: i64,
+    pub(crate) direction: Direction,
+    pub(crate) lower: i64,
+    pub(crate) upper: i64,
 }
 
 impl Band {
@@ -81,7 +81,7 @@ impl Band {
 }
 
 /// The lower or the left edge of a stem, as it is drawn.
-fn lower_edge(stem: Stem, edition: Edition) -> i64
+pub(crate) fn lower_edge(stem: Stem, edition: Edition) -> i64
     ensures { result ≡ lower_edge edition stem }
 {
     if edition.knows_one_edge() && stem.has_one_edge() {
@@ -92,7 +92,7 @@ fn lower_edge(stem: Stem, edition: Edition) -> i64
 }
 
 /// The upper or the right one.
-fn upper_edge(stem: Stem, edition: Edition) -> i64
+pub(crate) fn upper_edge(stem: Stem, edition: Edition) -> i64
     ensures { result ≡ upper_edge edition stem }
 {
     if edition.knows_one_edge() && stem.has_one_edge() {
@@ -121,7 +121,7 @@ fn is_one_edge(lower: Exact, upper: Exact) -> bool
 }
 
 /// Writes a band from left to right; one whose edges are the same is a line.
-fn write_across(
+pub(crate) fn write_across(
     svg: &mut String,
     frame: &Frame,
     lower: Exact,
@@ -261,7 +261,7 @@ fn write_zone(svg: &mut String, frame: &Frame, list: &[i64], zone: usize) -> Res
 }
 
 /// The number at a place of a list.
-fn number_at(list: &[i64], place: usize) -> Option<i64>
+pub(crate) fn number_at(list: &[i64], place: usize) -> Option<i64>
     ensures { result ≡ slice_get list.now place }
 {
     list.get(place).copied()

@@ -1,22 +1,25 @@
 //! The glyphs that are drawn: the one that was requested, and the components of its seac.
 
 ghost use Rattle.std.specs.Prelude.{◌≡◌, ◌<◌, ◌++◌, IfOk, IfSome, OnOk, length, string_bytes};
-ghost use Rattle.t1_outline.specs.Parts.{IsIn};
+ghost use Rattle.t1_outline.specs.Parts.{IsIn, sidebearing_by};
 ghost use Rattle.t1_picture.specs.Drawings.{component_notes, component_part, drawing_of, drawing_view, label_of, missing_note, notes_of_components, notes_of_part, own_part, seac_note, texts_of, with_component, with_components};
 ghost use Rattle.t1_picture.specs.Layers.{layers_view};
 ghost use Rattle.t1_picture.specs.Private.PartViews.{part_view};
 ghost use Rattle.t1_picture.specs.Parts.{note_if, with_part};
 ghost use Rattle.t1_picture.specs.Subjects.{subject_of};
+ghost use Rattle.t1_picture.specs.Subpaths.{behind};
 ghost use Rattle.t1_picture.specs.Views.{CanBeDrawn};
+ghost use Rattle.t1_rules.specs.StepRules.Flex.{origin};
 
 use crate::layers::Layers;
 use crate::parts::DrawnPart;
+use crate::subpath::behind;
 use crate::texts::{add_line, legible};
 use crate::view::View;
 use std::alloc::{AllocError, Global};
 use t1_font::Font;
 use t1_outline::{Composition, ORIGIN, Part, SeacPart, SeacParts};
-use t1_rules::standard_name;
+use t1_rules::{Point, standard_name};
 
 /// What was drawn, and what there is to say of it.
 #[derive(Drop)]
@@ -48,6 +51,13 @@ impl Drawing {
             last_step: end.last_step,
         })
     }
+
+    /// What the positions of the glyph's stems count from.
+    pub(crate) fn start(&self) -> Point
+        ensures { result ≡ behind origin (sidebearing_by self.now.composition.metrics) }
+    {
+        behind(ORIGIN, self.composition.sidebearing())
+    }
 }
 
 /// The glyph itself.
@@ -64,7 +74,7 @@ fn own_part<'a>(view: &View<'a>) -> DrawnPart<'a>
             origin: ORIGIN,
         },
         last: view.last(),
-        thick: view.step,
+        thick: view.step(),
         label: "",
     }
 }

@@ -1,73 +1,120 @@
-//! The faults of the glyph: where their marks are, and their lines.
+//! The faults that are shown: where their marks are, what their reasons name, and their lines.
 
 ghost use Rattle.std.specs.Prelude.{◌≡◌, ◌+◌, ◌++◌, IfOk, None, OnOk, List, [], nat_le, string_bytes};
-ghost use Rattle.t1_picture.specs.Drawings.{texts_of};
+ghost use Rattle.t1_picture.specs.Drawings.{own_part, texts_of};
 ghost use Rattle.t1_picture.specs.Private.FaultViews.{AreAdded, counted};
-ghost use Rattle.t1_picture.specs.Marks.{AreFaultsOf, AreShownOf, fault_lines, faults_view, reason_line, reason_lines, reason_of, waived_of};
+ghost use Rattle.t1_picture.specs.Marks.{AreFaultsOf, AreGlyphFaults, AreShownOf, fault_layers_view, fault_lines, faults_view, reason_line, reason_lines, reason_of, waived_of};
+ghost use Rattle.t1_picture.specs.Parts.{start_of};
 ghost use Rattle.t1_picture.specs.Subjects.{subject_of};
 ghost use Rattle.t1_picture.specs.Texts.{legible_line};
 ghost use Rattle.t1_picture.specs.Views.{CanBeDrawn};
 ghost use Rattle.t1_report.specs.Faults.{FaultValue, fault_value};
 ghost use Rattle.t1_report.specs.Lines.{IsInFont, line_of};
 
+use crate::causes::{Cause, StemPlace, add_causes};
+use crate::directions::Directions;
 use crate::marks::{FaultMark, Marks};
+use crate::one_fault::fault_alone;
 use crate::run::Run;
 use crate::texts::{add_line, written_line};
-use crate::view::View;
+use crate::view::{Shown, View};
 use std::alloc::{AllocError, Global};
 use t1_font::Font;
 use t1_forms::Text;
 use t1_reason_texts::{ReasonText, says_more};
 use t1_reasons::{GlyphReasons, Reason};
 use t1_report::{Fault, UnitFaults, Waivers, write_fault};
-use t1_rules::Rule;
+use t1_rules::{Point, Rule};
 
-/// The faults that are marked.
+/// The faults that are shown.
 #[derive(Drop)]
 pub(crate) struct Faults {
     pub(crate) marks: Vec<FaultMark>,
+    /// What their reasons name.
+    pub(crate) causes: Vec<Cause>,
     /// Their lines, as t1check writes them, without ends; after each why its rule is broken, if that says more.
     pub(crate) lines: Vec<String>,
     /// How many faults aren't marked, since they are waived.
     pub(crate) waived: u64,
 }
 
+/// What faults draw.
+#[derive(Clone, Copy)]
+pub(crate) struct FaultLayers<'a> {
+    pub(crate) marks: &'a [FaultMark],
+    /// What their reasons name.
+    pub(crate) causes: &'a [Cause],
+    /// The outlines of the components among that, as data of a path.
+    pub(crate) components: &'a str,
+}
+
 impl Faults {
-    /// Those of a glyph, up to the last step that is drawn.
-    pub(crate) fn of(alloc: Global, view: &View<'_>) -> Result<Faults, AllocError>
-        requires { CanBeDrawn view.now }
+    /// Those that a view shows, given what the positions of its glyph's stems count from.
+    pub(crate) fn of(alloc: Global, view: &View<'_>, start: Point) -> Result<Faults, AllocError>
+        requires view { CanBeDrawn view.now }
+        requires start { start ≡ start_of (own_part (subject_of view.now)) }
         ensures { IfOk result (λ faults. AreFaultsOf (subject_of view.now) (faults_view faults)) }
+    {
+        match &view.shown {
+            Shown::Fault(fault) => fault_alone(alloc, view, start, fault),
+            Shown::All | Shown::UpTo(_) => Faults::of_glyph(alloc, view, start),
+        }
+    }
+
+    /// What they draw, with the outlines of the components among what their reasons name.
+    pub(crate) fn layers<'a>(&'a self, components: &'a str) -> FaultLayers<'a>
+        ensures { fault_layers_view result
+            ≡ record { marks = self.now.marks.items; causes = self.now.causes.items; components = components.now } }
+    {
+        FaultLayers {
+            marks: self.marks.as_slice(),
+            causes: self.causes.as_slice(),
+            components,
+        }
+    }
+
+    /// Those of a glyph, up to the last step that is drawn.
+    fn of_glyph(alloc: Global, view: &View<'_>, start: Point) -> Result<Faults, AllocError>
+        requires view { CanBeDrawn view.now }
+        requires start { start ≡ start_of (own_part (subject_of view.now)) }
+        ensures { IfOk result (λ faults. AreGlyphFaults (subject_of view.now) (faults_view faults)) }
     {
         let unit = unit_of(view);
         let mut marks = Marks::new(alloc);
+        let mut causes = Vec::new(alloc);
         let mut lines = Vec::new(alloc);
-        add_faults(alloc, view, unit, &mut marks, &mut lines)?;
+        add_faults(alloc, view, start, &mut marks, &mut causes, &mut lines)?;
         Ok(Faults {
             marks: marks.finish()?,
+            causes,
             lines,
             waived: waived_faults(view, unit),
         })
     }
 }
 
-/// Adds the marks of the faults of a glyph, by its unit, and their lines, up to the last step that is drawn.
+/// Adds the marks of the faults of a glyph, what their reasons name, and their lines, up to the last step that is drawn.
 fn add_faults(
     alloc: Global,
     view: &View<'_>,
-    unit: u32,
+    start: Point,
     marks: &mut Marks,
+    causes: &mut Vec<Cause>,
     lines: &mut Vec<String>,
 ) -> Result<(), AllocError>
     requires view { CanBeDrawn view.now }
-    requires unit { unit ≡ view.now.glyph + 1 }
+    requires start { start ≡ start_of (own_part (subject_of view.now)) }
     requires marks { marks.old.done.items ≡ [] }
     requires last { marks.old.last ≡ None }
+    requires causes { causes.old.items ≡ [] }
     requires lines { lines.old.items ≡ [] }
-    ensures { OnOk result (AreAdded (subject_of view.now) marks.new (texts_of lines.new.items)) }
+    ensures { OnOk result (AreAdded (subject_of view.now) marks.new causes.new.items (texts_of lines.new.items)) }
 {
+    let unit = unit_of(view);
     let mut course = UnitFaults::of(view.font, view.sidebearings, view.waivers, unit);
     let mut run = Run::start(view.font, view.glyph, view.edition());
     let mut reasons = GlyphReasons::start(view.font, view.glyph, view.edition());
+    let mut directions = Directions::start(view.font, view.glyph, view.edition());
     for _fault in 0..u64::MAX {
         let Some(fault) = course.next() else {
             return Ok(());
@@ -78,6 +125,8 @@ fn add_faults(
         run.go_to(fault.step.saturating_sub(1));
         marks.mark(run.point(), fault.number)?;
         let reason = reasons.reason(view.sidebearings, fault.step, fault.rule);
+        let place = StemPlace::of(view, start, directions.at(fault.step));
+        add_causes(place, fault.rule, reason, causes)?;
         add_lines(alloc, view, &fault, reason, lines)?;
     }
     Ok(())
@@ -91,7 +140,7 @@ fn is_drawn(step: u32, last: u64) -> bool
 }
 
 /// Adds the line of a fault, and why its rule is broken.
-fn add_lines(
+pub(crate) fn add_lines(
     alloc: Global,
     view: &View<'_>,
     fault: &Fault,

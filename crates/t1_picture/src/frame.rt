@@ -2,7 +2,7 @@
 
 ghost use Rattle.std.specs.Prelude.{◌≡◌, ◌-ℤ◌};
 ghost use Rattle.t1_picture.specs.Bounds.{kept};
-ghost use Rattle.t1_picture.specs.Frames.{count_above, count_below, count_of, edge_above, edge_below, fits, frame_by, frame_of, frame_with, height_of, legend_left_of, legend_line_of, length_of, opposite, power_for, units_of, width_of};
+ghost use Rattle.t1_picture.specs.Frames.{count_above, count_below, count_of, edge_above, edge_below, fits, from_bottom, from_left, from_right, from_top, frame_by, frame_of, frame_with, height_of, legend_left_of, legend_line_of, length_of, opposite, power_for, units_of, width_of};
 
 use crate::bounds::Bounds;
 use t1_reason_texts::{Exact, coordinate};
@@ -77,6 +77,34 @@ impl Frame {
         ensures { result ≡ units_of self.now count }
     {
         count.saturating_mul(1i64.wrapping_shl(self.power))
+    }
+
+    /// So many units from the left edge, to the right, in units of 1/65536.
+    pub(crate) fn from_left(&self, count: i64) -> i64
+        ensures { result ≡ from_left self.now count }
+    {
+        self.units(self.left.saturating_add(count))
+    }
+
+    /// So many units from the lower edge, upwards.
+    pub(crate) fn from_bottom(&self, count: i64) -> i64
+        ensures { result ≡ from_bottom self.now count }
+    {
+        self.units(self.bottom.saturating_add(count))
+    }
+
+    /// So many units from the right edge, to the left.
+    pub(crate) fn from_right(&self, count: i64) -> i64
+        ensures { result ≡ from_right self.now count }
+    {
+        self.units(self.right.saturating_sub(count))
+    }
+
+    /// So many units from the upper edge, downwards.
+    pub(crate) fn from_top(&self, count: i64) -> i64
+        ensures { result ≡ from_top self.now count }
+    {
+        self.units(self.top.saturating_sub(count))
     }
 
     /// So many units, as they are written.

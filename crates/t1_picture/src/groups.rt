@@ -4,14 +4,18 @@ ghost use Rattle.std.specs.Prelude.{◌≡◌, ◌++◌, OnOk, string_bytes};
 ghost use Rattle.std.specs.List.{flat_map};
 ghost use Rattle.t1_picture.specs.Bands.{band_text};
 ghost use Rattle.t1_picture.specs.Layers.{layers_view};
-ghost use Rattle.t1_picture.specs.Pictures.{back_text, base_line, drawing_start, drawing_text, front_text, handles_start, lines_part, lines_start, mark_at, marks_part, marks_start, metrics_text, open_start, open_text, outline_part, outline_start, path_text, place_line, points_part, stems_part, stems_start, stretch_start, stretch_text, zones_part, zones_start};
+ghost use Rattle.t1_picture.specs.Marks.{fault_layers_view};
+ghost use Rattle.t1_picture.specs.Pictures.{back_text, base_line, drawing_start, drawing_text, faults_part, front_text, handles_start, lines_part, lines_start, mark_at, marks_part, marks_start, metrics_text, open_start, open_text, outline_part, outline_start, path_text, place_line, points_part, stems_part, stems_start, stretch_start, stretch_text, zones_part, zones_start};
 
 use crate::bands::{Band, write_upright_line, write_zones};
+use crate::cause_groups::{write_cause_lines, write_cause_points, write_causes};
+use crate::causes::Cause;
 use crate::drawing::Drawing;
+use crate::faults::FaultLayers;
 use crate::frame::Frame;
 use crate::layers::{Layers, write_mark};
 use crate::marks::FaultMark;
-use crate::texts::{END, push};
+use crate::texts::{END, END_OF_DATA, push};
 use std::alloc::AllocError;
 use t1_font::Font;
 use t1_outline::Metrics;
@@ -48,10 +52,6 @@ const POINTS: &str = r#"<g id="points" fill="black">
 const CONTROLS: &str = r#"<g id="controls" fill="white" stroke="black">
 "#;
 
-/// What is after the data of a path.
-const END_OF_DATA: &str = r#""/>
-"#;
-
 /// The width of most lines.
 const THIN: i64 = 1;
 
@@ -71,14 +71,16 @@ pub(crate) fn write_drawing(
     frame: &Frame,
     font: &Font<'_>,
     drawing: &Drawing,
-    marks: &[FaultMark],
+    faults: &FaultLayers<'_>,
 ) -> Result<(), AllocError>
     ensures { OnOk result (string_bytes svg.new ≡ string_bytes svg.old
-        ++ drawing_text frame.now font.now (layers_view drawing.now.layers) drawing.now.composition.metrics marks.now) }
+        ++ drawing_text frame.now font.now (layers_view drawing.now.layers) drawing.now.composition.metrics
+        (fault_layers_view faults.now)) }
 {
     start_drawing(svg, frame.length(THIN))?;
-    write_back(svg, frame, font, drawing)?;
-    write_front(svg, frame, drawing, marks)?;
+    write_back(svg, frame, font, drawing, faults.causes)?;
+    write_front(svg, frame, &drawing.layers)?;
+    write_faults(svg, frame, faults)?;
     push(svg, END)
 }
 
@@ -89,32 +91,34 @@ fn write_back(
     frame: &Frame,
     font: &Font<'_>,
     drawing: &Drawing,
+    causes: &[Cause],
 ) -> Result<(), AllocError>
     ensures { OnOk result (string_bytes svg.new ≡ string_bytes svg.old
-        ++ back_text frame.now font.now (layers_view drawing.now.layers) drawing.now.composition.metrics) }
+        ++ back_text frame.now font.now (layers_view drawing.now.layers) drawing.now.composition.metrics causes.now) }
 {
     write_zones_part(svg, frame, font)?;
     write_stems(svg, frame, drawing.layers.bands.as_slice())?;
+    write_causes(svg, frame, causes)?;
     write_lines(svg, frame, drawing.composition.metrics)
 }
 
-/// Writes the outline, its points, and the marks.
+/// Writes the outline and its points.
 #[tactic(auto, unfolding(crate::specs::Pictures::front_text))]
-fn write_front(
-    svg: &mut String,
-    frame: &Frame,
-    drawing: &Drawing,
-    marks: &[FaultMark],
-) -> Result<(), AllocError>
-    ensures { OnOk result (string_bytes svg.new ≡ string_bytes svg.old ++ front_text frame.now (layers_view drawing.now.layers) marks.now) }
+fn write_front(svg: &mut String, frame: &Frame, layers: &Layers) -> Result<(), AllocError>
+    ensures { OnOk result (string_bytes svg.new ≡ string_bytes svg.old ++ front_text frame.now (layers_view layers.now)) }
 {
-    write_outline(svg, frame, &drawing.layers)?;
-    write_points(
-        svg,
-        drawing.layers.points.as_str(),
-        drawing.layers.controls.as_str(),
-    )?;
-    write_marks(svg, frame, marks)
+    write_outline(svg, frame, layers)?;
+    write_points(svg, layers.points.as_str(), layers.controls.as_str())
+}
+
+/// Writes what faults draw upon it.
+#[tactic(auto, unfolding(crate::specs::Pictures::faults_part))]
+fn write_faults(svg: &mut String, frame: &Frame, faults: &FaultLayers<'_>) -> Result<(), AllocError>
+    ensures { OnOk result (string_bytes svg.new ≡ string_bytes svg.old ++ faults_part frame.now (fault_layers_view faults.now)) }
+{
+    write_cause_lines(svg, frame, faults.causes, faults.components)?;
+    write_cause_points(svg, frame, faults.causes)?;
+    write_marks(svg, frame, faults.marks)
 }
 
 fn start_drawing(svg: &mut String, thin: Exact) -> Result<(), AllocError>

@@ -2,7 +2,8 @@
 
 ghost use Rattle.std.specs.Prelude.{◌≡◌, ◌++◌, OnOk, string_bytes};
 ghost use Rattle.t1_picture.specs.Drawings.{texts_of};
-ghost use Rattle.t1_picture.specs.Pictures.{circles_text, clip_text, columns_from, defs_text, ground_part, ground_text, head_by, head_text, letters_of, plane_text, size_text, square_text, svg_start, title_text, view_box_text};
+ghost use Rattle.t1_picture.specs.CauseTexts.{cross_text, end_text};
+ghost use Rattle.t1_picture.specs.Pictures.{cause_forms, circles_text, clip_text, columns_from, defs_text, ground_part, ground_text, head_by, head_text, letters_of, plane_text, size_text, square_text, svg_start, title_text, view_box_text};
 
 use crate::frame::Frame;
 use crate::marks::MARK;
@@ -16,6 +17,9 @@ const HEAD: &str = r#"<?xml version="1.0" encoding="UTF-8"?>
 
 /// Half the side of the square of a point, and the radius of the circle of a control point, in units of the frame.
 const POINT: i64 = 4;
+
+/// Half the side of the square of an end of an open path.
+const END_POINT: i64 = 7;
 
 /// Writes what is before the drawing: the size, the title, and the forms of points and marks.
 pub(crate) fn write_head(
@@ -148,6 +152,7 @@ fn write_defs(svg: &mut String, frame: &Frame) -> Result<(), AllocError>
     push(svg, "<defs>\n")?;
     write_square(svg, frame.length(POINT))?;
     write_circle_forms(svg, frame.length(POINT), frame.length(MARK))?;
+    write_cause_forms(svg, frame.length(MARK), frame.length(END_POINT))?;
     write_clip(
         svg,
         frame.left(),
@@ -174,6 +179,33 @@ fn write_circle_forms(svg: &mut String, size: Exact, radius: Exact) -> Result<()
         svg,
         r#"<circle id="off" r="{size}"/>
 <circle id="mark" r="{radius}"/>"#
+    )
+}
+
+/// Writes the forms of what reasons name.
+#[tactic(auto, unfolding(crate::specs::Pictures::cause_forms))]
+fn write_cause_forms(svg: &mut String, cross: Exact, end: Exact) -> Result<(), AllocError>
+    ensures { OnOk result (string_bytes svg.new ≡ string_bytes svg.old ++ cause_forms cross end) }
+{
+    write_cross(svg, cross)?;
+    write_end(svg, end)
+}
+
+fn write_cross(svg: &mut String, size: Exact) -> Result<(), AllocError>
+    ensures { OnOk result (string_bytes svg.new ≡ string_bytes svg.old ++ cross_text size) }
+{
+    writeln!(
+        svg,
+        r#"<path id="cross" d="M-{size} 0H{size}M0 -{size}V{size}"/>"#
+    )
+}
+
+fn write_end(svg: &mut String, size: Exact) -> Result<(), AllocError>
+    ensures { OnOk result (string_bytes svg.new ≡ string_bytes svg.old ++ end_text size) }
+{
+    writeln!(
+        svg,
+        r#"<path id="end" d="M-{size} -{size}H{size}V{size}H-{size}Z"/>"#
     )
 }
 

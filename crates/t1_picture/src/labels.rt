@@ -1,12 +1,14 @@
-//! What is written upright: the numbers of the marks, and the legend.
+//! What is written upright: the numbers of the marks and of edges, and the legend.
 
 ghost use Rattle.std.specs.Prelude.{◌≡◌, ◌++◌, OnOk, string_bytes};
 ghost use Rattle.std.specs.List.{flat_map};
 ghost use Rattle.t1_picture.specs.Drawings.{texts_of};
-ghost use Rattle.t1_picture.specs.Pictures.{legend_line_text, legend_lines, legend_start, legend_text, line_start, number_at, number_text, numbers_start, numbers_text, one_number, two_numbers};
+ghost use Rattle.t1_picture.specs.Marks.{fault_layers_view};
+ghost use Rattle.t1_picture.specs.Pictures.{labels_text, legend_line_text, legend_lines, legend_start, legend_text, line_start, number_at, number_text, numbers_start, numbers_text, one_number, two_numbers};
 
+use crate::cause_groups::write_edges;
+use crate::faults::FaultLayers;
 use crate::frame::Frame;
-use crate::legend::legend;
 use crate::marks::{FaultMark, MARK};
 use crate::texts::{END, push, push_escaped};
 use std::alloc::AllocError;
@@ -15,13 +17,25 @@ use t1_reason_texts::{Exact, coordinate};
 /// The height of letters.
 const LETTERS: i64 = 16;
 
-/// Writes the numbers of the marks, y downwards.
-#[tactic(auto, unfolding(crate::specs::Pictures::numbers_text))]
-pub(crate) fn write_numbers(
+/// Writes the numbers of marks and edges, and the legend.
+#[tactic(auto, unfolding(crate::specs::Pictures::labels_text))]
+pub(crate) fn write_labels(
     svg: &mut String,
     frame: &Frame,
-    marks: &[FaultMark],
+    faults: &FaultLayers<'_>,
+    lines: &[String],
 ) -> Result<(), AllocError>
+    ensures { OnOk result (string_bytes svg.new ≡ string_bytes svg.old
+        ++ labels_text frame.now (fault_layers_view faults.now) (texts_of lines.now)) }
+{
+    write_numbers(svg, frame, faults.marks)?;
+    write_edges(svg, frame, faults.causes)?;
+    write_legend(svg, frame, lines)
+}
+
+/// Writes the numbers of the marks, y downwards.
+#[tactic(auto, unfolding(crate::specs::Pictures::numbers_text))]
+fn write_numbers(svg: &mut String, frame: &Frame, marks: &[FaultMark]) -> Result<(), AllocError>
     ensures { OnOk result (string_bytes svg.new ≡ string_bytes svg.old ++ numbers_text frame.now marks.now) }
 {
     start_numbers(svg, frame.length(LETTERS))?;
@@ -95,11 +109,7 @@ fn write_two_numbers(
 
 /// Writes the lines below the drawing.
 #[tactic(auto, unfolding(crate::specs::Pictures::legend_text))]
-pub(crate) fn write_legend(
-    svg: &mut String,
-    frame: &Frame,
-    lines: &[String],
-) -> Result<(), AllocError>
+fn write_legend(svg: &mut String, frame: &Frame, lines: &[String]) -> Result<(), AllocError>
     ensures { OnOk result (string_bytes svg.new ≡ string_bytes svg.old ++ legend_text frame.now (texts_of lines.now)) }
 {
     start_legend(svg, frame.length(LETTERS))?;

@@ -207,7 +207,7 @@ fn write_thick(text: &mut String, before: &Subpath, segment: Segment) -> Result<
 }
 
 /// Writes a straight stretch as data of a path.
-fn write_stretch(text: &mut String, from: Point, to: Point) -> Result<(), AllocError>
+pub(crate) fn write_stretch(text: &mut String, from: Point, to: Point) -> Result<(), AllocError>
     ensures { OnOk result (string_bytes text.new ≡ string_bytes text.old ++ stretch_text from to) }
 {
     let start = Coordinates(from);

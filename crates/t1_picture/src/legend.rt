@@ -2,20 +2,22 @@
 
 ghost use Rattle.std.specs.Prelude.{◌≡◌, ◌++◌, IfOk, OnOk, codes, nat_lt, not, option_map, string_bytes};
 ghost use Rattle.t1_picture.specs.Drawings.{drawing_view, texts_of};
-ghost use Rattle.t1_picture.specs.Legends.{is_empty, legend_of, lines_or_none, no_fault, step_line, step_lines, title_line, title_of, waived_line};
+ghost use Rattle.t1_picture.specs.Legends.{heading_of, is_empty, legend_of, lines_or_none, no_fault, step_line, step_lines, title_line, title_of, waived_line};
 ghost use Rattle.t1_picture.specs.Marks.{faults_view};
 ghost use Rattle.t1_picture.specs.Parts.{note_if};
-ghost use Rattle.t1_picture.specs.Subjects.{subject_of};
+ghost use Rattle.t1_picture.specs.Subjects.{shown_value, subject_of};
 
 use crate::drawing::Drawing;
 use crate::faults::Faults;
 use crate::texts::add_line;
-use crate::view::View;
+use crate::view::{Shown, View};
 use std::alloc::{AllocError, Global};
 use t1_char::Edition;
 
 /// What is above the lines of faults.
-const NUMBERS: &str = "faults, by numbers that count in this glyph:";
+const IN_GLYPH: &str = "faults, by numbers that count in this glyph:";
+
+const IN_REPORT: &str = "fault, by its number in the report:";
 
 /// The lines of the legend: what is drawn, what isn't, and the faults. Notes and faults give theirs away.
 pub(crate) fn legend(
@@ -31,14 +33,16 @@ pub(crate) fn legend(
     ensures layers { drawing.new.layers ≡ drawing.old.layers }
     ensures composition { drawing.new.composition ≡ drawing.old.composition }
     ensures marks { faults.new.marks ≡ faults.old.marks }
+    ensures causes { faults.new.causes ≡ faults.old.causes }
 {
     let mut lines = Vec::new(alloc);
     lines.push(title_line(alloc, view.edition(), title)?)?;
-    add_step(alloc, view.step, &drawing.last_step, &mut lines)?;
+    add_step(alloc, view.step(), &drawing.last_step, &mut lines)?;
     lines.append(&mut drawing.notes)?;
     add_dashed(alloc, drawing.layers.unclosed.as_str(), &mut lines)?;
     add_waived(alloc, faults.waived, &mut lines)?;
-    add_faults(alloc, faults.waived, &mut faults.lines, &mut lines)?;
+    let heading = heading(&view.shown);
+    add_faults(alloc, heading, faults.waived, &mut faults.lines, &mut lines)?;
     Ok(lines)
 }
 
@@ -105,18 +109,29 @@ fn add_waived(alloc: Global, waived: u64, lines: &mut Vec<String>) -> Result<(),
 /// Adds the faults, whose lines are given away, or that there is none, beside those that are waived.
 fn add_faults(
     alloc: Global,
+    heading: &str,
     waived: u64,
     faults: &mut Vec<String>,
     lines: &mut Vec<String>,
 ) -> Result<(), AllocError>
-    ensures { OnOk result (texts_of lines.new.items ≡ texts_of lines.old.items ++ lines_or_none waived (texts_of faults.old.items)) }
+    ensures { OnOk result (texts_of lines.new.items ≡ texts_of lines.old.items ++ lines_or_none heading.now waived (texts_of faults.old.items)) }
 {
     if faults.len() == 0 {
         return add_line(lines, String::from_str(alloc, no_fault(waived))?);
     }
-    add_line(lines, String::from_str(alloc, NUMBERS)?)?;
+    add_line(lines, String::from_str(alloc, heading)?)?;
     lines.append(faults)?;
     Ok(())
+}
+
+/// What is above the lines of faults: what their numbers count.
+fn heading(shown: &Shown) -> &'static str
+    ensures { result.now ≡ heading_of (shown_value shown.now) }
+{
+    match shown {
+        Shown::Fault(_) => IN_REPORT,
+        Shown::All | Shown::UpTo(_) => IN_GLYPH,
+    }
 }
 
 /// That there is no fault, or no other one.

@@ -16,13 +16,17 @@
 //! ```
 //! let sidebearings = Sidebearings::prepare(alloc, font, Edition::One)?;
 //! let waivers = Waivers::none();
-//! let view = View { font, sidebearings: &sidebearings, waivers: &waivers, glyph: 0, step: None };
+//! let view = View { font, sidebearings: &sidebearings, waivers: &waivers, glyph: 0, shown: Shown::All };
 //! println!(rt; "{}", picture(alloc, &view)?)?;
 //! ```
 #![tactic(auto)]
 
 mod bands;
 mod bounds;
+mod cause_groups;
+mod causes;
+mod component_outlines;
+mod directions;
 mod drawing;
 mod faults;
 mod frame;
@@ -33,6 +37,7 @@ mod laws;
 mod layers;
 mod legend;
 mod marks;
+mod one_fault;
 mod parts;
 mod run;
 mod subpath;
@@ -42,4 +47,4 @@ mod view;
 
 pub use laws::{a_subject_has_one_picture, outlines_are_drawn, texts_stay_in_their_elements};
 pub use svg::picture;
-pub use view::View;
+pub use view::{Shown, View};

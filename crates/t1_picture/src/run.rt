@@ -82,6 +82,13 @@ impl<'a> Run<'a> {
         }
     }
 
+    /// How many steps were requested.
+    pub(crate) fn counted(&self) -> u32
+        ensures { result ≡ self.now.counted }
+    {
+        self.machine.counted()
+    }
+
     /// The step that was executed last.
     pub(crate) fn step(&self) -> &Step
         ensures value { step_value result.now ≡ self.now.step }

@@ -4,19 +4,21 @@ ghost use Rattle.std.specs.Prelude.{◌≡◌, IfOk, string_bytes};
 ghost use Rattle.t1_picture.specs.Drawings.{drawing_view, texts_of};
 ghost use Rattle.t1_picture.specs.Layers.{layers_view};
 ghost use Rattle.t1_picture.specs.Legends.{title_of};
-ghost use Rattle.t1_picture.specs.Marks.{faults_view};
+ghost use Rattle.t1_picture.specs.Marks.{fault_layers_view, faults_view};
 ghost use Rattle.t1_picture.specs.Pictures.{IsPictureOf, bounds_of, svg_text, with_all_bands, with_marks};
 ghost use Rattle.t1_picture.specs.Subjects.{subject_of};
 ghost use Rattle.t1_picture.specs.Views.{CanBeDrawn};
 
 use crate::bands::Band;
 use crate::bounds::Bounds;
+use crate::cause_groups::widen_by_causes;
+use crate::component_outlines::component_outlines;
 use crate::drawing::Drawing;
-use crate::faults::Faults;
+use crate::faults::{FaultLayers, Faults};
 use crate::frame::Frame;
 use crate::groups::write_drawing;
 use crate::head::write_head;
-use crate::labels::{write_legend, write_numbers};
+use crate::labels::write_labels;
 use crate::legend::legend;
 use crate::marks::FaultMark;
 use crate::texts::{legible, push};
@@ -35,18 +37,25 @@ pub fn picture(alloc: Global, view: &View<'_>) -> Result<String, AllocError>
     let _few_glyphs = view.font.glyphs();
     let _few_waivers = view.waivers.len();
     let mut drawing = Drawing::of(alloc, view)?;
-    let mut faults = Faults::of(alloc, view)?;
+    let mut faults = Faults::of(alloc, view, drawing.start())?;
+    let components = component_outlines(
+        alloc,
+        view,
+        &drawing.composition,
+        faults.causes.as_slice(),
+    )?;
     let bounds = bounds_of(&drawing, &faults);
     let frame = Frame::of(&bounds);
     let title = title(alloc, view)?;
     let lines = legend(alloc, view, title.as_str(), &mut drawing, &mut faults)?;
+    let layers = faults.layers(components.as_str());
     svg(
         alloc,
         &frame,
         view.font,
         title.as_str(),
         &drawing,
-        faults.marks.as_slice(),
+        &layers,
         lines.as_slice(),
     )
 }
@@ -59,18 +68,17 @@ fn svg(
     font: &Font<'_>,
     title: &str,
     drawing: &Drawing,
-    marks: &[FaultMark],
+    faults: &FaultLayers<'_>,
     lines: &[String],
 ) -> Result<String, AllocError>
     ensures { IfOk result (λ text. string_bytes text
-        ≡ svg_text frame.now font.now title.now (layers_view drawing.now.layers) drawing.now.composition.metrics marks.now
-        (texts_of lines.now)) }
+        ≡ svg_text frame.now font.now title.now (layers_view drawing.now.layers) drawing.now.composition.metrics
+        (fault_layers_view faults.now) (texts_of lines.now)) }
 {
     let mut svg = String::new(alloc);
     write_head(&mut svg, frame, title, lines)?;
-    write_drawing(&mut svg, frame, font, drawing, marks)?;
-    write_numbers(&mut svg, frame, marks)?;
-    write_legend(&mut svg, frame, lines)?;
+    write_drawing(&mut svg, frame, font, drawing, faults)?;
+    write_labels(&mut svg, frame, faults, lines)?;
     push(&mut svg, "</svg>\n")?;
     Ok(svg)
 }
@@ -83,7 +91,7 @@ fn title(alloc: Global, view: &View<'_>) -> Result<String, AllocError>
     format!(in alloc; "glyph {name}")
 }
 
-/// How far the drawing reaches, with bands, sidebearing, width and marks.
+/// How far the drawing reaches, with bands, sidebearing, width, marks, and what reasons name.
 fn bounds_of(drawing: &Drawing, faults: &Faults) -> Bounds
     ensures { result ≡ bounds_of (drawing_view drawing.now) (faults_view faults.now) }
 {
@@ -94,6 +102,7 @@ fn bounds_of(drawing: &Drawing, faults: &Faults) -> Bounds
         bounds.take_x(i64::from(metrics.width));
     }
     widen_by_marks(&mut bounds, faults.marks.as_slice());
+    widen_by_causes(&mut bounds, faults.causes.as_slice());
     bounds
 }
 

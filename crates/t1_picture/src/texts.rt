@@ -10,6 +10,10 @@ use t1_forms::shown;
 /// The end of a group.
 pub(crate) const END: &str = "</g>\n";
 
+/// What is after the data of a path.
+pub(crate) const END_OF_DATA: &str = r#""/>
+"#;
+
 /// A name, or a line with one, as text that XML can hold: as t1_forms shows names, and the two characters U+FFFE and U+FFFF by
 /// their bytes.
 pub(crate) fn legible(alloc: Global, bytes: &[u8]) -> Result<String, AllocError>

@@ -1,5 +1,5 @@
 -- No text has a byte below 32 or a colon.
-use Rattle.std.proofs.Common.{◌≡◌, ◌==◌, ◌∙◌, ◌++◌, not, if◌then◌else◌, ℕ, ℤ, Bool, true, false, Option, Some, None, List, [], ◌∷◌, nat_lt, refl, codes}
+use Rattle.std.proofs.Common.{◌≡◌, ◌==◌, ◌∙◌, ◌++◌, ◌&&◌, not, if◌then◌else◌, int_lt, pos, ℕ, ℤ, Bool, true, false, Option, Some, None, List, [], ◌∷◌, nat_lt, refl, codes}
 use Rattle.std.specs.Int.{is_negative}
 use Rattle.std.specs.List.{list_all}
 use Rattle.std.proofs.lemmas.List.Folds.{list_all-append}
@@ -15,7 +15,7 @@ use Rattle.t1_reasons.specs.declared.reason.EntryKind.{EntryKind}
 use Rattle.t1_reasons.specs.declared.reason.EntryKind.TheVariants.{Number as OneNumber, Numbers as ManyNumbers}
 use Rattle.t1_reasons.specs.declared.reason.Found.{Found}
 use Rattle.t1_reasons.specs.declared.reason.Found.TheVariants.{Absent, One, Other, Several}
-use Rattle.t1_reasons.specs.declared.reason.Reason.TheVariants.{Argument, Arguments, Behind, Code, Codes, Count, Depth, Ending, Entry, Following, Features, Form, Full, Gap, Glyph, Glyphs, Ids, Kind, Length, Limit, Miss, Nothing, Numbers, Open, Othersubr, Pairs, Quotient, Sidebearings, Since, Stem, Stems, Subr, SubrEntry, Token, TooMany, Triple, Waiver, Width, Zone, Zones}
+use Rattle.t1_reasons.specs.declared.reason.Reason.TheVariants.{Argument, Arguments, Behind, Code, Codes, Corners, Count, Depth, Ending, Entry, Following, Features, Form, Full, Gap, Glyph, Glyphs, Ids, Kind, LastToken, Length, Limit, Miss, Nothing, Number as InList, Numbers, Open, Othersubr, Pairs, Quotient, Sidebearings, Since, Stem, Stems, Subr, SubrEntry, Token, TooMany, Triple, Waiver, Width, Zone, Zones}
 use Rattle.t1_reasons.specs.declared.reason.SetStem.{SetStem}
 use Rattle.t1_reasons.specs.Remedies.{fuzz_for_all, fuzz_for_both, scale_for_all}
 use Rattle.t1_reasons.specs.declared.waivers.Unused.{Unused}
@@ -23,15 +23,15 @@ use Rattle.t1_reasons.specs.declared.waivers.Unused.TheVariants.{NoGlyph, Unbrok
 use Rattle.t1_rules.specs.declared.rule.Rule.{Rule}
 use Rattle.t1_rules.specs.declared.step_rules.flex.Point.{Point}
 use Rattle.t1_rules.specs.declared.step_rules.stems.Stem.{Stem as OneStem}
-use Rattle.t1_rules.specs.declared.rule.Rule.TheVariants.{F03, K01, K03, O03, W02, X02}
+use Rattle.t1_rules.specs.declared.rule.Rule.TheVariants.{F03, F15, F19, H07, K01, K03, O03, W02, X02, Z12, Z13}
 use Rattle.t1_reason_texts.specs.Decimals.{point_text}
-use Rattle.t1_reason_texts.specs.FontTexts.{code_names_text, counts_numbers, encoded_name, entry_name, entry_needed, entry_text, features_text, form_text, found_text, glyphs_text, ids_text, kind_text, past_words, several_text, subr_entry_text, twice_words, two_features_text, unused_text, value_text, wanted_words}
+use Rattle.t1_reason_texts.specs.FontTexts.{absent_needed, code_names_text, corners_text, count_needed, counts_numbers, encoded_name, ends_text, entry_name, entry_needed, entry_text, features_text, form_text, found_text, glyphs_text, ids_text, is_short, kind_text, kind_words, list_text, lists_numbers, past_words, several_text, subr_entry_text, twice_words, two_features_text, unused_text, value_text, wanted_words}
 use Rattle.t1_reason_texts.specs.Laws.{AreOneLine, is_plain}
 use Rattle.t1_reason_texts.specs.SeacTexts.{both_text, code_text, is_meant, meant_text, name_of_code, name_words, named_code_text, sidebearings_text}
-use Rattle.t1_reason_texts.specs.StepTexts.{argument_text, arguments_there_text, behind_text, bound_words, call_text, call_words, comes_next, count_text, depth_text, ending_text, full_text, is_there, length_text, limit_text, middle_text, middles_text, miss_text, needed_pairs, off_words, open_text, or_more, pairs_text, part_words, quotient_text, since_after, since_before, since_none, since_text, span_text, stems_of_three, stems_text, subr_text, takes_words, there_text, token_text, triple_text, widths_text}
+use Rattle.t1_reason_texts.specs.StepTexts.{against_text, against_words, argument_text, arguments_there_text, behind_text, bound_words, call_text, call_words, comes_next, count_text, depth_text, ending_text, full_text, is_there, length_text, limit_text, middle_text, middles_text, miss_text, needed_pairs, off_words, open_text, or_more, overlap_text, pairs_text, part_words, position_text, quotient_text, says_overlap, says_width, since_after, since_before, since_none, since_text, span_text, stem_text, stems_of_three, stems_text, subr_text, takes_words, there_text, token_text, triple_text, width_of_text, widths_text}
 use Rattle.t1_reason_texts.specs.Texts.{reason_text}
 use Rattle.t1_reason_texts.specs.Words.{are_text, arguments_text, bytes_text, moves_text, numbers_text, points_text}
-use Rattle.t1_reason_texts.specs.ZoneTexts.{above_text, apart_by, below_one, below_text, does_words, edges_text, entry_does, falling_text, gap_text, height_text, meets_text, needed_text, too_many_text, width_text, zone_text, zones_text}
+use Rattle.t1_reason_texts.specs.ZoneTexts.{above_text, apart_by, below_one, below_text, does_words, edges_text, entry_does, falling_text, following_text, gap_text, height_text, meets_text, needed_text, number_after, number_before, number_text, says_twice, snap_does, snap_words, too_many_text, twice_text, wants_snap, width_text, zone_text, zones_text}
 use Rattle.t1_reason_texts.proofs.PlainParts.{append, either_same, plain_by, plain_command, plain_decimal, plain_either, plain_name, plain_signed}
 
 -- ---- words
@@ -147,9 +147,36 @@ plain_miss named pen = simp (list_all-append is_plain, plain_by)
 plain_span : (stem : OneStem) → list_all is_plain (span_text stem) ≡ true
 plain_span stem = simp (list_all-append is_plain, plain_by)
 
-plain_stems : (own : OneStem) (other : SetStem) → list_all is_plain (stems_text own other) ≡ true
-unfolding stems_text
-plain_stems own other = simp (plain_either, list_all-append is_plain, plain_by, plain_decimal, either_same)
+plain_overlap : (own : OneStem) (other : SetStem) → list_all is_plain (overlap_text own other) ≡ true
+unfolding overlap_text
+plain_overlap own other = simp (plain_either, list_all-append is_plain, plain_by, plain_decimal, either_same)
+
+plain_against_words : (rule : Rule) → list_all is_plain (against_words rule) ≡ true
+plain_against_words H07 = refl
+plain_against_words _ = refl
+
+plain_against : (rule : Rule) (own : OneStem) (other : SetStem) → list_all is_plain (against_text rule own other) ≡ true
+unfolding against_text
+plain_against rule own other = simp (list_all-append is_plain, plain_by, plain_decimal, plain_against_words)
+
+plain_stems_by : (b : Bool) (rule : Rule) (own : OneStem) (other : SetStem)
+    → list_all is_plain (if b then overlap_text own other else against_text rule own other) ≡ true
+plain_stems_by true rule own other = plain_overlap own other
+plain_stems_by false rule own other = plain_against rule own other
+
+plain_stems : (rule : Rule) (own : OneStem) (other : SetStem) → list_all is_plain (stems_text rule own other) ≡ true
+plain_stems rule own other = plain_stems_by (says_overlap rule) rule own other
+
+plain_width_of : (stem : OneStem) → list_all is_plain (width_of_text stem) ≡ true
+unfolding width_of_text
+plain_width_of stem = simp (list_all-append is_plain, plain_by)
+
+plain_stem_by : (b : Bool) (stem : OneStem) → list_all is_plain (if b then width_of_text stem else position_text stem) ≡ true
+plain_stem_by true stem = plain_width_of stem
+plain_stem_by false stem = plain_by 65536 stem.position
+
+plain_stem : (rule : Rule) (stem : OneStem) → list_all is_plain (stem_text rule stem) ≡ true
+plain_stem rule stem = plain_stem_by (says_width rule) stem
 
 plain_middles : (one two three : OneStem) → list_all is_plain (middles_text one two three) ≡ true
 unfolding middles_text
@@ -234,19 +261,34 @@ plain_entry_needed _ = refl
 plain_value : (number : ℤ) → list_all is_plain (value_text number) ≡ true
 plain_value number = plain_by 1000000000 number
 
-plain_counted : (b : Bool) (rule : Rule) (count : ℕ)
-    → list_all is_plain (if b then numbers_text count ++ entry_needed rule else entry_name rule ++ codes " is no number") ≡ true
-plain_counted true rule count = list_all-append is_plain (numbers_text count) (entry_needed rule) ∙ rw (plain_numbers count, plain_entry_needed rule) refl
-plain_counted false rule count = list_all-append is_plain (entry_name rule) (codes " is no number") ∙ rw (plain_entry_name rule) refl
+plain_absent : (rule : Rule) → list_all is_plain (absent_needed rule) ≡ true
+plain_absent Z12 = refl
+plain_absent _ = refl
+
+plain_count_needed : (rule : Rule) → list_all is_plain (count_needed rule) ≡ true
+plain_count_needed F15 = refl
+plain_count_needed _ = refl
+
+plain_kind_words : (rule : Rule) → list_all is_plain (kind_words rule) ≡ true
+plain_kind_words rule = simp (plain_either, either_same)
+
+plain_list : (rule : Rule) (count : ℕ) → list_all is_plain (list_text rule count) ≡ true
+plain_list rule count = simp (list_all-append is_plain, plain_entry_name, plain_numbers, plain_count_needed)
+
+plain_counted : (b d : Bool) (rule : Rule) (count : ℕ)
+    → list_all is_plain (if b then numbers_text count ++ entry_needed rule else (if d then list_text rule count else entry_name rule ++ codes " is no number")) ≡ true
+plain_counted true d rule count = list_all-append is_plain (numbers_text count) (entry_needed rule) ∙ rw (plain_numbers count, plain_entry_needed rule) refl
+plain_counted false true rule count = plain_list rule count
+plain_counted false false rule count = list_all-append is_plain (entry_name rule) (codes " is no number") ∙ rw (plain_entry_name rule) refl
 
 plain_several : (rule : Rule) (count : ℕ) → list_all is_plain (several_text rule count) ≡ true
-plain_several rule count = plain_counted (counts_numbers rule) rule count
+plain_several rule count = plain_counted (counts_numbers rule) (lists_numbers rule) rule count
 
 plain_entry : (rule : Rule) (found : Found) → list_all is_plain (entry_text rule found) ≡ true
-plain_entry rule Absent = simp (list_all-append is_plain, plain_entry_name)
+plain_entry rule Absent = simp (list_all-append is_plain, plain_entry_name, plain_absent)
 plain_entry rule (One number) = simp (list_all-append is_plain, plain_entry_name, plain_by, plain_entry_needed)
 plain_entry rule (Several count) = plain_several rule count
-plain_entry rule Other = simp (list_all-append is_plain, plain_entry_name)
+plain_entry rule Other = append (entry_name rule) (kind_words rule) (plain_entry_name rule) (plain_kind_words rule)
 
 plain_found : (found : Found) → list_all is_plain (found_text found) ≡ true
 plain_found Absent = refl
@@ -300,6 +342,17 @@ plain_past false size = refl
 plain_subr_entry : (number : ℕ) (twice is_past : Bool) (size : ℕ) → list_all is_plain (subr_entry_text number twice is_past size) ≡ true
 plain_subr_entry number twice is_past size = simp (list_all-append is_plain, plain_decimal, plain_twice, plain_past)
 
+plain_last_by : (b : Bool) (token : CharToken) → list_all is_plain (if b then codes "it is shorter than lenIV" else codes "it ends with " ++ token_text token) ≡ true
+plain_last_by true token = refl
+plain_last_by false token = plain_token token
+
+plain_ends : (token : Option CharToken) → list_all is_plain (ends_text token) ≡ true
+plain_ends None = refl
+plain_ends (Some token) = plain_last_by (is_short token) token
+
+plain_corners : (first last : ℤ) → list_all is_plain (corners_text first last) ≡ true
+plain_corners first last = simp (list_all-append is_plain, plain_by)
+
 -- ---- zones
 
 plain_too_many : (count most : ℕ) → list_all is_plain (too_many_text count most) ≡ true
@@ -307,6 +360,36 @@ plain_too_many count most = simp (list_all-append is_plain, plain_numbers, plain
 
 plain_falling : (before number : ℤ) → list_all is_plain (falling_text before number) ≡ true
 plain_falling before number = simp (list_all-append is_plain, plain_by)
+
+plain_following_by : (b : Bool) (before number : ℤ) → list_all is_plain (if b then twice_text number else falling_text before number) ≡ true
+plain_following_by true before number = simp (list_all-append is_plain, plain_by)
+plain_following_by false before number = plain_falling before number
+
+plain_following : (rule : Rule) (before number : ℤ) → list_all is_plain (following_text rule before number) ≡ true
+plain_following rule before number = plain_following_by (says_twice rule) before number
+
+plain_number_before : (rule : Rule) → list_all is_plain (number_before rule) ≡ true
+plain_number_before Z13 = refl
+plain_number_before _ = refl
+
+plain_number_after : (rule : Rule) → list_all is_plain (number_after rule) ≡ true
+plain_number_after F19 = refl
+plain_number_after _ = refl
+
+plain_snap_does : (number : ℤ) → list_all is_plain (snap_does number) ≡ true
+unfolding snap_does
+plain_snap_does number = simp (list_all-append is_plain, plain_by)
+
+plain_snap_by : (b : Bool) (number : ℤ) → list_all is_plain (if b then snap_does number else []) ≡ true
+plain_snap_by true number = plain_snap_does number
+plain_snap_by false number = refl
+
+plain_snap : (rule : Rule) (number : ℤ) → list_all is_plain (snap_words rule number) ≡ true
+plain_snap rule number = plain_snap_by (wants_snap rule && int_lt (pos 0) number) number
+
+plain_number : (rule : Rule) (number : ℤ) → list_all is_plain (number_text rule number) ≡ true
+unfolding number_text
+plain_number rule number = simp (list_all-append is_plain, plain_number_before, plain_by, plain_number_after, plain_snap)
 
 plain_distance : (distance : ℤ) → list_all is_plain (needed_text distance) ≡ true
 plain_distance distance = simp (list_all-append is_plain, plain_by)
@@ -386,8 +469,8 @@ are_one_line font rule (Subr number found) = plain_subr number found
 are_one_line font rule (Token token) = plain_there rule token
 are_one_line font rule (Since step) = plain_since rule step
 are_one_line font rule (Open start pen) = plain_open start pen
-are_one_line font rule (Stems own other) = plain_stems own other
-are_one_line font rule (Stem stem) = plain_by 65536 stem.position
+are_one_line font rule (Stems own other) = plain_stems rule own other
+are_one_line font rule (Stem stem) = plain_stem rule stem
 are_one_line font rule (Triple one two three) = plain_triple one two three
 are_one_line font rule (Miss named pen) = plain_miss named pen
 are_one_line font rule (Othersubr number count) = plain_call rule number count
@@ -406,7 +489,10 @@ are_one_line font rule (TooMany count most) = plain_too_many count most
 are_one_line font rule (Numbers count) = plain_numbers count
 are_one_line font rule (Glyph glyph) = plain_name (glyph_name font glyph)
 are_one_line font rule (Code code) = plain_code_names code (encoded_name font code)
-are_one_line font rule (Following before number) = plain_falling before number
+are_one_line font rule (Corners first last) = plain_corners first last
+are_one_line font rule (InList number) = plain_number rule number
+are_one_line font rule (LastToken token) = plain_ends token
+are_one_line font rule (Following before number) = plain_following rule before number
 are_one_line font rule (Gap top bottom distance) =
     append (gap_text top bottom distance) _ (plain_gap top bottom distance) (plain_does (codes "BlueFuzz") refl (fuzz_for_all font))
 are_one_line font rule (Zones own other distance) =

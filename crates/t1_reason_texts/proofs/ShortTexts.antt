@@ -1,5 +1,5 @@
 -- No text is longer than 400 bytes.
-use Rattle.std.proofs.Common.{◌≤◌, ◌^◌, ◌==◌, ◌++◌, ◌-ℤ◌, ◌+ℤ◌, ◌*ℤ◌, ◌≡◌, not, if◌then◌else◌, int_le, int_lt, ℕ, ℤ, pos, Bool, true, false, Option, Some, None, List, [], ◌∷◌, length, length-append, nat_lt, arith, codes, unsigned_abs, decimal}
+use Rattle.std.proofs.Common.{◌≤◌, ◌^◌, ◌==◌, ◌++◌, ◌-ℤ◌, ◌+ℤ◌, ◌*ℤ◌, ◌≡◌, ◌&&◌, not, if◌then◌else◌, int_le, int_lt, ℕ, ℤ, pos, Bool, true, false, Option, Some, None, List, [], ◌∷◌, length, length-append, nat_lt, arith, codes, unsigned_abs, decimal}
 use Rattle.std.specs.Int.{is_negative}
 use Rattle.std.specs.Ordering.{int_eq}
 use Rattle.std.proofs.lemmas.Int.{ints}
@@ -15,7 +15,7 @@ use Rattle.t1_reasons.specs.declared.reason.EntryKind.{EntryKind}
 use Rattle.t1_reasons.specs.declared.reason.EntryKind.TheVariants.{Number as OneNumber, Numbers as ManyNumbers}
 use Rattle.t1_reasons.specs.declared.reason.Found.{Found}
 use Rattle.t1_reasons.specs.declared.reason.Found.TheVariants.{Absent, One, Other, Several}
-use Rattle.t1_reasons.specs.declared.reason.Reason.TheVariants.{Argument, Arguments, Behind, Code, Codes, Count, Depth, Ending, Entry, Following, Features, Form, Full, Gap, Glyph, Glyphs, Ids, Kind, Length, Limit, Miss, Nothing, Numbers, Open, Othersubr, Pairs, Quotient, Sidebearings, Since, Stem, Stems, Subr, SubrEntry, Token, TooMany, Triple, Waiver, Width, Zone, Zones}
+use Rattle.t1_reasons.specs.declared.reason.Reason.TheVariants.{Argument, Arguments, Behind, Code, Codes, Corners, Count, Depth, Ending, Entry, Following, Features, Form, Full, Gap, Glyph, Glyphs, Ids, Kind, LastToken, Length, Limit, Miss, Nothing, Number as InList, Numbers, Open, Othersubr, Pairs, Quotient, Sidebearings, Since, Stem, Stems, Subr, SubrEntry, Token, TooMany, Triple, Waiver, Width, Zone, Zones}
 use Rattle.t1_reasons.specs.declared.reason.SetStem.{SetStem}
 use Rattle.t1_reasons.specs.Remedies.{fuzz_for_all, fuzz_for_both, scale_for_all}
 use Rattle.t1_reasons.specs.declared.waivers.Unused.{Unused}
@@ -23,18 +23,18 @@ use Rattle.t1_reasons.specs.declared.waivers.Unused.TheVariants.{NoGlyph, Unbrok
 use Rattle.t1_rules.specs.declared.rule.Rule.{Rule}
 use Rattle.t1_rules.specs.declared.step_rules.flex.Point.{Point}
 use Rattle.t1_rules.specs.declared.step_rules.stems.Stem.{Stem as OneStem}
-use Rattle.t1_rules.specs.declared.rule.Rule.TheVariants.{F03, K01, K03, O03, W02, X02}
-use Rattle.t1_reason_texts.specs.FontTexts.{code_names_text, counts_numbers, encoded_name, entry_name, entry_needed, entry_text, features_text, form_text, found_text, glyphs_text, ids_text, kind_text, past_words, subr_entry_text, twice_words, two_features_text, unused_text, value_text, wanted_words}
+use Rattle.t1_rules.specs.declared.rule.Rule.TheVariants.{F03, F15, F19, H07, K01, K03, O03, W02, X02, Z12, Z13}
+use Rattle.t1_reason_texts.specs.FontTexts.{absent_needed, code_names_text, corners_text, count_needed, counts_numbers, encoded_name, ends_text, entry_name, entry_needed, entry_text, features_text, form_text, found_text, glyphs_text, ids_text, is_short, kind_text, kind_words, list_text, lists_numbers, past_words, subr_entry_text, twice_words, two_features_text, unused_text, value_text, wanted_words}
 use Rattle.t1_reason_texts.specs.declared.decimals.Unit.TheVariants.{Coordinate}
 use Rattle.t1_reason_texts.specs.Decimals.{decimal_by, point_text, text_in}
 use Rattle.t1_reason_texts.specs.Laws.{AreShort, IsOfTypesDoes, IsOfTypesEdges, IsOfTypesStem, IsOfTypesZone}
 use Rattle.t1_reason_texts.specs.Names.{shown_name}
 use Rattle.t1_rules.specs.StepRules.Stems.{lower, twice_middle, upper}
 use Rattle.t1_reason_texts.specs.SeacTexts.{accent_text, both_text, code_text, is_meant, meant_text, name_of_code, name_words, named_code_text, sidebearings_text}
-use Rattle.t1_reason_texts.specs.StepTexts.{are_same_points, are_same_stems, argument_text, arguments_there_text, behind_text, bound_words, call_text, call_words, comes_next, count_text, depth_text, ending_text, full_text, is_there, length_text, limit_text, middle_text, middle_words, middles_text, miss_text, needed_pairs, off_words, open_text, or_more, othersubr_text, pair_text, pairs_text, part_words, quotient_text, share, since_after, since_before, since_none, since_text, span_text, stems_of_three, stems_text, subr_text, takes_words, there_text, token_text, triple_text, twins_text, widths_text}
+use Rattle.t1_reason_texts.specs.StepTexts.{against_text, against_words, are_same_points, are_same_stems, argument_text, arguments_there_text, behind_text, bound_words, call_text, call_words, comes_next, count_text, depth_text, ending_text, full_text, is_there, length_text, limit_text, middle_text, middle_words, middles_text, miss_text, needed_pairs, off_words, open_text, or_more, othersubr_text, overlap_text, pair_text, pairs_text, part_words, position_text, quotient_text, says_overlap, says_width, share, since_after, since_before, since_none, since_text, span_text, stem_text, stems_of_three, stems_text, subr_text, takes_words, there_text, token_text, triple_text, twins_text, width_of_text, widths_text}
 use Rattle.t1_reason_texts.specs.Texts.{reason_text}
 use Rattle.t1_reason_texts.specs.Words.{are_text, arguments_text, bytes_text, moves_text, numbers_text, points_text}
-use Rattle.t1_reason_texts.specs.ZoneTexts.{above_text, apart_by, apart_text, below_one, below_text, does_words, edges_text, entry_does, falling_text, gap_text, height_text, meets_text, needed_text, too_many_text, width_text, zone_text, zones_text}
+use Rattle.t1_reason_texts.specs.ZoneTexts.{above_text, apart_by, apart_text, below_one, below_text, does_words, edges_text, entry_does, falling_text, following_text, gap_text, height_text, meets_text, needed_text, number_after, number_before, number_text, says_twice, snap_does, snap_words, too_many_text, twice_text, wants_snap, width_text, zone_text, zones_text}
 use Rattle.t1_reason_texts.proofs.ShortParts.{abs_difference, abs_sum, length_either, short_any, short_by, short_command, short_coordinate, short_decimal, short_int_coordinate, short_long_value, short_mean, short_middle, short_name, short_signed}
 
 -- ---- words
@@ -129,7 +129,7 @@ short_before : (rule : Rule) → length (since_before rule) ≤ 29
 short_before W02 = omega arith
 short_before _ = omega arith
 
-short_after : (rule : Rule) → length (since_after rule) ≤ 14
+short_after : (rule : Rule) → length (since_after rule) ≤ 23
 short_after W02 = omega arith
 short_after _ = omega arith
 
@@ -192,9 +192,48 @@ short_stems_by false own other is_own is_other =
     (codes " and " ++ (span_text other.stem ++ (codes ", set at step " ++ (decimal other.step ++ (codes ", share " ++ text_in Coordinate (share own other.stem)))))) in
     omega (arith, first, second, third, short_span own is_own, short_span other.stem is_other, short_decimal other.step, short_any 65536 (share own other.stem) (omega arith) (λ rest. omega arith))
 
-short_stems : (own : OneStem) (other : SetStem) → IsOfTypesStem own → IsOfTypesStem other.stem → length (stems_text own other) ≤ 400
-unfolding stems_text
-short_stems own other is_own is_other = short_stems_by (are_same_stems own other.stem) own other is_own is_other
+short_overlap : (own : OneStem) (other : SetStem) → IsOfTypesStem own → IsOfTypesStem other.stem → length (overlap_text own other) ≤ 400
+unfolding overlap_text
+short_overlap own other is_own is_other = short_stems_by (are_same_stems own other.stem) own other is_own is_other
+
+short_against_words : (rule : Rule) → length (against_words rule) ≤ 13
+short_against_words H07 = omega arith
+short_against_words _ = omega arith
+
+short_against : (rule : Rule) (own : OneStem) (other : SetStem) → IsOfTypesStem own → IsOfTypesStem other.stem
+    → length (against_text rule own other) ≤ 400
+unfolding against_text
+short_against rule own other is_own is_other =
+    let third = length-append (span_text other.stem) (codes ", set at step " ++ decimal other.step) in
+    let second = length-append (against_words rule) (span_text other.stem ++ (codes ", set at step " ++ decimal other.step)) in
+    let first = length-append (span_text own) (against_words rule ++ (span_text other.stem ++ (codes ", set at step " ++ decimal other.step))) in
+    omega (arith, first, second, third, short_span own is_own, short_against_words rule, short_span other.stem is_other, short_decimal other.step)
+
+short_stems_of : (b : Bool) (rule : Rule) (own : OneStem) (other : SetStem) → IsOfTypesStem own → IsOfTypesStem other.stem
+    → length (if b then overlap_text own other else against_text rule own other) ≤ 400
+short_stems_of true rule own other is_own is_other = short_overlap own other is_own is_other
+short_stems_of false rule own other is_own is_other = short_against rule own other is_own is_other
+
+short_stems : (rule : Rule) (own : OneStem) (other : SetStem) → IsOfTypesStem own → IsOfTypesStem other.stem → length (stems_text rule own other) ≤ 400
+short_stems rule own other is_own is_other = short_stems_of (says_overlap rule) rule own other is_own is_other
+
+short_edge : (number : ℤ) → length (decimal_by 65536 number) ≤ 82
+short_edge number = short_by 65536 number (omega arith) (λ rest. omega arith)
+
+short_width_of : (stem : OneStem) → length (width_of_text stem) ≤ 400
+unfolding width_of_text
+short_width_of stem =
+    let second = length-append (text_in Coordinate (upper stem -ℤ lower stem)) (codes " wide") in
+    let first = length-append (span_text stem) (codes " is " ++ (text_in Coordinate (upper stem -ℤ lower stem) ++ codes " wide")) in
+    let span = length-append (decimal_by 65536 (lower stem)) (codes " to " ++ decimal_by 65536 (upper stem)) in
+    omega (arith, first, second, span, short_edge (lower stem), short_edge (upper stem), short_edge (upper stem -ℤ lower stem))
+
+short_stem_by : (b : Bool) (stem : OneStem) → length (if b then width_of_text stem else position_text stem) ≤ 400
+short_stem_by true stem = short_width_of stem
+short_stem_by false stem = omega (arith, short_edge stem.position)
+
+short_stem : (rule : Rule) (stem : OneStem) → length (stem_text rule stem) ≤ 400
+short_stem rule stem = short_stem_by (says_width rule) stem
 
 -- Twice the middle of a stem.
 abs_middle : (stem : OneStem) → IsOfTypesStem stem → unsigned_abs (twice_middle stem) ≤ 2 ^ 33
@@ -323,25 +362,49 @@ short_sidebearings told own =
 
 -- ---- entries
 
-short_entry_name : (rule : Rule) → length (entry_name rule) ≤ 9
+short_entry_name : (rule : Rule) → length (entry_name rule) ≤ 13
 short_entry_name F03 = omega arith
 short_entry_name _ = omega arith
 
-short_entry_needed : (rule : Rule) → length (entry_needed rule) ≤ 25
+short_entry_needed : (rule : Rule) → length (entry_needed rule) ≤ 40
 short_entry_needed F03 = omega arith
 short_entry_needed _ = omega arith
 
 short_value : (number : ℤ) → length (value_text number) ≤ 82
 short_value number = short_by 1000000000 number (omega arith) (λ rest. omega arith)
 
-short_counted : (b : Bool) (rule : Rule) (count : ℕ)
-    → length (if b then numbers_text count ++ entry_needed rule else entry_name rule ++ codes " is no number") ≤ 400
-short_counted true rule count =
+short_absent : (rule : Rule) → length (absent_needed rule) ≤ 13
+short_absent Z12 = omega arith
+short_absent _ = omega arith
+
+short_count_needed : (rule : Rule) → length (count_needed rule) ≤ 14
+short_count_needed F15 = omega arith
+short_count_needed _ = omega arith
+
+short_kind_words : (rule : Rule) → length (kind_words rule) ≤ 22
+short_kind_words rule = simp length_either (grind arith)
+
+short_list : (rule : Rule) (count : ℕ) → length (list_text rule count) ≤ 400
+short_list rule count =
+    omega (
+      arith,
+      length-append (entry_name rule) (codes " has " ++ (numbers_text count ++ count_needed rule)),
+      length-append (numbers_text count) (count_needed rule),
+      short_entry_name rule,
+      short_numbers count,
+      short_count_needed rule,
+    )
+
+short_counted : (b d : Bool) (rule : Rule) (count : ℕ)
+    → length (if b then numbers_text count ++ entry_needed rule else (if d then list_text rule count else entry_name rule ++ codes " is no number")) ≤ 400
+short_counted true d rule count =
     omega (arith, length-append (numbers_text count) (entry_needed rule), short_numbers count, short_entry_needed rule)
-short_counted false rule count = omega (arith, length-append (entry_name rule) (codes " is no number"), short_entry_name rule)
+short_counted false true rule count = short_list rule count
+short_counted false false rule count = omega (arith, length-append (entry_name rule) (codes " is no number"), short_entry_name rule)
 
 short_entry : (rule : Rule) (found : Found) → length (entry_text rule found) ≤ 400
-short_entry rule Absent = omega (arith, length-append (entry_name rule) (codes " is not there"), short_entry_name rule)
+short_entry rule Absent =
+    omega (arith, length-append (entry_name rule) (codes " is not there" ++ absent_needed rule), short_entry_name rule, short_absent rule)
 short_entry rule (One number) =
     omega (
       arith,
@@ -351,8 +414,8 @@ short_entry rule (One number) =
       short_value number,
       short_entry_needed rule,
     )
-short_entry rule (Several count) = short_counted (counts_numbers rule) rule count
-short_entry rule Other = omega (arith, length-append (entry_name rule) (codes " is no number"), short_entry_name rule)
+short_entry rule (Several count) = short_counted (counts_numbers rule) (lists_numbers rule) rule count
+short_entry rule Other = omega (arith, length-append (entry_name rule) (kind_words rule), short_entry_name rule, short_kind_words rule)
 
 short_found : (found : Found) → length (found_text found) ≤ 99
 short_found Absent = omega arith
@@ -429,6 +492,18 @@ short_subr_entry number twice is_past size =
       short_past is_past size,
     )
 
+short_last_by : (b : Bool) (token : CharToken) → length (if b then codes "it is shorter than lenIV" else codes "it ends with " ++ token_text token) ≤ 400
+short_last_by true token = omega arith
+short_last_by false token = omega (arith, short_token token)
+
+short_ends : (token : Option CharToken) → length (ends_text token) ≤ 400
+short_ends None = omega arith
+short_ends (Some token) = short_last_by (is_short token) token
+
+short_corners : (first last : ℤ) → length (corners_text first last) ≤ 400
+short_corners first last =
+    omega (arith, length-append (value_text first) (codes " is above " ++ value_text last), short_value first, short_value last)
+
 -- ---- zones
 
 short_too_many : (count most : ℕ) → length (too_many_text count most) ≤ 400
@@ -444,6 +519,43 @@ short_too_many count most =
 short_falling : (before number : ℤ) → length (falling_text before number) ≤ 400
 short_falling before number =
     omega (arith, length-append (value_text number) (codes " comes after " ++ value_text before), short_value number, short_value before)
+
+short_following_by : (b : Bool) (before number : ℤ) → length (if b then twice_text number else falling_text before number) ≤ 400
+short_following_by true before number = omega (arith, length-append (value_text number) (codes " comes twice"), short_value number)
+short_following_by false before number = short_falling before number
+
+short_following : (rule : Rule) (before number : ℤ) → length (following_text rule before number) ≤ 400
+short_following rule before number = short_following_by (says_twice rule) before number
+
+short_number_before : (rule : Rule) → length (number_before rule) ≤ 22
+short_number_before Z13 = omega arith
+short_number_before _ = omega arith
+
+short_number_after : (rule : Rule) → length (number_after rule) ≤ 46
+short_number_after F19 = omega arith
+short_number_after _ = omega arith
+
+short_snap_does : (number : ℤ) → length (snap_does number) ≤ 99
+unfolding snap_does
+short_snap_does number = omega (arith, length-append (value_text number) (codes "] would do"), short_value number)
+
+short_snap_by : (b : Bool) (number : ℤ) → length (if b then snap_does number else []) ≤ 99
+short_snap_by true number = short_snap_does number
+short_snap_by false number = omega arith
+
+short_number : (rule : Rule) (number : ℤ) → length (number_text rule number) ≤ 400
+unfolding number_text
+short_number rule number =
+    omega (
+      arith,
+      length-append (number_before rule) (value_text number ++ (number_after rule ++ snap_words rule number)),
+      length-append (value_text number) (number_after rule ++ snap_words rule number),
+      length-append (number_after rule) (snap_words rule number),
+      short_number_before rule,
+      short_value number,
+      short_number_after rule,
+      short_snap_by (wants_snap rule && int_lt (pos 0) number) number,
+    )
 
 short_long_distance : (distance : ℤ) → unsigned_abs distance ≤ 2 ^ 65 → length (needed_text distance) ≤ 52
 short_long_distance distance is =
@@ -610,8 +722,8 @@ are_short font rule (Subr number found) is = short_subr number found
 are_short font rule (Token token) is = short_there rule token
 are_short font rule (Since step) is = short_since rule step
 are_short font rule (Open start pen) is = short_open start pen
-are_short font rule (Stems own other) is = short_stems own other is.0 is.1
-are_short font rule (Stem stem) is = omega (arith, short_by 65536 stem.position (omega arith) (λ rest. omega arith))
+are_short font rule (Stems own other) is = short_stems rule own other is.0 is.1
+are_short font rule (Stem stem) is = short_stem rule stem
 are_short font rule (Triple one two three) is = short_triple one two three is.0 is.1 is.2
 are_short font rule (Miss named pen) is = short_miss named pen
 are_short font rule (Othersubr number count) is = short_call rule number count
@@ -630,7 +742,10 @@ are_short font rule (TooMany count most) is = short_too_many count most
 are_short font rule (Numbers count) is = omega (arith, short_numbers count)
 are_short font rule (Glyph glyph) is = omega (arith, short_name (glyph_name font glyph))
 are_short font rule (Code code) is = short_code_names code (encoded_name font code)
-are_short font rule (Following before number) is = short_falling before number
+are_short font rule (Corners first last) is = short_corners first last
+are_short font rule (InList number) is = short_number rule number
+are_short font rule (LastToken token) is = short_ends token
+are_short font rule (Following before number) is = short_following rule before number
 are_short font rule (Gap top bottom distance) is =
     with_does (gap_text top bottom distance) (codes "BlueFuzz") (fuzz_for_all font) (omega (arith, short_gap top bottom distance is.0 is.1)) (omega arith) is.2
 are_short font rule (Zones own other distance) is =

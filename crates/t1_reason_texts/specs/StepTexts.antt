@@ -13,7 +13,7 @@ use Rattle.t1_reason_texts.specs.declared.decimals.Unit.TheVariants.{Coordinate,
 use Rattle.t1_reason_texts.specs.Decimals.{coordinate_text, point_text, text_in}
 use Rattle.t1_reason_texts.specs.Words.{are_text, arguments_text, bytes_text, moves_text, numbers_text, points_text}
 use Rattle.t1_rules.specs.declared.rule.Rule.{Rule}
-use Rattle.t1_rules.specs.declared.rule.Rule.TheVariants.{C03, W02, P01, P03, H01, X01, X02, X03, O03, K06}
+use Rattle.t1_rules.specs.declared.rule.Rule.TheVariants.{C03, W02, P01, P03, H01, X01, X02, X03, O03, K06, H05, H06, H07, O05, O06, O08, W03}
 use Rattle.t1_rules.specs.declared.step_rules.flex.Point.{Point}
 use Rattle.t1_rules.specs.declared.step_rules.stems.Stem.{Stem}
 use Rattle.t1_rules.specs.StepRules.Stems.{lower, twice_middle, upper}
@@ -102,10 +102,18 @@ since_before H01 = codes "drawn at step "
 since_before X01 = codes "the flex began at step "
 since_before X03 = codes "the flex began at step "
 since_before K06 = codes "an outline or a stem at step "
+since_before O05 = codes "step "
+since_before O06 = codes "step "
+since_before O08 = codes "OtherSubr 12 at step "
+since_before W03 = codes "step "
 since_before _ = codes "since step "
 
 abbrev pub since_after : Rule → List ℕ
 since_after W02 = codes " set the width"
+since_after O05 = codes " comes before it"
+since_after O06 = codes " ended counter control"
+since_after O08 = codes ", not ended by a 13"
+since_after W03 = codes " calls an OtherSubr too"
 since_after _ = []
 
 -- What is said where there was no such step.
@@ -113,6 +121,8 @@ abbrev pub since_none : Rule → List ℕ
 since_none W02 = codes "another command came first"
 since_none P01 = codes "no move so far"
 since_none P03 = codes "nothing is drawn so far"
+since_none O05 = codes "no hsbw or sbw so far"
+since_none W03 = codes "no hsbw or sbw so far"
 since_none _ = codes "no step did so"
 
 abbrev pub since_text : Rule → Option ℕ → List ℕ
@@ -162,11 +172,39 @@ pair_text own other =
     span_text own
     ++ (codes " and " ++ (span_text other.stem ++ (codes ", set at step " ++ (decimal other.step ++ (codes ", share " ++ text_in Coordinate (share own other.stem))))))
 
-unfoldable pub stems_text : Stem → SetStem → List ℕ
-stems_text own other = if are_same_stems own other.stem then twins_text own other.step else pair_text own other
+unfoldable pub overlap_text : Stem → SetStem → List ℕ
+overlap_text own other = if are_same_stems own other.stem then twins_text own other.step else pair_text own other
 
-abbrev pub stem_text : Stem → List ℕ
-stem_text stem = codes "the stem is at " ++ coordinate_text stem.position
+-- H06 and H07 speak of stems that need not overlap: H06 of stems of two commands, H07 of two stems that one of three has in turn.
+abbrev pub says_overlap : Rule → Bool
+says_overlap H06 = false
+says_overlap H07 = false
+says_overlap _ = true
+
+abbrev pub against_words : Rule → List ℕ
+against_words H07 = codes " in place of "
+against_words _ = codes " beside "
+
+unfoldable pub against_text : Rule → Stem → SetStem → List ℕ
+against_text rule own other = span_text own ++ (against_words rule ++ (span_text other.stem ++ (codes ", set at step " ++ decimal other.step)))
+
+abbrev pub stems_text : Rule → Stem → SetStem → List ℕ
+stems_text rule own other = if says_overlap rule then overlap_text own other else against_text rule own other
+
+-- H05 speaks of a stem's width, H03 of a stem that has none.
+abbrev pub says_width : Rule → Bool
+says_width H05 = true
+says_width _ = false
+
+unfoldable pub width_of_text : Stem → List ℕ
+width_of_text stem =
+    codes "the stem from " ++ (span_text stem ++ (codes " is " ++ (text_in Coordinate (upper stem -ℤ lower stem) ++ codes " wide")))
+
+abbrev pub position_text : Stem → List ℕ
+position_text stem = codes "the stem is at " ++ coordinate_text stem.position
+
+abbrev pub stem_text : Rule → Stem → List ℕ
+stem_text rule stem = if says_width rule then width_of_text stem else position_text stem
 
 -- How far the second middle is from half-way between the others, in units of 1/262144.
 abbrev pub off_middle : Stem → Stem → Stem → ℤ

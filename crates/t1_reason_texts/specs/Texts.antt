@@ -3,13 +3,13 @@ use Rattle.std.specs.Prelude.{ℕ, not, nat_lt, if◌then◌else◌, Bool, true,
 use Rattle.std.specs.List.{concat}
 use Rattle.t1_font.specs.Fonts.{FontValue, glyph_name}
 use Rattle.t1_reasons.specs.declared.reason.Reason.{Reason}
-use Rattle.t1_reasons.specs.declared.reason.Reason.TheVariants.{Argument, Arguments, Behind, Code, Codes, Count, Depth, Ending, Entry, Following, Features, Form, Full, Gap, Glyph, Glyphs, Ids, Kind, Length, Limit, Miss, Nothing, Numbers, Open, Othersubr, Pairs, Quotient, Sidebearings, Since, Stem, Stems, Subr, SubrEntry, Token, TooMany, Triple, Waiver, Width, Zone, Zones}
+use Rattle.t1_reasons.specs.declared.reason.Reason.TheVariants.{Argument, Arguments, Behind, Code, Codes, Corners, Count, Depth, Ending, Entry, Following, Features, Form, Full, Gap, Glyph, Glyphs, Ids, Kind, LastToken, Length, Limit, Miss, Nothing, Number, Numbers, Open, Othersubr, Pairs, Quotient, Sidebearings, Since, Stem, Stems, Subr, SubrEntry, Token, TooMany, Triple, Waiver, Width, Zone, Zones}
 use Rattle.t1_reasons.specs.Remedies.{fuzz_for_all, fuzz_for_both, scale_for_all}
-use Rattle.t1_reason_texts.specs.FontTexts.{code_names_text, encoded_name, entry_text, features_text, form_text, glyph_text, glyphs_text, ids_text, kind_text, subr_entry_text, unused_text}
+use Rattle.t1_reason_texts.specs.FontTexts.{code_names_text, corners_text, encoded_name, ends_text, entry_text, features_text, form_text, glyph_text, glyphs_text, ids_text, kind_text, subr_entry_text, unused_text}
 use Rattle.t1_reason_texts.specs.SeacTexts.{codes_text, sidebearings_text}
 use Rattle.t1_reason_texts.specs.StepTexts.{argument_text, arguments_there_text, behind_text, call_text, count_text, depth_text, ending_text, full_text, length_text, limit_text, miss_text, open_text, pairs_text, quotient_text, since_text, stem_text, stems_text, subr_text, there_text, triple_text}
 use Rattle.t1_reason_texts.specs.Words.{numbers_text}
-use Rattle.t1_reason_texts.specs.ZoneTexts.{does_words, falling_text, gap_text, too_many_text, width_text, zone_text, zones_text}
+use Rattle.t1_reason_texts.specs.ZoneTexts.{does_words, following_text, gap_text, number_text, too_many_text, width_text, zone_text, zones_text}
 use Rattle.t1_rules.specs.declared.rule.Rule.{Rule}
 
 unfoldable pub reason_text : FontValue → Rule → Reason → List ℕ
@@ -27,8 +27,8 @@ reason_text font rule (Subr number found) = subr_text number found
 reason_text font rule (Token token) = there_text rule token
 reason_text font rule (Since step) = since_text rule step
 reason_text font rule (Open start pen) = open_text start pen
-reason_text font rule (Stems own other) = stems_text own other
-reason_text font rule (Stem stem) = stem_text stem
+reason_text font rule (Stems own other) = stems_text rule own other
+reason_text font rule (Stem stem) = stem_text rule stem
 reason_text font rule (Triple one two three) = triple_text one two three
 reason_text font rule (Miss named pen) = miss_text named pen
 reason_text font rule (Othersubr number count) = call_text rule number count
@@ -47,7 +47,10 @@ reason_text font rule (TooMany count most) = too_many_text count most
 reason_text font rule (Numbers count) = numbers_text count
 reason_text font rule (Glyph glyph) = glyph_text (glyph_name font glyph)
 reason_text font rule (Code code) = code_names_text code (encoded_name font code)
-reason_text font rule (Following before number) = falling_text before number
+reason_text font rule (Corners first last) = corners_text first last
+reason_text font rule (Number number) = number_text rule number
+reason_text font rule (LastToken token) = ends_text token
+reason_text font rule (Following before number) = following_text rule before number
 reason_text font rule (Gap upper lower distance) = gap_text upper lower distance ++ does_words (codes "BlueFuzz") (fuzz_for_all font)
 reason_text font rule (Zones own other distance) = zones_text own other distance ++ does_words (codes "BlueFuzz") (fuzz_for_both font)
 reason_text font rule (Zone lower upper scale) = zone_text lower upper scale ++ does_words (codes "BlueScale") (scale_for_all font)

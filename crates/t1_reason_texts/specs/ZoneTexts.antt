@@ -1,5 +1,5 @@
--- The texts of reasons of zones and stem widths. Their numbers count 10^-9.
-use Rattle.std.specs.Prelude.{ℕ, ℤ, pos, ◌-ℤ◌, ◌*ℤ◌, int_le, Option, Some, None, List, [], ◌++◌, codes, if◌then◌else◌}
+-- The texts of reasons of zones, stem widths and numbers of lists. Their numbers count 10^-9.
+use Rattle.std.specs.Prelude.{ℕ, ℤ, pos, ◌-ℤ◌, ◌*ℤ◌, int_le, int_lt, ◌&&◌, Bool, true, false, Option, Some, None, List, [], ◌++◌, codes, if◌then◌else◌}
 use Rattle.std.specs.Int.{is_negative}
 use Rattle.std.specs.Fmt.{decimal}
 use Rattle.t1_reasons.specs.declared.reason.Edges.{Edges}
@@ -8,12 +8,53 @@ use Rattle.t1_reason_texts.specs.declared.decimals.Unit.TheVariants.{Product, Va
 use Rattle.t1_reason_texts.specs.Decimals.{text_in}
 use Rattle.t1_reason_texts.specs.FontTexts.{value_text}
 use Rattle.t1_reason_texts.specs.Words.{numbers_text}
+use Rattle.t1_rules.specs.declared.rule.Rule.{Rule}
+use Rattle.t1_rules.specs.declared.rule.Rule.TheVariants.{F19, Z13, Z14, Z15, Z16}
 
 abbrev pub too_many_text : ℕ → ℕ → List ℕ
 too_many_text count most = numbers_text count ++ (codes ", " ++ (decimal most ++ codes " at most"))
 
 abbrev pub falling_text : ℤ → ℤ → List ℕ
 falling_text before number = value_text number ++ (codes " comes after " ++ value_text before)
+
+-- Z15 speaks of two equal numbers.
+abbrev pub says_twice : Rule → Bool
+says_twice Z15 = true
+says_twice _ = false
+
+abbrev pub twice_text : ℤ → List ℕ
+twice_text number = value_text number ++ codes " comes twice"
+
+abbrev pub following_text : Rule → ℤ → ℤ → List ℕ
+following_text rule before number = if says_twice rule then twice_text number else falling_text before number
+
+-- ---- a number of a list
+
+-- What is said before the number, and after it.
+abbrev pub number_before : Rule → List ℕ
+number_before Z13 = codes "the width is "
+number_before Z16 = codes "the standard width is "
+number_before _ = []
+
+abbrev pub number_after : Rule → List ℕ
+number_after F19 = codes "; a whole number from 0 to 16777215 is needed"
+number_after Z13 = codes "; more than 0 is needed"
+number_after Z14 = codes " is not whole"
+number_after _ = []
+
+-- Z16 speaks of a standard width that has no snaps beside it: itself it would do as the only one, where it is a width.
+abbrev pub wants_snap : Rule → Bool
+wants_snap Z16 = true
+wants_snap _ = false
+
+unfoldable pub snap_does : ℤ → List ℕ
+snap_does number = codes "; [" ++ (value_text number ++ codes "] would do")
+
+abbrev pub snap_words : Rule → ℤ → List ℕ
+snap_words rule number = if wants_snap rule && int_lt (pos 0) number then snap_does number else []
+
+unfoldable pub number_text : Rule → ℤ → List ℕ
+number_text rule number = number_before rule ++ (value_text number ++ (number_after rule ++ snap_words rule number))
 
 -- The distance that zones keep.
 abbrev pub needed_text : ℤ → List ℕ

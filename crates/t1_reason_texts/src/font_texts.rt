@@ -3,12 +3,14 @@
 ghost use Rattle.std.specs.Prelude.{◌≡◌, Some, []};
 ghost use Rattle.t1_font.specs.Views.{bytes_of};
 ghost use Rattle.std.specs.Option.{unwrap_or};
-ghost use Rattle.t1_reason_texts.specs.FontTexts.{code_names_text, counts_numbers, encoded_name, entry_name, entry_needed, entry_text, features_text, form_text, found_text, glyph_text, glyphs_text, ids_text, kind_text, past_words, several_text, subr_entry_text, twice_words, two_features_text, unused_text, value_text, wanted_words};
+ghost use Rattle.t1_reason_texts.specs.FontTexts.{absent_needed, code_names_text, corners_text, count_needed, counts_numbers, encoded_name, ends_text, entry_name, entry_needed, entry_text, features_text, form_text, found_text, glyph_text, glyphs_text, ids_text, is_short, kind_text, kind_words, last_token_text, list_text, lists_numbers, past_words, several_text, subr_entry_text, twice_words, two_features_text, unused_text, value_text, wanted_words};
 
 use crate::decimals::value;
 use crate::names::ShownName;
+use crate::step_texts::TokenText;
 use crate::words::Numbers;
 use std::fmt;
+use t1_char::CharToken;
 use t1_font::{Encoding, Font};
 use t1_reasons::{EntryKind, Found, Unused};
 use t1_rules::Rule;
@@ -29,6 +31,14 @@ fn entry_name(rule: Rule) -> &'static str
         Rule::F04 => "PaintType",
         Rule::F05 => "UniqueID",
         Rule::F07 => "password",
+        Rule::F15 => "FontMatrix",
+        Rule::F16 => "FontBBox",
+        Rule::F18 => "XUID",
+        Rule::F20 => "LanguageGroup",
+        Rule::Z12 => "BlueValues",
+        Rule::Z17 => "BlueScale",
+        Rule::Z18 => "BlueShift",
+        Rule::Z19 => "BlueFuzz",
         _ => "it",
     }
 }
@@ -43,6 +53,23 @@ fn entry_needed(rule: Rule) -> &'static str
         Rule::F05 => "; 0 to 16777215 is needed",
         Rule::F07 => "; 5839 is needed",
         Rule::Z08 => "; 1 is needed",
+        Rule::F15 => "; 6 numbers are needed",
+        Rule::F16 => "; 4 numbers are needed",
+        Rule::F18 => "; a list of numbers is needed",
+        Rule::F20 => "; 0 or 1 is needed",
+        Rule::Z17 => "; more than 0 and at most 0.5 is needed",
+        Rule::Z18 => "; a whole number from 0 on is needed",
+        Rule::Z19 => "; a whole number from 0 to 10 is needed",
+        _ => "",
+    }
+}
+
+/// What would do where there is no entry.
+fn absent_needed(rule: Rule) -> &'static str
+    ensures { result.now ≡ absent_needed rule }
+{
+    match rule {
+        Rule::Z12 => "; [] would do",
         _ => "",
     }
 }
@@ -52,6 +79,53 @@ fn counts_numbers(rule: Rule) -> bool
     ensures { result ≡ counts_numbers rule }
 {
     matches!(rule, Rule::Z08)
+}
+
+/// Whether a rule speaks of a list of numbers.
+fn lists_numbers(rule: Rule) -> bool
+    ensures { result ≡ lists_numbers rule }
+{
+    matches!(rule, Rule::F15 | Rule::F16 | Rule::F18 | Rule::Z12)
+}
+
+/// What an entry isn't.
+fn kind_words(rule: Rule) -> &'static str
+    ensures { result.now ≡ kind_words rule }
+{
+    if lists_numbers(rule) {
+        " is no list of numbers"
+    } else {
+        " is no number"
+    }
+}
+
+/// How many numbers a list should have.
+fn count_needed(rule: Rule) -> &'static str
+    ensures { result.now ≡ count_needed rule }
+{
+    match rule {
+        Rule::F15 => "; 6 are needed",
+        Rule::F16 => "; 4 are needed",
+        _ => "",
+    }
+}
+
+/// A list of so many numbers.
+#[derive(Clone, Copy)]
+struct ListText {
+    rule: Rule,
+    count: usize,
+}
+
+impl fmt::Display for ListText {
+    ghost output = { λ t. Some (list_text t.rule t.count) };
+
+    fn fmt<W: fmt::Write>(&self, f: &mut fmt::Formatter<W>) -> fmt::Result {
+        let name = entry_name(self.rule);
+        let numbers = Numbers(self.count);
+        let needed = count_needed(self.rule);
+        write!(f, "{name} has {numbers}{needed}")
+    }
 }
 
 /// An entry of so many numbers.
@@ -69,6 +143,12 @@ impl fmt::Display for SeveralText {
             let numbers = Numbers(self.count);
             let needed = entry_needed(self.rule);
             write!(f, "{numbers}{needed}")
+        } else if lists_numbers(self.rule) {
+            let list = ListText {
+                rule: self.rule,
+                count: self.count,
+            };
+            write!(f, "{list}")
         } else {
             let name = entry_name(self.rule);
             write!(f, "{name} is no number")
@@ -82,7 +162,10 @@ impl fmt::Display for EntryText {
     fn fmt<W: fmt::Write>(&self, f: &mut fmt::Formatter<W>) -> fmt::Result {
         let name = entry_name(self.rule);
         match self.found {
-            Found::Absent => write!(f, "{name} is not there"),
+            Found::Absent => {
+                let needed = absent_needed(self.rule);
+                write!(f, "{name} is not there{needed}")
+            }
             Found::One { number } => {
                 let number = value(number);
                 let needed = entry_needed(self.rule);
@@ -95,7 +178,10 @@ impl fmt::Display for EntryText {
                 };
                 write!(f, "{several}")
             }
-            Found::Other => write!(f, "{name} is no number"),
+            Found::Other => {
+                let kind = kind_words(self.rule);
+                write!(f, "{name}{kind}")
+            }
         }
     }
 }
@@ -353,6 +439,63 @@ impl fmt::Display for SubrEntryText {
             size: self.size,
         };
         write!(f, "Subr {number}{twice}{past}")
+    }
+}
+
+/// The last token of a Subr that has no return: None where it has no token.
+#[derive(Clone, Copy)]
+pub(crate) struct EndsText(pub(crate) Option<CharToken>);
+
+#[derive(Clone, Copy)]
+struct LastTokenText(CharToken);
+
+fn is_short(token: CharToken) -> bool
+    ensures { result ≡ is_short token }
+{
+    matches!(token, CharToken::Short)
+}
+
+impl fmt::Display for LastTokenText {
+    ghost output = { λ t. Some (last_token_text t.0) };
+
+    fn fmt<W: fmt::Write>(&self, f: &mut fmt::Formatter<W>) -> fmt::Result {
+        let token = TokenText(self.0);
+        if is_short(self.0) {
+            write!(f, "it is shorter than lenIV")
+        } else {
+            write!(f, "it ends with {token}")
+        }
+    }
+}
+
+impl fmt::Display for EndsText {
+    ghost output = { λ t. Some (ends_text t.0) };
+
+    fn fmt<W: fmt::Write>(&self, f: &mut fmt::Formatter<W>) -> fmt::Result {
+        match self.0 {
+            None => write!(f, "it is empty"),
+            Some(token) => {
+                let last = LastTokenText(token);
+                write!(f, "{last}")
+            }
+        }
+    }
+}
+
+/// A coordinate of FontBBox's lower left corner, and that of the upper right one.
+#[derive(Clone, Copy)]
+pub(crate) struct CornersText {
+    pub(crate) first: i64,
+    pub(crate) last: i64,
+}
+
+impl fmt::Display for CornersText {
+    ghost output = { λ t. Some (corners_text t.first t.last) };
+
+    fn fmt<W: fmt::Write>(&self, f: &mut fmt::Formatter<W>) -> fmt::Result {
+        let first = value(self.first);
+        let last = value(self.last);
+        write!(f, "{first} is above {last}")
     }
 }
 

@@ -3,9 +3,9 @@
 ghost use Rattle.std.specs.Prelude.{◌≡◌, ◌+ℤ◌, ◌-ℤ◌, ◌*ℤ◌, Some, pos};
 ghost use Rattle.std.specs.Int.{int_max, int_min};
 ghost use Rattle.t1_rules.specs.Watches.{IsWithin, reach};
-ghost use Rattle.t1_reason_texts.specs.StepTexts.{are_same_points, are_same_stems, argument_text, arguments_there_text, behind_text, bound_words, call_text, call_words, comes_next, count_text, depth_text, ending_text, full_text, is_half_off, is_there, length_text, limit_text, middle_text, middles_text, needed_pairs, miss_text, off_middle, off_words, open_text, or_more, othersubr_text, pair_text, pairs_text, part_words, quotient_text, says_token, share, since_after, since_before, since_none, since_text, span_text, stem_text, stems_of_three, stems_text, subr_text, takes_words, there_text, token_text, triple_text, twins_text, widths_text};
-ghost use Rattle.t1_reason_texts.specs.declared.decimals.Unit.TheVariants.{Mean, Middle};
-ghost use Rattle.t1_rules.specs.StepRules.Stems.{twice_middle};
+ghost use Rattle.t1_reason_texts.specs.StepTexts.{against_text, against_words, are_same_points, are_same_stems, argument_text, arguments_there_text, behind_text, bound_words, call_text, call_words, comes_next, count_text, depth_text, ending_text, full_text, is_half_off, is_there, length_text, limit_text, middle_text, middles_text, needed_pairs, miss_text, off_middle, off_words, open_text, or_more, othersubr_text, overlap_text, pair_text, pairs_text, part_words, position_text, quotient_text, says_overlap, says_token, says_width, share, since_after, since_before, since_none, since_text, span_text, stem_text, stems_of_three, stems_text, subr_text, takes_words, there_text, token_text, triple_text, twins_text, width_of_text, widths_text};
+ghost use Rattle.t1_reason_texts.specs.declared.decimals.Unit.TheVariants.{Coordinate, Mean, Middle};
+ghost use Rattle.t1_rules.specs.StepRules.Stems.{lower, twice_middle, upper};
 
 use crate::decimals::{Coordinates, Exact, Unit, coordinate, difference};
 use crate::words::{Are, Arguments, Bytes, Moves, Numbers, Points, small_coordinate};
@@ -276,6 +276,8 @@ fn since_before(rule: Rule) -> &'static str
         Rule::H01 => "drawn at step ",
         Rule::X01 | Rule::X03 => "the flex began at step ",
         Rule::K06 => "an outline or a stem at step ",
+        Rule::O05 | Rule::O06 | Rule::W03 => "step ",
+        Rule::O08 => "OtherSubr 12 at step ",
         _ => "since step ",
     }
 }
@@ -286,6 +288,10 @@ fn since_after(rule: Rule) -> &'static str
 {
     match rule {
         Rule::W02 => " set the width",
+        Rule::O05 => " comes before it",
+        Rule::O06 => " ended counter control",
+        Rule::O08 => ", not ended by a 13",
+        Rule::W03 => " calls an OtherSubr too",
         _ => "",
     }
 }
@@ -298,6 +304,7 @@ fn since_none(rule: Rule) -> &'static str
         Rule::W02 => "another command came first",
         Rule::P01 => "no move so far",
         Rule::P03 => "nothing is drawn so far",
+        Rule::O05 | Rule::W03 => "no hsbw or sbw so far",
         _ => "no step did so",
     }
 }
@@ -410,11 +417,44 @@ impl fmt::Display for SpanText {
     }
 }
 
-/// A stem, and one that overlaps it, with the step that set that.
+/// A stem and another one, with the step that set that.
 #[derive(Clone, Copy)]
 pub(crate) struct StemsText {
+    pub(crate) rule: Rule,
     pub(crate) own: Stem,
     pub(crate) other: SetStem,
+}
+
+/// A stem, and one that overlaps it.
+#[derive(Clone, Copy)]
+struct OverlapText {
+    own: Stem,
+    other: SetStem,
+}
+
+/// A stem, and one that it needs not overlap.
+#[derive(Clone, Copy)]
+struct AgainstText {
+    rule: Rule,
+    own: Stem,
+    other: SetStem,
+}
+
+/// Whether a rule speaks of stems that overlap.
+fn says_overlap(rule: Rule) -> bool
+    ensures { result ≡ says_overlap rule }
+{
+    !matches!(rule, Rule::H06 | Rule::H07)
+}
+
+/// How one stem is set against another.
+fn against_words(rule: Rule) -> &'static str
+    ensures { result.now ≡ against_words rule }
+{
+    match rule {
+        Rule::H07 => " in place of ",
+        _ => " beside ",
+    }
 }
 
 /// A stem that is set again.
@@ -475,10 +515,10 @@ impl fmt::Display for PairText {
     }
 }
 
-impl fmt::Display for StemsText {
-    ghost output = { λ t. Some (stems_text t.own t.other) };
+impl fmt::Display for OverlapText {
+    ghost output = { λ t. Some (overlap_text t.own t.other) };
 
-    #[tactic(auto, unfolding(crate::specs::StepTexts::stems_text))]
+    #[tactic(auto, unfolding(crate::specs::StepTexts::overlap_text))]
     fn fmt<W: fmt::Write>(&self, f: &mut fmt::Formatter<W>) -> fmt::Result {
         if are_same_stems(self.own, self.other.stem) {
             let twins = TwinsText {
@@ -496,16 +536,104 @@ impl fmt::Display for StemsText {
     }
 }
 
-/// A stem without a width.
-#[derive(Clone, Copy)]
-pub(crate) struct StemText(pub(crate) Stem);
+impl fmt::Display for AgainstText {
+    ghost output = { λ t. Some (against_text t.rule t.own t.other) };
 
-impl fmt::Display for StemText {
-    ghost output = { λ t. Some (stem_text t.0) };
+    #[tactic(auto, unfolding(crate::specs::StepTexts::against_text))]
+    fn fmt<W: fmt::Write>(&self, f: &mut fmt::Formatter<W>) -> fmt::Result {
+        let own = SpanText(self.own);
+        let against = against_words(self.rule);
+        let other = SpanText(self.other.stem);
+        let step = self.other.step;
+        write!(f, "{own}{against}{other}, set at step {step}")
+    }
+}
+
+impl fmt::Display for StemsText {
+    ghost output = { λ t. Some (stems_text t.rule t.own t.other) };
+
+    fn fmt<W: fmt::Write>(&self, f: &mut fmt::Formatter<W>) -> fmt::Result {
+        if says_overlap(self.rule) {
+            let overlap = OverlapText {
+                own: self.own,
+                other: self.other,
+            };
+            write!(f, "{overlap}")
+        } else {
+            let against = AgainstText {
+                rule: self.rule,
+                own: self.own,
+                other: self.other,
+            };
+            write!(f, "{against}")
+        }
+    }
+}
+
+/// A stem without a width, or with a small one.
+#[derive(Clone, Copy)]
+pub(crate) struct StemText {
+    pub(crate) rule: Rule,
+    pub(crate) stem: Stem,
+}
+
+/// A stem, and how wide it is.
+#[derive(Clone, Copy)]
+struct WidthOfText(Stem);
+
+/// Where a stem is.
+#[derive(Clone, Copy)]
+struct PositionText(Stem);
+
+/// Whether a rule speaks of a stem's width.
+fn says_width(rule: Rule) -> bool
+    ensures { result ≡ says_width rule }
+{
+    matches!(rule, Rule::H05)
+}
+
+/// How far a stem's upper edge is above its lower one.
+fn extent(stem: Stem) -> Exact
+    ensures number { result.number ≡ upper stem -ℤ lower stem }
+    ensures unit { result.unit ≡ Coordinate }
+{
+    Exact {
+        number: difference(stem.upper(), stem.lower()),
+        unit: Unit::Coordinate,
+    }
+}
+
+impl fmt::Display for WidthOfText {
+    ghost output = { λ t. Some (width_of_text t.0) };
+
+    #[tactic(auto, unfolding(crate::specs::StepTexts::width_of_text))]
+    fn fmt<W: fmt::Write>(&self, f: &mut fmt::Formatter<W>) -> fmt::Result {
+        let span = SpanText(self.0);
+        let extent = extent(self.0);
+        write!(f, "the stem from {span} is {extent} wide")
+    }
+}
+
+impl fmt::Display for PositionText {
+    ghost output = { λ t. Some (position_text t.0) };
 
     fn fmt<W: fmt::Write>(&self, f: &mut fmt::Formatter<W>) -> fmt::Result {
         let position = small_coordinate(self.0.position);
         write!(f, "the stem is at {position}")
+    }
+}
+
+impl fmt::Display for StemText {
+    ghost output = { λ t. Some (stem_text t.rule t.stem) };
+
+    fn fmt<W: fmt::Write>(&self, f: &mut fmt::Formatter<W>) -> fmt::Result {
+        if says_width(self.rule) {
+            let width = WidthOfText(self.stem);
+            write!(f, "{width}")
+        } else {
+            let position = PositionText(self.stem);
+            write!(f, "{position}")
+        }
     }
 }
 

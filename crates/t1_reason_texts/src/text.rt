@@ -4,8 +4,8 @@ ghost use Rattle.std.specs.Prelude.{◌≡◌, Some, IfOk, option_map};
 ghost use Rattle.t1_reason_texts.specs.Texts.{reason_text, says_more, shown_text};
 
 use crate::font_texts::{
-    CodeNamesText, EntryText, FeaturesText, FormText, GlyphText, GlyphsText, IdsText, KindText,
-    SubrEntryText, UnusedText, encoded_name,
+    CodeNamesText, CornersText, EndsText, EntryText, FeaturesText, FormText, GlyphText, GlyphsText,
+    IdsText, KindText, SubrEntryText, UnusedText, encoded_name,
 };
 use crate::seac_texts::{CodesText, SidebearingsText, is_meant};
 use crate::step_texts::{
@@ -15,7 +15,7 @@ use crate::step_texts::{
 };
 use crate::words::Numbers;
 use crate::zone_texts::{
-    DoesText, FallingText, GapText, TooManyText, WidthText, ZoneText, ZonesText,
+    DoesText, FollowingText, GapText, NumberText, TooManyText, WidthText, ZoneText, ZonesText,
 };
 use arrayvec::ArrayString;
 use std::fmt;
@@ -146,11 +146,11 @@ impl fmt::Display for ReasonText<'_, '_> {
                 write!(f, "{text}")
             }
             Reason::Stems { own, other } => {
-                let text = StemsText { own, other };
+                let text = StemsText { rule, own, other };
                 write!(f, "{text}")
             }
             Reason::Stem { stem } => {
-                let text = StemText(stem);
+                let text = StemText { rule, stem };
                 write!(f, "{text}")
             }
             Reason::Triple { one, two, three } => {
@@ -248,7 +248,23 @@ impl fmt::Display for ReasonText<'_, '_> {
                 write!(f, "{text}")
             }
             Reason::Following { before, number } => {
-                let text = FallingText { before, number };
+                let text = FollowingText {
+                    rule,
+                    before,
+                    number,
+                };
+                write!(f, "{text}")
+            }
+            Reason::Corners { first, last } => {
+                let text = CornersText { first, last };
+                write!(f, "{text}")
+            }
+            Reason::Number { number } => {
+                let text = NumberText { rule, number };
+                write!(f, "{text}")
+            }
+            Reason::LastToken { token } => {
+                let text = EndsText(token);
                 write!(f, "{text}")
             }
             Reason::Gap {

@@ -1,12 +1,13 @@
-//! The texts of reasons of zones and stem widths. Their numbers count 10^-9.
+//! The texts of reasons of zones, stem widths and numbers of lists. Their numbers count 10^-9.
 
 ghost use Rattle.std.specs.Prelude.{◌≡◌, Some};
-ghost use Rattle.t1_reason_texts.specs.ZoneTexts.{above_text, apart_by, apart_of, below_one, below_text, does_words, edges_text, entry_does, falling_text, gap_text, height_text, meets_text, needed_text, too_many_text, width_text, zone_text, zones_text};
+ghost use Rattle.t1_reason_texts.specs.ZoneTexts.{above_text, apart_by, apart_of, below_one, below_text, does_words, edges_text, entry_does, falling_text, following_text, gap_text, height_text, meets_text, needed_text, number_after, number_before, number_text, says_twice, snap_does, snap_words, too_many_text, twice_text, wants_snap, width_text, zone_text, zones_text};
 
 use crate::decimals::{Exact, Unit, difference, exact_difference, exact_product, value};
 use crate::words::Numbers;
 use std::fmt;
 use t1_reasons::Edges;
+use t1_rules::Rule;
 
 /// How many numbers a list has, and how many it may have.
 #[derive(Clone, Copy)]
@@ -27,9 +28,28 @@ impl fmt::Display for TooManyText {
 
 /// A number of a list, and the one before it.
 #[derive(Clone, Copy)]
-pub(crate) struct FallingText {
+pub(crate) struct FollowingText {
+    pub(crate) rule: Rule,
     pub(crate) before: i64,
     pub(crate) number: i64,
+}
+
+/// A number that is less than the one before it.
+#[derive(Clone, Copy)]
+struct FallingText {
+    before: i64,
+    number: i64,
+}
+
+/// A number that is equal to the one before it.
+#[derive(Clone, Copy)]
+struct TwiceText(i64);
+
+/// Whether a rule speaks of two equal numbers.
+fn says_twice(rule: Rule) -> bool
+    ensures { result ≡ says_twice rule }
+{
+    matches!(rule, Rule::Z15)
 }
 
 impl fmt::Display for FallingText {
@@ -39,6 +59,119 @@ impl fmt::Display for FallingText {
         let before = value(self.before);
         let number = value(self.number);
         write!(f, "{number} comes after {before}")
+    }
+}
+
+impl fmt::Display for TwiceText {
+    ghost output = { λ t. Some (twice_text t.0) };
+
+    fn fmt<W: fmt::Write>(&self, f: &mut fmt::Formatter<W>) -> fmt::Result {
+        let number = value(self.0);
+        write!(f, "{number} comes twice")
+    }
+}
+
+impl fmt::Display for FollowingText {
+    ghost output = { λ t. Some (following_text t.rule t.before t.number) };
+
+    fn fmt<W: fmt::Write>(&self, f: &mut fmt::Formatter<W>) -> fmt::Result {
+        if says_twice(self.rule) {
+            let twice = TwiceText(self.number);
+            write!(f, "{twice}")
+        } else {
+            let falling = FallingText {
+                before: self.before,
+                number: self.number,
+            };
+            write!(f, "{falling}")
+        }
+    }
+}
+
+/// A number of a list, or the first of a standard width.
+#[derive(Clone, Copy)]
+pub(crate) struct NumberText {
+    pub(crate) rule: Rule,
+    pub(crate) number: i64,
+}
+
+/// The width that would do as the only stem snap, where a rule speaks of one.
+#[derive(Clone, Copy)]
+struct SnapText {
+    rule: Rule,
+    number: i64,
+}
+
+/// The same of a width.
+#[derive(Clone, Copy)]
+struct SnapDoesText(i64);
+
+/// What is said before the number.
+fn number_before(rule: Rule) -> &'static str
+    ensures { result.now ≡ number_before rule }
+{
+    match rule {
+        Rule::Z13 => "the width is ",
+        Rule::Z16 => "the standard width is ",
+        _ => "",
+    }
+}
+
+/// What is said after the number.
+fn number_after(rule: Rule) -> &'static str
+    ensures { result.now ≡ number_after rule }
+{
+    match rule {
+        Rule::F19 => "; a whole number from 0 to 16777215 is needed",
+        Rule::Z13 => "; more than 0 is needed",
+        Rule::Z14 => " is not whole",
+        _ => "",
+    }
+}
+
+/// Whether a rule speaks of a standard width that has no snap beside it.
+fn wants_snap(rule: Rule) -> bool
+    ensures { result ≡ wants_snap rule }
+{
+    matches!(rule, Rule::Z16)
+}
+
+impl fmt::Display for SnapDoesText {
+    ghost output = { λ t. Some (snap_does t.0) };
+
+    #[tactic(auto, unfolding(crate::specs::ZoneTexts::snap_does))]
+    fn fmt<W: fmt::Write>(&self, f: &mut fmt::Formatter<W>) -> fmt::Result {
+        let number = value(self.0);
+        write!(f, "; [{number}] would do")
+    }
+}
+
+impl fmt::Display for SnapText {
+    ghost output = { λ t. Some (snap_words t.rule t.number) };
+
+    fn fmt<W: fmt::Write>(&self, f: &mut fmt::Formatter<W>) -> fmt::Result {
+        if wants_snap(self.rule) && 0 < self.number {
+            let does = SnapDoesText(self.number);
+            write!(f, "{does}")
+        } else {
+            Ok(())
+        }
+    }
+}
+
+impl fmt::Display for NumberText {
+    ghost output = { λ t. Some (number_text t.rule t.number) };
+
+    #[tactic(auto, unfolding(crate::specs::ZoneTexts::number_text))]
+    fn fmt<W: fmt::Write>(&self, f: &mut fmt::Formatter<W>) -> fmt::Result {
+        let before = number_before(self.rule);
+        let number = value(self.number);
+        let after = number_after(self.rule);
+        let snap = SnapText {
+            rule: self.rule,
+            number: self.number,
+        };
+        write!(f, "{before}{number}{after}{snap}")
     }
 }
 

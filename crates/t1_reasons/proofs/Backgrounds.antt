@@ -5,8 +5,9 @@ use Rattle.t1_char.proofs.LookingBack.{since_goes_on}
 use Rattle.t1_rules.specs.StepRules.Flex.{current_point, origin}
 use Rattle.t1_rules.specs.StepRules.Paths.{closing_step, drawing, flex_end, flex_start, in_flex}
 use Rattle.t1_rules.specs.StepRules.Seac.{makes_outline}
-use Rattle.t1_reasons.specs.Backgrounds.{background_after, background_of, end_on, ends_path, outer_point_on, start_on, width_step}
-use Rattle.t1_reasons.specs.Carried.{carried_from, carried_over, last_on}
+use Rattle.t1_rules.specs.StepRules.Triples.{is_hstem, is_hstem3, is_vstem, is_vstem3}
+use Rattle.t1_reasons.specs.Backgrounds.{background_after, background_of, counted_step, end_on, ends_path, first_stem, outer_point_on, set_three, start_on, told_step, width_step}
+use Rattle.t1_reasons.specs.Carried.{carried_from, carried_over, last_on, last_told_on}
 
 carried_more : {A : Type 0} (next : A → List StepView → StepView → A) (carried : A) (before ss : List StepView) (t : StepView)
     → carried_from next carried before (ss ++ t ∷ []) ≡ next (carried_from next carried before ss) (before ++ ss) t
@@ -34,4 +35,10 @@ background_goes_on before t =
       carried_on (last_on flex_start) None before t,
       carried_on (last_on width_step) None before t,
       carried_on (last_on makes_outline) None before t,
+      carried_on (last_on told_step) None before t,
+      carried_on (last_on counted_step) None before t,
+      carried_on (last_told_on is_hstem first_stem) None before t,
+      carried_on (last_told_on is_hstem3 set_three) None before t,
+      carried_on (last_told_on is_vstem first_stem) None before t,
+      carried_on (last_told_on is_vstem3 set_three) None before t,
     ) refl

@@ -8,6 +8,7 @@ use Rattle.t1_reasons.specs.declared.reason.Reason.TheVariants.{Width}
 use Rattle.t1_reasons.specs.FontReasons.{is_apart, nearer, nearest, widths_in}
 use Rattle.t1_reasons.specs.StepReasons.{is_past_range, placed_from}
 use Rattle.std.specs.List.{find}
+use Rattle.std.specs.Option.{option_or}
 use Rattle.std.proofs.lemmas.List.Folds.{find-append}
 
 pub found_in_front : {A : Type 0} (p : A → Bool) (xs ys : List A) (x : A) → find p xs ≡ Some x → find p (xs ++ ys) ≡ Some x
@@ -15,6 +16,12 @@ found_in_front p xs ys x e = find-append p xs ys ∙ rw e refl
 
 pub found_behind : {A : Type 0} (p : A → Bool) (xs ys : List A) → find p xs ≡ None → find p (xs ++ ys) ≡ find p ys
 found_behind p xs ys e = find-append p xs ys ∙ rw e refl
+
+-- The first of three, by what is found of each.
+pub found_of_three : (p : Reason → Bool) (x y z : Reason)
+    → find p (x ∷ (y ∷ (z ∷ []))) ≡ option_or (option_or (find p (x ∷ [])) (find p (y ∷ []))) (find p (z ∷ []))
+found_of_three p x y z =
+    find-append p (x ∷ (y ∷ [])) (z ∷ []) ∙ ap (λ found. option_or found (find p (z ∷ []))) (find-append p (x ∷ []) (y ∷ []))
 
 pub found_at_first : {A B : Type 0} (p : B → Bool) (one : A → List A → List B) (all : List A → List B)
     → ((x : A) (xs : List A) → all (x ∷ xs) ≡ one x xs ++ all xs) → (v : List A) (d : A) (r : B) (found : Option B) → 1 ≤ length v

@@ -1,39 +1,43 @@
 -- Laws of reasons in the entries of a font.
-use Rattle.std.proofs.Common.{◌≡◌, ℕ, zero, suc, ◌-◌, ◌*◌, ◌/◌, ◌%◌, ◌<◌, ◌≤◌, ◌==◌, ◌&&◌, ◌||◌, not, Bool, true, false, Some, None, is_some, List, [], ◌∷◌, length, take, drop, slice_get, nat_eq, nat_lt, if◌then◌else◌, ℤ, pos, negsuc, neg_ℤ, ◌-ℤ◌, ◌*ℤ◌, ◌≤ℤ◌, ◌↔◌, int_le, refl, sym, ap, ◌∙◌, arith}
+use Rattle.std.proofs.Common.{◌≡◌, ℕ, zero, suc, ◌-◌, ◌*◌, ◌/◌, ◌%◌, ◌<◌, ◌≤◌, ◌==◌, ◌&&◌, ◌||◌, not, Bool, true, false, Some, None, is_some, List, [], ◌∷◌, length, take, drop, slice_get, nat_eq, nat_le, nat_lt, if◌then◌else◌, ℤ, pos, negsuc, neg_ℤ, ◌-ℤ◌, ◌*ℤ◌, ◌≤ℤ◌, ◌↔◌, int_le, refl, sym, ap, ◌∙◌, arith}
 use Rattle.std.specs.List.{find, list_all, list_any}
 use Rattle.std.specs.Map.{lookup}
 use Rattle.std.specs.Option.{unwrap_or}
 use Rattle.std.specs.Ordering.{int_eq}
 use Rattle.std.proofs.Math.Bool.{and-false}
+use Rattle.std.proofs.lemmas.Bool.{leb-true}
 use Rattle.std.proofs.lemmas.Int.{ints}
 use Rattle.std.proofs.Math.Nat.{le-div_iff_mul-le, mul_comm}
+use Rattle.t1_char.specs.declared.edition.Edition.{Edition}
+use Rattle.t1_char.specs.Editions.{has_later_rules}
 use Rattle.t1_font.specs.declared.key.Key.{Key}
-use Rattle.t1_font.specs.declared.key.Key.TheVariants.{FontType, PaintType, UniqueId, PrivateUniqueId, Password, MinFeature, BlueScale, BlueShift, BlueFuzz}
+use Rattle.t1_font.specs.declared.key.Key.TheVariants.{FontType, PaintType, UniqueId, PrivateUniqueId, Password, MinFeature, BlueValues, BlueScale, BlueShift, BlueFuzz, FontMatrix, FontBBox, Xuid, LanguageGroup}
 use Rattle.t1_font.specs.Fonts.{FontValue, is_subr_twice}
 use Rattle.t1_font.specs.Values.{Value, absent, number as one_number, numbers as several_numbers, other as another}
 use Rattle.t1_scan.specs.Numbers.{billion}
 use Rattle.t1_rules.specs.declared.rule.Rule.{Rule}
-use Rattle.t1_rules.specs.declared.rule.Rule.TheVariants.{F03, F04, F05, F06, F07, F08, F11, F14, Z01, Z02, Z03, Z04, Z05, Z06, Z07, Z08, Z09, Z10, Z11}
+use Rattle.t1_rules.specs.declared.rule.Rule.TheVariants.{F03, F04, F05, F06, F07, F08, F11, F14, F15, F16, F17, F18, F19, F20, Z01, Z02, Z03, Z04, Z05, Z06, Z07, Z08, Z09, Z10, Z11, Z12, Z13, Z14, Z15, Z16, Z17, Z18, Z19}
 use Rattle.t1_rules.specs.Book.{last_number_before, number_of}
-use Rattle.t1_rules.specs.FontRules.{FontRule, each, each_of, first_font_rules, font_rules, says, violated}
+use Rattle.t1_rules.specs.FontRules.{FontRule, each, each_of, first_font_rules, font_rules, later_font_rules, later_rules_in, says, violated}
+use Rattle.t1_rules.specs.FontRules.Dictionaries.{are_exchanged as corners_exchanged, has_corners_exchanged, has_number_past_range, is_malformed, is_no_group}
 use Rattle.t1_rules.specs.FontRules.Encoding.{is_no_form}
-use Rattle.t1_rules.specs.FontRules.Hints.{falls_at, has_too_many, hint_keys, is_of_another_kind, is_of_kind, number_at, numbers_at}
+use Rattle.t1_rules.specs.FontRules.Hints.{falls_at, has_fraction_at, has_too_many, hint_keys, is_of_another_kind, is_of_kind, is_past_fuzzes, is_past_scales, is_past_shifts, number_at, numbers_at, repeats_at}
 use Rattle.t1_rules.specs.FontRules.Ids.{differ, id_keys, is_past_range}
-use Rattle.t1_rules.specs.FontRules.Stems.{is_not_among, is_not_one_width, snap_keys, width_is_apart, width_keys, width_of}
+use Rattle.t1_rules.specs.FontRules.Stems.{has_no_snap, is_not_above_zero, is_not_among, is_not_one_width, lacks_snap, snap_keys, width_is_apart, width_keys, width_of}
 use Rattle.t1_rules.specs.FontRules.Subrs.{is_wrong_subr as wrong_subr}
-use Rattle.t1_rules.specs.FontRules.Values.{count_in, first_in, is_absent, is_numbers, is_one_number, is_sixteen_twice, is_the_number, product_one}
+use Rattle.t1_rules.specs.FontRules.Values.{count_in, first_in, is_absent, is_number_so, is_numbers, is_one_number, is_sixteen_twice, is_so_many, is_the_number, product_one}
 use Rattle.t1_rules.specs.FontRules.Zones.{begins_zone, come_near, comes_near_high, distance, has_odd_count, high_of, is_too_high, is_too_near, low_zone_keys, meets, scale, zone_keys, zones}
-use Rattle.t1_rules.specs.Keys.{index_count, key_number, list_limit_of, value_at}
+use Rattle.t1_rules.specs.Keys.{index_count, key_number, list_limit_of, value_at, xuid_limit}
 use Rattle.t1_rules.proofs.Lemmas.Book.{both}
-use Rattle.t1_rules.proofs.Lemmas.FontRules.{later_rules_change_no_other}
+use Rattle.t1_rules.proofs.Lemmas.FontRules.{in_later, in_parts, later_rules_change_no_other}
 use Rattle.t1_reasons.specs.declared.reason.Edges.{Edges}
 use Rattle.t1_reasons.specs.declared.reason.EntryKind.TheVariants.{Number as OneNumber, Numbers as ManyNumbers}
 use Rattle.t1_reasons.specs.declared.reason.Reason.{Reason}
-use Rattle.t1_reasons.specs.declared.reason.Reason.TheVariants.{Entry, Following, Form, Gap, Ids, Kind, Numbers, SubrEntry, TooMany, Width, Zone, Zones}
-use Rattle.t1_reasons.specs.FontReasons.{are_near, are_not_one, are_two_ids, at_key, at_keys, counts_at, excess_at, fits, forms_at, is_excess, is_misfit, is_no_width, is_nothing, is_odd, is_unknown_form, is_wrong_subr, kinds_at, kinds_of, subrs_in, wanted_at, beside_zones, compared_font_row, compares_in_fonts, entries_at, falls, falls_in, features_at, features_in, first_in_font_row, font_reason_row, font_row_of, found_in, gap_in, ids_at, ids_of, is_apart, is_found_number, is_near, is_neither_fill_nor_stroke, is_no_id, is_not_5839, is_not_one, is_past_ids, is_unusual_feature, key_among, meetings_at, meetings_in, nearer, nearest, of_key, reaches_one, scale_for, told_in_font, told_in_fonts, widths_at, widths_in, zone_from, zone_in, zones_in}
+use Rattle.t1_reasons.specs.declared.reason.Reason.TheVariants.{Corners, Entry, Following, Form, Gap, Ids, Kind, Number, Numbers, SubrEntry, TooMany, Width, Zone, Zones}
+use Rattle.t1_reasons.specs.FontReasons.{FontReasonRow, are_exchanged, are_so_many, corners_at, corners_of, first_of, first_widths_at, is_found_so, is_wrong_entry, is_wrong_found, is_wrong_listed, is_wrong_number, later_font_row, listed_in, repeats, row_in, unsnapped_at, are_near, are_two_ids, at_key, at_keys, counts_at, excess_at, fits, forms_at, is_excess, is_misfit, is_nothing, is_odd, is_unknown_form, is_wrong_subr, kinds_at, kinds_of, subrs_in, wanted_at, beside_zones, compared_font_row, compares_in_fonts, entries_at, falls, falls_in, features_at, features_in, first_in_font_row, font_reason_row, font_row_of, found_in, gap_in, ids_at, ids_of, is_apart, is_found_number, is_near, is_unusual_feature, key_among, meetings_at, meetings_in, nearer, nearest, of_key, reaches_one, scale_for, told_in_font, told_in_fonts, widths_at, widths_in, zone_from, zone_in, zones_in}
 use Rattle.t1_reasons.specs.Laws.{FontReasonsAreAgainstTheirRules, FontsBreakWhereThereIsAReason, ScalesDo}
-use Rattle.t1_reasons.specs.StepReasons.{is_any}
-use Rattle.t1_reasons.proofs.LawProofs.{found_such, found_there, one_such, such_in_both, such_where}
+use Rattle.t1_reasons.specs.StepReasons.{is_any, only_where}
+use Rattle.t1_reasons.proofs.LawProofs.{found_such, found_there, one_such, such_in_both, such_where, where_so}
 
 -- No rule of a table has this number.
 abbrev without_number : ℕ → List FontRule → Bool
@@ -86,11 +90,6 @@ unequal : (b : Bool) → not ((b && false) && false) ≡ true
 unequal true = refl
 unequal false = refl
 
-where_so : (b : Bool) (p : Reason → Bool) (xs : List Reason) {test : Bool} → test ≡ is_some (find p xs)
-    → (b && test) ≡ is_some (find p (if b then xs else []))
-where_so true p xs same = same
-where_so false p xs same = refl
-
 -- A row that speaks of several keys, and one that speaks of one.
 keys_agree : (p : Reason → Bool) (test : FontValue → Key → ℕ → Bool) (candidates : FontValue → Key → ℕ → List Reason)
     → ((font : FontValue) (k : Key) (index : ℕ) → test font k index ≡ is_some (find p (candidates font k index)))
@@ -124,33 +123,26 @@ number_agrees n (one_number z) = refl
 number_agrees n (several_numbers count first) = refl
 number_agrees n another = refl
 
-typed : (font : FontValue) (k : Key) (index : ℕ)
-    → (index == 0 && not (is_the_number 1 (value_at font k))) ≡ is_some (find is_not_one (entries_at font k index))
-typed font k index =
-    rw (number_agrees 1 (value_at font k)) (sym (such_where (index == 0) is_not_one (Entry (found_in (value_at font k)))))
+-- A rule on an entry alone sees what the entry is.
+entry_agrees : (rule : Rule) (test : Value → Bool) → ((v : Value) → test v ≡ is_wrong_found rule (found_in v))
+    → (font : FontValue) (k : Key) (index : ℕ) → (index == 0 && test (value_at font k)) ≡ is_some (find (is_wrong_entry rule) (entries_at font k index))
+entry_agrees rule test agree font k index =
+    rw (agree (value_at font k)) (sym (such_where (index == 0) (is_wrong_entry rule) (Entry (found_in (value_at font k)))))
 
-painted : (font : FontValue) (k : Key) (index : ℕ)
-    → (index == 0 && not (is_the_number 0 (value_at font k) || is_the_number 2 (value_at font k)))
-    ≡ is_some (find is_neither_fill_nor_stroke (entries_at font k index))
-painted font k index =
-    rw (number_agrees 0 (value_at font k), number_agrees 2 (value_at font k))
-    (sym (such_where (index == 0) is_neither_fill_nor_stroke (Entry (found_in (value_at font k)))))
+not_one : (v : Value) → not (is_the_number 1 v) ≡ is_wrong_found F03 (found_in v)
+not_one v = ap not (number_agrees 1 v)
 
-passed : (font : FontValue) (k : Key) (index : ℕ)
-    → (index == 0 && not (is_the_number 5839 (value_at font k))) ≡ is_some (find is_not_5839 (entries_at font k index))
-passed font k index =
-    rw (number_agrees 5839 (value_at font k)) (sym (such_where (index == 0) is_not_5839 (Entry (found_in (value_at font k)))))
+not_painted : (v : Value) → not (is_the_number 0 v || is_the_number 2 v) ≡ is_wrong_found F04 (found_in v)
+not_painted v = rw (number_agrees 0 v, number_agrees 2 v) refl
 
-id_agrees : (v : Value) → is_past_range v ≡ is_no_id (found_in v)
+not_password : (v : Value) → not (is_the_number 5839 v) ≡ is_wrong_found F07 (found_in v)
+not_password v = ap not (number_agrees 5839 v)
+
+id_agrees : (v : Value) → is_past_range v ≡ is_wrong_found F05 (found_in v)
 id_agrees absent = refl
 id_agrees (one_number z) = refl
 id_agrees (several_numbers count first) = refl
 id_agrees another = refl
-
-past_ids : (font : FontValue) (k : Key) (index : ℕ)
-    → (index == 0 && is_past_range (value_at font k)) ≡ is_some (find is_past_ids (entries_at font k index))
-past_ids font k index =
-    rw (id_agrees (value_at font k)) (sym (such_where (index == 0) is_past_ids (Entry (found_in (value_at font k)))))
 
 ids_agree : (one two : Value) → differ one two ≡ is_some (find are_two_ids (ids_of one two))
 ids_agree absent two = refl
@@ -231,16 +223,11 @@ many font k index = sym (such_where (index == list_limit_of k) is_excess (TooMan
 odd : (font : FontValue) (k : Key) (index : ℕ) → has_odd_count (value_at font k) index ≡ is_some (find is_odd (counts_at font k index))
 odd font k index = sym (such_where (index == 0) is_odd (Numbers (count_in (value_at font k))))
 
-width_agrees : (v : Value) → is_not_one_width v ≡ are_not_one (found_in v)
+width_agrees : (v : Value) → is_not_one_width v ≡ is_wrong_found Z08 (found_in v)
 width_agrees absent = refl
 width_agrees (one_number z) = refl
 width_agrees (several_numbers count first) = refl
 width_agrees another = refl
-
-no_width : (font : FontValue) (k : Key) (index : ℕ)
-    → (index == 0 && is_not_one_width (value_at font k)) ≡ is_some (find is_no_width (entries_at font k index))
-no_width font k index =
-    rw (width_agrees (value_at font k)) (sym (such_where (index == 0) is_no_width (Entry (found_in (value_at font k)))))
 
 fallen : (v : List ℤ) (index : ℕ) → falls_at v index ≡ is_some (find falls (falls_in v index))
 fallen v index = sym (such_where (nat_lt 0 index && nat_lt index (length v)) falls (Following (number_at v (index - 1)) (number_at v index)))
@@ -285,89 +272,217 @@ snapped font k index =
     where_so (index == 0) is_apart (widths_in (first_in 1 (value_at font (width_of k))) (numbers_at font k))
     (among (first_in 1 (value_at font (width_of k))) (numbers_at font k))
 
-compared_decides : (font : FontValue) (rule : Rule) (key index : ℕ) → compares_in_fonts rule ≡ true
-    → violated first_font_rules (number_of rule) font key index ≡ is_some (first_in_font_row (compared_font_row rule) font key index)
-unfolding first_font_rules
-compared_decides font F03 key index e =
-    font_row_decides 3 first_font_rules 2 _ refl refl refl refl font key index
-    ∙ keys_agree is_not_one (λ font k index. index == 0 && not (is_the_number 1 (value_at font k))) entries_at typed (FontType ∷ []) font key index
-compared_decides font F04 key index e =
-    font_row_decides 4 first_font_rules 3 _ refl refl refl refl font key index
-    ∙ keys_agree is_neither_fill_nor_stroke (λ font k index. index == 0 && not (is_the_number 0 (value_at font k) || is_the_number 2 (value_at font k))) entries_at painted (PaintType ∷ []) font key index
-compared_decides font F05 key index e =
-    font_row_decides 5 first_font_rules 4 _ refl refl refl refl font key index
-    ∙ keys_agree is_past_ids (λ font k index. index == 0 && is_past_range (value_at font k)) entries_at past_ids id_keys font key index
-compared_decides font F06 key index e =
-    font_row_decides 6 first_font_rules 5 _ refl refl refl refl font key index
-    ∙ keys_agree are_two_ids (λ font k index. index == 0 && differ (value_at font UniqueId) (value_at font k)) ids_at differing (PrivateUniqueId ∷ []) font key index
-compared_decides font F07 key index e =
-    font_row_decides 7 first_font_rules 6 _ refl refl refl refl font key index
-    ∙ keys_agree is_not_5839 (λ font k index. index == 0 && not (is_the_number 5839 (value_at font k))) entries_at passed (Password ∷ []) font key index
-compared_decides font F08 key index e =
-    font_row_decides 8 first_font_rules 7 _ refl refl refl refl font key index
-    ∙ keys_agree is_unusual_feature (λ font k index. index == 0 && not (is_sixteen_twice (value_at font k))) features_at unusual (MinFeature ∷ []) font key index
-compared_decides font F11 key index e =
-    font_row_decides 11 first_font_rules 10 _ refl refl refl refl font key index
-    ∙ key_agrees is_unknown_form (λ font index. index == 0 && is_no_form font.encoding) forms_at formed 4 font key index
-compared_decides font F14 key index e =
-    font_row_decides 14 first_font_rules 13 _ refl refl refl refl font key index ∙ key_agrees is_wrong_subr wrong_subr subrs_in wrong 20 font key index
-compared_decides font Z01 key index e =
-    font_row_decides 15 first_font_rules 14 _ refl refl refl refl font key index
-    ∙ keys_agree is_misfit (λ font k index. is_of_another_kind k (value_at font k) index) kinds_at of_kind hint_keys font key index
-compared_decides font Z02 key index e =
-    font_row_decides 16 first_font_rules 15 _ refl refl refl refl font key index
-    ∙ keys_agree is_excess (λ font k index. has_too_many k (value_at font k) index) excess_at many zone_keys font key index
-compared_decides font Z03 key index e =
-    font_row_decides 17 first_font_rules 16 _ refl refl refl refl font key index
-    ∙ keys_agree is_odd (λ font k index. has_odd_count (value_at font k) index) counts_at odd zone_keys font key index
-compared_decides font Z04 key index e =
-    font_row_decides 18 first_font_rules 17 _ refl refl refl refl font key index
-    ∙ keys_agree falls (λ font k index. falls_at (numbers_at font k) index) (λ font k index. falls_in (numbers_at font k) index) (λ font k index. fallen (numbers_at font k) index) zone_keys font key index
-compared_decides font Z05 key index e =
-    font_row_decides 19 first_font_rules 18 _ refl refl refl refl font key index
-    ∙ keys_agree is_near (λ font k index. is_too_near (distance font) (numbers_at font k) index) (λ font k index. gap_in (distance font) (numbers_at font k) index) (λ font k index. near (distance font) (numbers_at font k) index) zone_keys font key index
-compared_decides font Z06 key index e =
-    font_row_decides 20 first_font_rules 19 _ refl refl refl refl font key index
-    ∙ keys_agree are_near comes_near_high meetings_at (λ font k index. met (distance font) (numbers_at font k) (numbers_at font (high_of k)) index) low_zone_keys font key index
-compared_decides font Z07 key index e =
-    font_row_decides 21 first_font_rules 20 _ refl refl refl refl font key index
-    ∙ keys_agree reaches_one (λ font k index. is_too_high (scale font) (numbers_at font k) index) (λ font k index. zone_in (scale font) (numbers_at font k) index) (λ font k index. high (scale font) (numbers_at font k) index) zone_keys font key index
-compared_decides font Z08 key index e =
-    font_row_decides 22 first_font_rules 21 _ refl refl refl refl font key index
-    ∙ keys_agree is_no_width (λ font k index. index == 0 && is_not_one_width (value_at font k)) entries_at no_width width_keys font key index
-compared_decides font Z09 key index e =
-    font_row_decides 23 first_font_rules 22 _ refl refl refl refl font key index
-    ∙ keys_agree is_excess (λ font k index. has_too_many k (value_at font k) index) excess_at many snap_keys font key index
-compared_decides font Z10 key index e =
-    font_row_decides 24 first_font_rules 23 _ refl refl refl refl font key index
-    ∙ keys_agree falls (λ font k index. falls_at (numbers_at font k) index) (λ font k index. falls_in (numbers_at font k) index) (λ font k index. fallen (numbers_at font k) index) snap_keys font key index
-compared_decides font Z11 key index e =
-    font_row_decides 25 first_font_rules 24 _ refl refl refl refl font key index
-    ∙ keys_agree is_apart (λ font k index. index == 0 && width_is_apart font k) widths_at snapped snap_keys font key index
-compared_decides font _ key index e = let no : false ≡ true = e in cc
+-- ---- the rules after number 70
 
--- A rule that compares numbers is one up to number 70.
-compared_few : (rule : Rule) → compares_in_fonts rule ≡ true → number_of rule ≤ last_number_before
-compared_few F03 e = omega arith
-compared_few F04 e = omega arith
-compared_few F05 e = omega arith
-compared_few F06 e = omega arith
-compared_few F07 e = omega arith
-compared_few F08 e = omega arith
-compared_few F11 e = omega arith
-compared_few F14 e = omega arith
-compared_few Z01 e = omega arith
-compared_few Z02 e = omega arith
-compared_few Z03 e = omega arith
-compared_few Z04 e = omega arith
-compared_few Z05 e = omega arith
-compared_few Z06 e = omega arith
-compared_few Z07 e = omega arith
-compared_few Z08 e = omega arith
-compared_few Z09 e = omega arith
-compared_few Z10 e = omega arith
-compared_few Z11 e = omega arith
-compared_few _ e = let no : false ≡ true = e in cc
+so_many_agree : (n : ℕ) (v : Value) → is_so_many n v ≡ are_so_many n (found_in v)
+so_many_agree n absent = refl
+so_many_agree n (one_number z) = refl
+so_many_agree n (several_numbers count first) = refl
+so_many_agree n another = refl
+
+not_six : (v : Value) → not (is_so_many 6 v) ≡ is_wrong_found F15 (found_in v)
+not_six v = ap not (so_many_agree 6 v)
+
+not_four : (v : Value) → not (is_so_many 4 v) ≡ is_wrong_found F16 (found_in v)
+not_four v = ap not (so_many_agree 4 v)
+
+malformed : (v : Value) → is_malformed v ≡ is_wrong_found F18 (found_in v)
+malformed absent = refl
+malformed (one_number z) = refl
+malformed (several_numbers count first) = refl
+malformed another = refl
+
+no_group : (v : Value) → is_no_group v ≡ is_wrong_found F20 (found_in v)
+no_group v = rw (nothing_there v, number_agrees 0 v, number_agrees 1 v) refl
+
+number_so : (test : ℤ → Bool) (v : Value) → is_number_so test v ≡ is_found_so test (found_in v)
+number_so test absent = refl
+number_so test (one_number z) = refl
+number_so test (several_numbers count first) = refl
+number_so test another = refl
+
+exchanged : (v : List ℤ) (index : ℕ) → corners_exchanged v index ≡ is_some (find are_exchanged (corners_of v index))
+exchanged [] index = refl
+exchanged (a ∷ []) index = refl
+exchanged (a ∷ (b ∷ [])) index = refl
+exchanged (a ∷ (b ∷ (c ∷ []))) index = refl
+exchanged (left ∷ (lower ∷ (right ∷ (upper ∷ [])))) index =
+    sym (such_in_both are_exchanged (only_where (index == 0) (Corners left right)) (only_where (index == 1) (Corners lower upper))
+    ∙ rw (such_where (index == 0) are_exchanged (Corners left right), such_where (index == 1) are_exchanged (Corners lower upper)) refl)
+exchanged (a ∷ (b ∷ (c ∷ (d ∷ (e ∷ v))))) index = refl
+
+exchanged_at : (font : FontValue) (k : Key) (index : ℕ) → has_corners_exchanged (value_at font k) index ≡ is_some (find are_exchanged (corners_at font k index))
+exchanged_at font k index =
+    where_so (is_so_many 4 (value_at font k)) are_exchanged (corners_of (first_in 4 (value_at font k)) index)
+    (exchanged (first_in 4 (value_at font k)) index)
+
+listed : (rule : Rule) (v : List ℤ) (index : ℕ)
+    → (nat_lt index (length v) && is_wrong_number rule (number_at v index)) ≡ is_some (find (is_wrong_listed rule) (listed_in v index))
+listed rule v index = sym (such_where (nat_lt index (length v)) (is_wrong_listed rule) (Number (number_at v index)))
+
+not_above_zero : (v : List ℤ) → is_not_above_zero v ≡ is_some (find (is_wrong_listed Z13) (first_of v))
+not_above_zero [] = refl
+not_above_zero (width ∷ widths) = sym (one_such (is_wrong_listed Z13) (Number width))
+
+not_above : (font : FontValue) (k : Key) (index : ℕ)
+    → (index == 0 && is_not_above_zero (first_in 1 (value_at font k))) ≡ is_some (find (is_wrong_listed Z13) (first_widths_at font k index))
+not_above font k index =
+    where_so (index == 0) (is_wrong_listed Z13) (first_of (first_in 1 (value_at font k))) (not_above_zero (first_in 1 (value_at font k)))
+
+repeated : (v : List ℤ) (index : ℕ) → repeats_at v index ≡ is_some (find repeats (falls_in v index))
+repeated v index = sym (such_where (nat_lt 0 index && nat_lt index (length v)) repeats (Following (number_at v (index - 1)) (number_at v index)))
+
+unsnapped : (font : FontValue) (k : Key) (index : ℕ) → (index == 0 && has_no_snap font k) ≡ is_some (find is_any (unsnapped_at font k index))
+unsnapped font k index = go (index == 0) (first_in 1 (value_at font (width_of k))) (is_so_many 0 (value_at font k)) (lacks (first_in 1 (value_at font (width_of k))) (value_at font k))
+  where
+    lacks : (widths : List ℤ) (v : Value) → lacks_snap widths v ≡ (is_so_many 0 v && is_some (find is_any (first_of widths)))
+    lacks [] v = sym (and-false (is_so_many 0 v))
+    lacks (width ∷ widths) v = and_true (is_so_many 0 v)
+
+    go : (b : Bool) (widths : List ℤ) (c : Bool) {test : Bool} → test ≡ (c && is_some (find is_any (first_of widths)))
+        → (b && test) ≡ is_some (find is_any (if b && c then first_of widths else []))
+    go true widths true same = same
+    go true widths false same = same
+    go false widths c same = refl
+
+-- A rule that the first part of the book hasn't says what the later part does, where the edition has that.
+later_decides : (edition : Edition) (n : ℕ) → without_number n first_font_rules ≡ true → (font : FontValue) (key index : ℕ) (row : FontReasonRow)
+    → violated later_font_rules n font key index ≡ is_some (first_in_font_row row font key index)
+    → violated (font_rules edition) n font key index ≡ is_some (first_in_font_row (row_in edition row) font key index)
+later_decides edition n other font key index row same =
+    in_parts edition n font key index
+    ∙ ap (λ b. b || violated (later_rules_in edition) n font key index) (none_says n first_font_rules other font key index)
+    ∙ in_later edition n font key index
+    ∙ where_so (has_later_rules edition) row.is_against (row.candidates font key index) same
+
+-- A rule up to number 70 says what the first part of the book does.
+of_first : (edition : Edition) (n : ℕ) → nat_le n last_number_before ≡ true → (font : FontValue) (key index : ℕ)
+    → violated (font_rules edition) n font key index ≡ violated first_font_rules n font key index
+of_first edition n few font key index = later_rules_change_no_other edition n font key index (leb-true n last_number_before few)
+
+-- ---- all of them
+
+compared_decides : (edition : Edition) (font : FontValue) (rule : Rule) (key index : ℕ) → compares_in_fonts rule ≡ true
+    → violated (font_rules edition) (number_of rule) font key index ≡ is_some (first_in_font_row (compared_font_row edition rule) font key index)
+unfolding first_font_rules later_font_rules
+compared_decides edition font F03 key index e =
+    of_first edition 3 refl font key index
+    ∙ font_row_decides 3 first_font_rules 2 _ refl refl refl refl font key index
+    ∙ keys_agree (is_wrong_entry F03) (λ font k index. index == 0 && not (is_the_number 1 (value_at font k))) entries_at (entry_agrees F03 (λ v. not (is_the_number 1 v)) not_one) (FontType ∷ []) font key index
+compared_decides edition font F04 key index e =
+    of_first edition 4 refl font key index
+    ∙ font_row_decides 4 first_font_rules 3 _ refl refl refl refl font key index
+    ∙ keys_agree (is_wrong_entry F04) (λ font k index. index == 0 && not (is_the_number 0 (value_at font k) || is_the_number 2 (value_at font k))) entries_at (entry_agrees F04 (λ v. not (is_the_number 0 v || is_the_number 2 v)) not_painted) (PaintType ∷ []) font key index
+compared_decides edition font F05 key index e =
+    of_first edition 5 refl font key index
+    ∙ font_row_decides 5 first_font_rules 4 _ refl refl refl refl font key index
+    ∙ keys_agree (is_wrong_entry F05) (λ font k index. index == 0 && is_past_range (value_at font k)) entries_at (entry_agrees F05 is_past_range id_agrees) id_keys font key index
+compared_decides edition font F06 key index e =
+    of_first edition 6 refl font key index
+    ∙ font_row_decides 6 first_font_rules 5 _ refl refl refl refl font key index
+    ∙ keys_agree are_two_ids (λ font k index. index == 0 && differ (value_at font UniqueId) (value_at font k)) ids_at differing (PrivateUniqueId ∷ []) font key index
+compared_decides edition font F07 key index e =
+    of_first edition 7 refl font key index
+    ∙ font_row_decides 7 first_font_rules 6 _ refl refl refl refl font key index
+    ∙ keys_agree (is_wrong_entry F07) (λ font k index. index == 0 && not (is_the_number 5839 (value_at font k))) entries_at (entry_agrees F07 (λ v. not (is_the_number 5839 v)) not_password) (Password ∷ []) font key index
+compared_decides edition font F08 key index e =
+    of_first edition 8 refl font key index
+    ∙ font_row_decides 8 first_font_rules 7 _ refl refl refl refl font key index
+    ∙ keys_agree is_unusual_feature (λ font k index. index == 0 && not (is_sixteen_twice (value_at font k))) features_at unusual (MinFeature ∷ []) font key index
+compared_decides edition font F11 key index e =
+    of_first edition 11 refl font key index
+    ∙ font_row_decides 11 first_font_rules 10 _ refl refl refl refl font key index
+    ∙ key_agrees is_unknown_form (λ font index. index == 0 && is_no_form font.encoding) forms_at formed 4 font key index
+compared_decides edition font F14 key index e =
+    of_first edition 14 refl font key index
+    ∙ font_row_decides 14 first_font_rules 13 _ refl refl refl refl font key index ∙ key_agrees is_wrong_subr wrong_subr subrs_in wrong 20 font key index
+compared_decides edition font Z01 key index e =
+    of_first edition 15 refl font key index
+    ∙ font_row_decides 15 first_font_rules 14 _ refl refl refl refl font key index
+    ∙ keys_agree is_misfit (λ font k index. is_of_another_kind k (value_at font k) index) kinds_at of_kind hint_keys font key index
+compared_decides edition font Z02 key index e =
+    of_first edition 16 refl font key index
+    ∙ font_row_decides 16 first_font_rules 15 _ refl refl refl refl font key index
+    ∙ keys_agree is_excess (λ font k index. has_too_many k (value_at font k) index) excess_at many zone_keys font key index
+compared_decides edition font Z03 key index e =
+    of_first edition 17 refl font key index
+    ∙ font_row_decides 17 first_font_rules 16 _ refl refl refl refl font key index
+    ∙ keys_agree is_odd (λ font k index. has_odd_count (value_at font k) index) counts_at odd zone_keys font key index
+compared_decides edition font Z04 key index e =
+    of_first edition 18 refl font key index
+    ∙ font_row_decides 18 first_font_rules 17 _ refl refl refl refl font key index
+    ∙ keys_agree falls (λ font k index. falls_at (numbers_at font k) index) (λ font k index. falls_in (numbers_at font k) index) (λ font k index. fallen (numbers_at font k) index) zone_keys font key index
+compared_decides edition font Z05 key index e =
+    of_first edition 19 refl font key index
+    ∙ font_row_decides 19 first_font_rules 18 _ refl refl refl refl font key index
+    ∙ keys_agree is_near (λ font k index. is_too_near (distance font) (numbers_at font k) index) (λ font k index. gap_in (distance font) (numbers_at font k) index) (λ font k index. near (distance font) (numbers_at font k) index) zone_keys font key index
+compared_decides edition font Z06 key index e =
+    of_first edition 20 refl font key index
+    ∙ font_row_decides 20 first_font_rules 19 _ refl refl refl refl font key index
+    ∙ keys_agree are_near comes_near_high meetings_at (λ font k index. met (distance font) (numbers_at font k) (numbers_at font (high_of k)) index) low_zone_keys font key index
+compared_decides edition font Z07 key index e =
+    of_first edition 21 refl font key index
+    ∙ font_row_decides 21 first_font_rules 20 _ refl refl refl refl font key index
+    ∙ keys_agree reaches_one (λ font k index. is_too_high (scale font) (numbers_at font k) index) (λ font k index. zone_in (scale font) (numbers_at font k) index) (λ font k index. high (scale font) (numbers_at font k) index) zone_keys font key index
+compared_decides edition font Z08 key index e =
+    of_first edition 22 refl font key index
+    ∙ font_row_decides 22 first_font_rules 21 _ refl refl refl refl font key index
+    ∙ keys_agree (is_wrong_entry Z08) (λ font k index. index == 0 && is_not_one_width (value_at font k)) entries_at (entry_agrees Z08 is_not_one_width width_agrees) width_keys font key index
+compared_decides edition font Z09 key index e =
+    of_first edition 23 refl font key index
+    ∙ font_row_decides 23 first_font_rules 22 _ refl refl refl refl font key index
+    ∙ keys_agree is_excess (λ font k index. has_too_many k (value_at font k) index) excess_at many snap_keys font key index
+compared_decides edition font Z10 key index e =
+    of_first edition 24 refl font key index
+    ∙ font_row_decides 24 first_font_rules 23 _ refl refl refl refl font key index
+    ∙ keys_agree falls (λ font k index. falls_at (numbers_at font k) index) (λ font k index. falls_in (numbers_at font k) index) (λ font k index. fallen (numbers_at font k) index) snap_keys font key index
+compared_decides edition font Z11 key index e =
+    of_first edition 25 refl font key index
+    ∙ font_row_decides 25 first_font_rules 24 _ refl refl refl refl font key index
+    ∙ keys_agree is_apart (λ font k index. index == 0 && width_is_apart font k) widths_at snapped snap_keys font key index
+compared_decides edition font F15 key index e = later_decides edition 71 refl font key index (later_font_row F15)
+    (font_row_decides 71 later_font_rules 0 _ refl refl refl refl font key index
+    ∙ keys_agree (is_wrong_entry F15) (λ font k index. index == 0 && not (is_so_many 6 (value_at font k))) entries_at (entry_agrees F15 (λ v. not (is_so_many 6 v)) not_six) (FontMatrix ∷ []) font key index)
+compared_decides edition font F16 key index e = later_decides edition 72 refl font key index (later_font_row F16)
+    (font_row_decides 72 later_font_rules 1 _ refl refl refl refl font key index
+    ∙ keys_agree (is_wrong_entry F16) (λ font k index. index == 0 && not (is_so_many 4 (value_at font k))) entries_at (entry_agrees F16 (λ v. not (is_so_many 4 v)) not_four) (FontBBox ∷ []) font key index)
+compared_decides edition font F17 key index e = later_decides edition 73 refl font key index (later_font_row F17)
+    (font_row_decides 73 later_font_rules 2 _ refl refl refl refl font key index
+    ∙ keys_agree are_exchanged (λ font k index. has_corners_exchanged (value_at font k) index) corners_at exchanged_at (FontBBox ∷ []) font key index)
+compared_decides edition font F18 key index e = later_decides edition 74 refl font key index (later_font_row F18)
+    (font_row_decides 74 later_font_rules 3 _ refl refl refl refl font key index
+    ∙ keys_agree (is_wrong_entry F18) (λ font k index. index == 0 && is_malformed (value_at font k)) entries_at (entry_agrees F18 is_malformed malformed) (Xuid ∷ []) font key index)
+compared_decides edition font F19 key index e = later_decides edition 75 refl font key index (later_font_row F19)
+    (font_row_decides 75 later_font_rules 4 _ refl refl refl refl font key index
+    ∙ keys_agree (is_wrong_listed F19) (λ font k index. has_number_past_range (value_at font k) index) (λ font k index. listed_in (first_in xuid_limit (value_at font k)) index) (λ font k index. listed F19 (first_in xuid_limit (value_at font k)) index) (Xuid ∷ []) font key index)
+compared_decides edition font F20 key index e = later_decides edition 76 refl font key index (later_font_row F20)
+    (font_row_decides 76 later_font_rules 5 _ refl refl refl refl font key index
+    ∙ keys_agree (is_wrong_entry F20) (λ font k index. index == 0 && is_no_group (value_at font k)) entries_at (entry_agrees F20 is_no_group no_group) (LanguageGroup ∷ []) font key index)
+compared_decides edition font Z12 key index e = later_decides edition 78 refl font key index (later_font_row Z12)
+    (font_row_decides 78 later_font_rules 7 _ refl refl refl refl font key index
+    ∙ keys_agree (is_wrong_entry Z12) (λ font k index. index == 0 && is_absent (value_at font k)) entries_at (entry_agrees Z12 is_absent nothing_there) (BlueValues ∷ []) font key index)
+compared_decides edition font Z13 key index e = later_decides edition 79 refl font key index (later_font_row Z13)
+    (font_row_decides 79 later_font_rules 8 _ refl refl refl refl font key index
+    ∙ keys_agree (is_wrong_listed Z13) (λ font k index. index == 0 && is_not_above_zero (first_in 1 (value_at font k))) first_widths_at not_above width_keys font key index)
+compared_decides edition font Z14 key index e = later_decides edition 80 refl font key index (later_font_row Z14)
+    (font_row_decides 80 later_font_rules 9 _ refl refl refl refl font key index
+    ∙ keys_agree (is_wrong_listed Z14) (λ font k index. has_fraction_at (numbers_at font k) index) (λ font k index. listed_in (numbers_at font k) index) (λ font k index. listed Z14 (numbers_at font k) index) zone_keys font key index)
+compared_decides edition font Z15 key index e = later_decides edition 81 refl font key index (later_font_row Z15)
+    (font_row_decides 81 later_font_rules 10 _ refl refl refl refl font key index
+    ∙ keys_agree repeats (λ font k index. repeats_at (numbers_at font k) index) (λ font k index. falls_in (numbers_at font k) index) (λ font k index. repeated (numbers_at font k) index) snap_keys font key index)
+compared_decides edition font Z16 key index e = later_decides edition 82 refl font key index (later_font_row Z16)
+    (font_row_decides 82 later_font_rules 11 _ refl refl refl refl font key index
+    ∙ keys_agree is_any (λ font k index. index == 0 && has_no_snap font k) unsnapped_at unsnapped snap_keys font key index)
+compared_decides edition font Z17 key index e = later_decides edition 83 refl font key index (later_font_row Z17)
+    (font_row_decides 83 later_font_rules 12 _ refl refl refl refl font key index
+    ∙ keys_agree (is_wrong_entry Z17) (λ font k index. index == 0 && (is_number_so is_past_scales) (value_at font k)) entries_at (entry_agrees Z17 (is_number_so is_past_scales) (number_so is_past_scales)) (BlueScale ∷ []) font key index)
+compared_decides edition font Z18 key index e = later_decides edition 84 refl font key index (later_font_row Z18)
+    (font_row_decides 84 later_font_rules 13 _ refl refl refl refl font key index
+    ∙ keys_agree (is_wrong_entry Z18) (λ font k index. index == 0 && (is_number_so is_past_shifts) (value_at font k)) entries_at (entry_agrees Z18 (is_number_so is_past_shifts) (number_so is_past_shifts)) (BlueShift ∷ []) font key index)
+compared_decides edition font Z19 key index e = later_decides edition 85 refl font key index (later_font_row Z19)
+    (font_row_decides 85 later_font_rules 14 _ refl refl refl refl font key index
+    ∙ keys_agree (is_wrong_entry Z19) (λ font k index. index == 0 && (is_number_so is_past_fuzzes) (value_at font k)) entries_at (entry_agrees Z19 (is_number_so is_past_fuzzes) (number_so is_past_fuzzes)) (BlueFuzz ∷ []) font key index)
+compared_decides edition font _ key index e = let no : false ≡ true = e in cc
 
 pub fonts_broken_where_reason : FontsBreakWhereThereIsAReason
 fonts_broken_where_reason edition font rule key index = go (compares_in_fonts rule) refl
@@ -376,8 +491,8 @@ fonts_broken_where_reason edition font rule key index = go (compares_in_fonts ru
     is_broken = violated (font_rules edition) (number_of rule) font key index
 
     go : (b : Bool) → compares_in_fonts rule ≡ b → is_broken
-        ≡ is_some (first_in_font_row (if b then compared_font_row rule else font_reason_row (told_in_fonts edition rule) is_any) font key index)
-    go true is = later_rules_change_no_other edition (number_of rule) font key index (compared_few rule is) ∙ compared_decides font rule key index is
+        ≡ is_some (first_in_font_row (if b then compared_font_row edition rule else font_reason_row (told_in_fonts edition rule) is_any) font key index)
+    go true is = compared_decides edition font rule key index is
     go false is = and_true is_broken ∙ sym (such_where is_broken is_any (told_in_font rule font index))
 
 pub reasons_are_against : FontReasonsAreAgainstTheirRules

@@ -1,6 +1,6 @@
 -- Laws of reasons.
 use Rattle.std.proofs.Common.{◌≡◌, ℕ, suc, arith, ◌&&◌, ◌||◌, Bool, true, false, Option, Some, None, is_some, List, [], ◌∷◌, ◌++◌, length, refl, sym, ap, ◌∙◌, ℤ, map, take, ◌-◌, ◌*◌, ◌≤◌, ◌==◌, nat_le, not, pos}
-use Rattle.std.specs.Prelude.{if◌then◌else◌, ◌+◌}
+use Rattle.std.specs.Prelude.{if◌then◌else◌, ◌+◌, option_map}
 use Rattle.std.specs.Option.{option_or}
 use Rattle.std.specs.List.{find, flat_map, list_any, Contains}
 use Rattle.std.proofs.lemmas.Bool.{leb-true}
@@ -8,7 +8,7 @@ use Rattle.std.proofs.lemmas.Int.{ints}
 use Rattle.std.proofs.lemmas.List.Folds.{find-append}
 use Rattle.std.proofs.Math.Bool.{and-false, and-true}
 use Rattle.t1_char.specs.declared.command.Command.{Command as Commands}
-use Rattle.t1_char.specs.declared.command.Command.TheVariants.{Vstem, Vstem3}
+use Rattle.t1_char.specs.declared.command.Command.TheVariants.{Hstem3, Vstem, Vstem3}
 use Rattle.t1_char.specs.declared.edition.Edition.{Edition}
 use Rattle.t1_char.specs.declared.token.CharToken.{CharToken}
 use Rattle.t1_char.specs.declared.token.CharToken.TheVariants.{Command}
@@ -16,12 +16,14 @@ use Rattle.t1_char.specs.Arguments.{is_callothersubr, is_flex_end, is_flex_point
 use Rattle.t1_char.specs.Numbers.{natural, unit}
 use Rattle.t1_char.specs.Stacks.{from_top}
 use Rattle.t1_char.specs.Commands.{arguments_of}
+use Rattle.t1_char.specs.Editions.{has_later_rules}
 use Rattle.t1_char.specs.Steps.{StepView, is_return}
 use Rattle.t1_char.specs.Seacs.{is_seac}
 use Rattle.t1_rules.specs.declared.rule.Rule.{Rule}
-use Rattle.t1_rules.specs.declared.rule.Rule.TheVariants.{C03, C04, C05, C06, C07, C08, C09, S01, S02, S03, H02, H03, H04, X04, X05, O01, O02, O03, K01, K02, K05}
+use Rattle.t1_rules.specs.declared.rule.Rule.TheVariants.{C03, C04, C05, C06, C07, C08, C09, S01, S02, S03, H02, H03, H04, H05, H07, X04, X05, O01, O02, O03, O07, K01, K02, K05}
 use Rattle.t1_rules.specs.declared.sidebearings.Component.{Component}
 use Rattle.t1_rules.specs.declared.step_rules.stems.Stem.{Stem}
+use Rattle.t1_rules.specs.declared.step_rules.triples.Triple.{Triple as TripleOfStems}
 use Rattle.t1_rules.specs.Book.{number_of}
 use Rattle.t1_rules.specs.StepRules.{argument_rules, breaks, call_rules, path_rules, stem_rules, flex_rules, othersubr_rules, seac_rules, component_rules, step_rules, charstring_rules, triple_rules, counter_rules}
 use Rattle.t1_rules.specs.StepRules.Arguments.{divides, divides_by_zero, divides_past, has_argument_past, has_too_few_arguments, has_too_many_arguments, is_more_than, is_past, one_is_past, overflows, wanted_by}
@@ -30,17 +32,22 @@ use Rattle.t1_rules.specs.StepRules.Calls.{calls_by_number, calls_missing, calls
 use Rattle.t1_rules.specs.StepRules.Flex.{counts_no_pairs, current_point, end_point, ends_elsewhere, flex_moves, flex_points, is_elsewhere}
 use Rattle.t1_rules.specs.StepRules.Paths.{in_flex}
 use Rattle.t1_rules.specs.StepRules.Seac.{accent, accent_sidebearing, differs_in_sidebearing, has_no_code as no_code, has_unnamed_code, is_another}
-use Rattle.t1_rules.specs.StepRules.Stems.{has_no_width, is_stem, is_triple, sets_unequal, sets_without_width, hint_set, lies_across, one_overlaps, overlap_by, sets_overlapping, stands_upright, stems_meet, stems_of, two_overlap}
+use Rattle.t1_rules.specs.StepRules.Stems.{is_stem, is_triple, sets_unequal, sets_without_width, hint_set, lies_across, one_overlaps, overlap_by, sets_overlapping, stands_upright, stems_meet, stems_of, two_overlap}
+use Rattle.t1_rules.specs.StepRules.Counters.{is_counting, leaves_numbers}
 use Rattle.t1_rules.specs.StepRules.Tokens.{is_command, is_unknown}
+use Rattle.t1_rules.specs.StepRules.Triples.{changes_by, differs_from, has_same_edges, is_hstem3, is_vstem3, last_triple, sets_another, sets_thin, triple_of}
 use Rattle.t1_rules.proofs.Lemmas.StepRules.{row_decides}
 use Rattle.t1_reasons.specs.declared.reason.Reason.{Reason}
 use Rattle.t1_reasons.specs.declared.reason.Reason.TheVariants.{Argument, Stem as StemAlone, Count, Pairs, Sidebearings, Stems, Token}
+use Rattle.t1_reasons.specs.declared.background.SetTriple.{SetTriple}
 use Rattle.t1_reasons.specs.declared.reason.SetStem.{SetStem}
-use Rattle.t1_reasons.specs.Backgrounds.{background_of}
-use Rattle.t1_reasons.specs.HintSets.{stems_set}
+use Rattle.t1_reasons.specs.Backgrounds.{background_of, set_three}
+use Rattle.t1_reasons.specs.Carried.{last_told}
+use Rattle.t1_reasons.specs.HintSets.{set_at, stems_set}
 use Rattle.t1_reasons.specs.Laws.{ReasonsAreAgainstTheirRules, StepsBreakWhereThereIsAReason}
-use Rattle.t1_reasons.specs.StepReasons.{additions_at, are_no_pairs, brings, is_full, pairs_at, arguments_in, beside, calls_at, codes_at, has_no_code, has_no_name, is_by_zero, is_outermost, is_past_quotient, is_too_deep, is_unknown_othersubr, is_unknown_token, known_calls_at, quotients_at, returns_at, compared_row, compares, count_of, counts_in, first_in_row, has_fewer, has_more, is_any, is_bad_count, is_lacking_subr, is_miscounted, is_miss, is_overlap, is_past_range, is_told_otherwise, is_uneven, is_widthless, misses_at, only_where, othersubrs_at, own_stems, pairs, pairs_with, placed_from, placed_of, reason_row, row_of, sidebearings_at, single_stems_at, stems_at, subrs_at, told_at, told_by, takes, triples_at, wants_in, with_own}
+use Rattle.t1_reasons.specs.StepReasons.{beside_last, beside_last_of, counters_at, have_other_edges, is_thin_stem, leaves_some, threes_at, additions_at, are_no_pairs, brings, is_full, pairs_at, arguments_in, beside, calls_at, codes_at, has_no_code, has_no_name, is_by_zero, is_outermost, is_past_quotient, is_too_deep, is_unknown_othersubr, is_unknown_token, known_calls_at, quotients_at, returns_at, compared_row, compares, count_of, counts_in, first_in_row, has_fewer, has_more, is_any, is_bad_count, is_lacking_subr, is_miscounted, is_miss, is_overlap, is_past_range, is_told_otherwise, is_uneven, is_widthless, misses_at, only_where, othersubrs_at, own_stems, pairs, pairs_with, placed_from, placed_of, reason_row, row_of, sidebearings_at, single_stems_at, stems_at, subrs_at, told_at, told_by, takes, triples_at, wants_in, with_own}
 use Rattle.t1_reasons.proofs.Hints.{plain, plain_hints, plain_set}
+use Rattle.t1_reasons.proofs.LastCommands.{last_three_is}
 
 -- ---- the first such
 
@@ -61,6 +68,11 @@ such_in_both {A = A} p xs ys = ap is_some (find-append p xs ys) ∙ go (find p x
     go : (found : Option A) → is_some (option_or found (find p ys)) ≡ (is_some found || is_some (find p ys))
     go None = refl
     go (Some x) = refl
+
+pub where_so : (b : Bool) (p : Reason → Bool) (xs : List Reason) {test : Bool} → test ≡ is_some (find p xs)
+    → (b && test) ≡ is_some (find p (if b then xs else []))
+where_so true p xs same = same
+where_so false p xs same = refl
 
 -- ---- rule by rule
 
@@ -90,19 +102,54 @@ past_argument (Command command) stack = go (arguments_of command)
     go (Some count) = past_placed 1 (take count stack)
 past_argument _ stack = refl
 
-widthless_one : (stems : List Stem) → list_any has_no_width stems ≡ is_some (find is_widthless (map (λ s. StemAlone s) stems))
-widthless_one [] = refl
-widthless_one (s ∷ ss) =
-    sym (such_in_both is_widthless (StemAlone s ∷ []) (map (λ s. StemAlone s) ss)
-    ∙ rw (one_such is_widthless (StemAlone s), ← widthless_one ss) refl)
+-- One of the stems that a step sets is such.
+one_stem : (p : Reason → Bool) (stems : List Stem) → list_any (λ s. p (StemAlone s)) stems ≡ is_some (find p (map (λ s. StemAlone s) stems))
+one_stem p [] = refl
+one_stem p (s ∷ ss) =
+    sym (such_in_both p (StemAlone s ∷ []) (map (λ s. StemAlone s) ss) ∙ rw (one_such p (StemAlone s), ← one_stem p ss) refl)
 
 widthless : (step : StepView) → sets_without_width step ≡ is_some (find is_widthless (single_stems_at step))
-widthless step = go (is_stem step.token)
+widthless step = where_so (is_stem step.token) is_widthless (map (λ s. StemAlone s) (stems_of step)) (one_stem is_widthless (stems_of step))
+
+thin : (step : StepView) → sets_thin step ≡ is_some (find is_thin_stem (single_stems_at step))
+thin step = where_so (is_stem step.token) is_thin_stem (map (λ s. StemAlone s) (stems_of step)) (one_stem is_thin_stem (stems_of step))
+
+-- Three stems, one of which hasn't the edges of that in its place.
+not_all : (a b c : Bool) → not (a && b && c) ≡ (not a || (not b || not c))
+not_all true true true = refl
+not_all true true false = refl
+not_all true false c = refl
+not_all false b c = refl
+
+one_of_three : (p : Reason → Bool) (x y z : Reason) → is_some (find p (x ∷ (y ∷ (z ∷ [])))) ≡ (p x || (p y || p z))
+one_of_three p x y z =
+    such_in_both p (x ∷ []) (y ∷ (z ∷ [])) ∙ rw (one_such p x, such_in_both p (y ∷ []) (z ∷ []), one_such p y, one_such p z) refl
+
+changed : (own : TripleOfStems) (last : Option SetTriple)
+    → differs_from (option_map (λ t. t.triple) last) own ≡ is_some (find have_other_edges (beside_last own last))
+changed own None = refl
+changed own (Some other) =
+    not_all (has_same_edges other.triple.one own.one) (has_same_edges other.triple.two own.two) (has_same_edges other.triple.three own.three)
+    ∙ sym (one_of_three have_other_edges (Stems own.one (set_at other.step other.triple.one)) (Stems own.two (set_at other.step other.triple.two))
+    (Stems own.three (set_at other.step other.triple.three)))
+
+another : (before : List StepView) (step : StepView) → sets_another before step ≡ is_some (find have_other_edges (threes_at before step))
+another before step = go step.token
   where
-    go : (b : Bool) → (b && list_any has_no_width (stems_of step))
-        ≡ is_some (find is_widthless (if b then map (λ s. StemAlone s) (stems_of step) else []))
-    go true = widthless_one (stems_of step)
-    go false = refl
+    since_last : (kind : CharToken → Bool)
+        → differs_from (last_triple kind before) (triple_of step)
+        ≡ is_some (find have_other_edges (beside_last (triple_of step) (last_told kind set_three before)))
+    since_last kind =
+        ap (λ last. differs_from last (triple_of step)) (sym (last_three_is kind before)) ∙ changed (triple_of step) (last_told kind set_three before)
+
+    go : (token : CharToken) → changes_by token before (triple_of step)
+        ≡ is_some (find have_other_edges (beside_last_of token before (triple_of step)))
+    go (Command Hstem3) = since_last is_hstem3
+    go (Command Vstem3) = since_last is_vstem3
+    go _ = refl
+
+left_over : (step : StepView) → leaves_numbers step ≡ is_some (find leaves_some (counters_at step))
+left_over step = sym (such_where (is_counting step) leaves_some _)
 
 uneven : (step : StepView) → sets_unequal step ≡ is_some (find is_uneven (triples_at step))
 uneven step = sym (such_where (is_command is_triple step.token) is_uneven _)
@@ -309,6 +356,12 @@ compared_decides edition components H03 before step e =
     row_decides 48 (charstring_rules edition components) 22 _ refl refl refl refl before step ∙ widthless step
 compared_decides edition components H04 before step e =
     row_decides 49 (charstring_rules edition components) 23 _ refl refl refl refl before step ∙ uneven step
+compared_decides edition components H05 before step e =
+    row_decides 86 (charstring_rules edition components) 39 _ refl refl refl refl before step
+    ∙ where_so (has_later_rules edition) is_thin_stem (single_stems_at step) (thin step)
+compared_decides edition components H07 before step e =
+    row_decides 88 (charstring_rules edition components) 41 _ refl refl refl refl before step
+    ∙ where_so (has_later_rules edition) have_other_edges (threes_at before step) (another before step)
 compared_decides edition components X04 before step e =
     row_decides 55 (charstring_rules edition components) 29 _ refl refl refl refl before step ∙ unpaired before step
 compared_decides edition components X05 before step e =
@@ -319,6 +372,9 @@ compared_decides edition components O02 before step e =
     row_decides 59 (charstring_rules edition components) 33 _ refl refl refl refl before step ∙ badly_counted step
 compared_decides edition components O03 before step e =
     row_decides 60 (charstring_rules edition components) 34 _ refl refl refl refl before step ∙ miscounted step
+compared_decides edition components O07 before step e =
+    row_decides 91 (charstring_rules edition components) 44 _ refl refl refl refl before step
+    ∙ where_so (has_later_rules edition) leaves_some (counters_at step) (left_over step)
 compared_decides edition components K01 before step e =
     row_decides 62 (charstring_rules edition components) 36 _ refl refl refl refl before step ∙ without_code step
 compared_decides edition components K02 before step e =

@@ -4,6 +4,7 @@ mod FaultLaws
 mod Finds
 mod FontLaws
 mod Hints
+mod LastCommands
 mod LastSteps
 mod LawProofs
 mod PathStarts

@@ -4,13 +4,18 @@ use Rattle.t1_char.specs.Arguments.{is_flex_end, is_flex_start}
 use Rattle.t1_char.specs.Since.{since}
 use Rattle.t1_char.specs.Steps.{StepView}
 use Rattle.t1_reasons.specs.declared.background.Background.{Background}
-use Rattle.t1_reasons.specs.Carried.{carried_over, last_such}
+use Rattle.t1_reasons.specs.declared.background.SetTriple.{SetTriple}
+use Rattle.t1_reasons.specs.declared.reason.SetStem.{SetStem}
+use Rattle.t1_reasons.specs.Carried.{carried_over, last_such, last_told}
+use Rattle.t1_reasons.specs.HintSets.{set_at}
 use Rattle.t1_rules.specs.declared.step_rules.flex.Point.{Point}
 use Rattle.t1_rules.specs.StepRules.Flex.{current_point, origin}
 use Rattle.t1_rules.specs.StepRules.Paths.{closing_step, drawing, flex_start, in_flex, outer_move}
 use Rattle.t1_rules.specs.StepRules.Seac.{makes_outline}
-use Rattle.t1_rules.specs.StepRules.Stems.{is_stem}
+use Rattle.t1_rules.specs.StepRules.Counters.{ends_counting, is_told}
+use Rattle.t1_rules.specs.StepRules.Stems.{is_stem, stem_at}
 use Rattle.t1_rules.specs.StepRules.Tokens.{closes, is_line, is_move, sets_width}
+use Rattle.t1_rules.specs.StepRules.Triples.{is_hstem, is_hstem3, is_vstem, is_vstem3, triple_of}
 
 -- Where the last step outside flex left the pen: in flex it is the point at which that began.
 abbrev pub outer_point_on : Point → List StepView → StepView → Point
@@ -49,6 +54,21 @@ path_end steps = carried_over end_on origin steps
 abbrev pub width_step : List StepView → StepView → Bool
 width_step before step = sets_width step.token
 
+-- A command that empties the stack, or a call of an OtherSubr, whatever came before it.
+abbrev pub told_step : List StepView → StepView → Bool
+told_step before step = is_told step
+
+-- The end of counter control.
+abbrev pub counted_step : List StepView → StepView → Bool
+counted_step before step = ends_counting step
+
+-- The first stem of a step with its number, and its three stems.
+abbrev pub first_stem : ℕ → StepView → SetStem
+first_stem number step = set_at number (stem_at step.stack 0)
+
+abbrev pub set_three : ℕ → StepView → SetTriple
+set_three number step = record { triple = triple_of step; step = number }
+
 abbrev pub background_of : List StepView → Background
 background_of before = record {
   start = path_start before;
@@ -60,6 +80,12 @@ background_of before = record {
   flex = last_such flex_start before;
   width = last_such width_step before;
   outlined = last_such makes_outline before;
+  told = last_such told_step before;
+  counted = last_such counted_step before;
+  hstem = last_told is_hstem first_stem before;
+  hstem3 = last_told is_hstem3 set_three before;
+  vstem = last_told is_vstem first_stem before;
+  vstem3 = last_told is_vstem3 set_three before;
 }
 
 -- The same one step further: whether that is in flex, its number, and where it leaves the pen.
@@ -86,4 +112,10 @@ background_after background in_flex number pen step = record {
   flex = if is_flex_start step then Some number else background.flex;
   width = if sets_width step.token then Some number else background.width;
   outlined = if outlines_in in_flex step then Some number else background.outlined;
+  told = if is_told step then Some number else background.told;
+  counted = if ends_counting step then Some number else background.counted;
+  hstem = if is_hstem step.token then Some (first_stem number step) else background.hstem;
+  hstem3 = if is_hstem3 step.token then Some (set_three number step) else background.hstem3;
+  vstem = if is_vstem step.token then Some (first_stem number step) else background.vstem;
+  vstem3 = if is_vstem3 step.token then Some (set_three number step) else background.vstem3;
 }

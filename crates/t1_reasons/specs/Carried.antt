@@ -1,5 +1,6 @@
 -- What is carried from step to step: each step changes it, given the steps before.
-use Rattle.std.specs.Prelude.{ℕ, ◌+◌, if◌then◌else◌, Option, Some, None, List, [], ◌∷◌, ◌++◌, length}
+use Rattle.std.specs.Prelude.{ℕ, ◌+◌, if◌then◌else◌, Bool, Option, Some, None, List, [], ◌∷◌, ◌++◌, length}
+use Rattle.t1_char.specs.declared.token.CharToken.{CharToken}
 use Rattle.t1_char.specs.Since.{Test}
 use Rattle.t1_char.specs.Steps.{StepView}
 
@@ -16,3 +17,10 @@ last_on is_such last before step = if is_such before step then Some (length befo
 
 abbrev pub last_such : Test → List StepView → Option ℕ
 last_such is_such steps = carried_over (last_on is_such) None steps
+
+-- The last step with a token of a kind, as it is told of with its number; None where there is none.
+abbrev pub last_told_on : {A : Type 0} → (CharToken → Bool) → (ℕ → StepView → A) → Option A → List StepView → StepView → Option A
+last_told_on kind tell last before step = if kind step.token then Some (tell (length before + 1) step) else last
+
+abbrev pub last_told : {A : Type 0} → (CharToken → Bool) → (ℕ → StepView → A) → List StepView → Option A
+last_told kind tell steps = carried_over (last_told_on kind tell) None steps

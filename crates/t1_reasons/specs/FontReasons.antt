@@ -1,25 +1,27 @@
 -- Why a font breaks a rule at a key and an index: what the rule compares there, and which of that is against it.
-use Rattle.std.specs.Prelude.{ℕ, suc, ◌+◌, ◌-◌, ◌*◌, ◌/◌, ◌%◌, ◌==◌, ◌&&◌, ◌||◌, not, Bool, true, false, if◌then◌else◌, nat_eq, nat_lt, int_le, int_lt, ℤ, pos, ◌-ℤ◌, ◌*ℤ◌, unsigned_abs, Option, Some, None, is_some, List, [], ◌∷◌, length, map}
+use Rattle.std.specs.Prelude.{ℕ, suc, ◌+◌, ◌-◌, ◌*◌, ◌/◌, ◌%◌, ◌==◌, ◌&&◌, ◌||◌, not, Bool, true, false, if◌then◌else◌, nat_eq, nat_lt, int_le, int_lt, ℤ, pos, ◌-ℤ◌, ◌*ℤ◌, unsigned_abs, Option, Some, None, is_some, List, [], ◌∷◌, ◌++◌, length, map}
 use Rattle.std.specs.List.{find}
 use Rattle.std.specs.Map.{lookup}
 use Rattle.std.specs.Option.{unwrap_or}
 use Rattle.std.specs.Ordering.{int_eq}
 use Rattle.t1_char.specs.declared.edition.Edition.{Edition}
+use Rattle.t1_char.specs.Charstrings.{tokens_in}
+use Rattle.t1_char.specs.Endings.{last_token}
 use Rattle.t1_font.specs.declared.key.Key.{Key}
-use Rattle.t1_font.specs.declared.key.Key.TheVariants.{FontType, PaintType, UniqueId, PrivateUniqueId, Password, MinFeature, BlueScale, BlueShift, BlueFuzz}
+use Rattle.t1_font.specs.declared.key.Key.TheVariants.{FontType, PaintType, UniqueId, PrivateUniqueId, Password, MinFeature, BlueValues, BlueScale, BlueShift, BlueFuzz, FontMatrix, FontBBox, Xuid, LanguageGroup}
 use Rattle.t1_font.specs.Fonts.{FontValue, is_subr_twice}
 use Rattle.t1_font.specs.Values.{Value, absent, number as one_number, numbers as several_numbers, other as another}
 use Rattle.t1_rules.specs.declared.rule.Rule.{Rule}
-use Rattle.t1_rules.specs.declared.rule.Rule.TheVariants.{F03, F04, F05, F06, F07, F08, F09, F10, F11, F13, F14, Z01, Z02, Z03, Z04, Z05, Z06, Z07, Z08, Z09, Z10, Z11}
-use Rattle.t1_rules.specs.Book.{number_of}
+use Rattle.t1_rules.specs.declared.rule.Rule.TheVariants.{F03, F04, F05, F06, F07, F08, F09, F10, F11, F13, F14, F15, F16, F17, F18, F19, F20, F21, Z01, Z02, Z03, Z04, Z05, Z06, Z07, Z08, Z09, Z10, Z11, Z12, Z13, Z14, Z15, Z16, Z17, Z18, Z19}
+use Rattle.t1_rules.specs.Book.{last_number_before, number_of}
 use Rattle.t1_rules.specs.FontRules.{font_rules, violated}
 use Rattle.t1_rules.specs.FontRules.Encoding.{is_no_form}
-use Rattle.t1_rules.specs.FontRules.Hints.{hint_keys, number_at, numbers_at}
+use Rattle.t1_rules.specs.FontRules.Hints.{hint_keys, is_past_fuzzes, is_past_scales, is_past_shifts, number_at, numbers_at}
 use Rattle.t1_rules.specs.FontRules.Ids.{id_keys, is_whole_to}
 use Rattle.t1_rules.specs.FontRules.Stems.{snap_keys, width_keys, width_of}
-use Rattle.t1_rules.specs.FontRules.Values.{count_in, first_in, product_one, whole}
+use Rattle.t1_rules.specs.FontRules.Values.{count_in, first_in, is_so_many, is_whole, product_one, whole}
 use Rattle.t1_rules.specs.FontRules.Zones.{begins_zone, distance, high_of, low_zone_keys, scale, zone_keys}
-use Rattle.t1_rules.specs.Keys.{encoding_key, index_count, key_number, list_limit_of, subrs_key, value_at}
+use Rattle.t1_rules.specs.Keys.{encoding_key, index_count, key_number, list_limit_of, subrs_key, value_at, xuid_limit}
 use Rattle.t1_scan.specs.Numbers.{billion}
 use Rattle.t1_reasons.specs.declared.reason.Edges.{Edges}
 use Rattle.t1_reasons.specs.declared.reason.EntryKind.{EntryKind}
@@ -27,8 +29,8 @@ use Rattle.t1_reasons.specs.declared.reason.EntryKind.TheVariants.{Number as One
 use Rattle.t1_reasons.specs.declared.reason.Found.{Found}
 use Rattle.t1_reasons.specs.declared.reason.Found.TheVariants.{Absent, One, Other, Several}
 use Rattle.t1_reasons.specs.declared.reason.Reason.{Reason}
-use Rattle.t1_reasons.specs.declared.reason.Reason.TheVariants.{Code, Entry, Following, Features, Form, Gap, Glyph, Glyphs, Ids, Kind, Nothing, Numbers, SubrEntry, TooMany, Width, Zone, Zones}
-use Rattle.t1_reasons.specs.StepReasons.{is_any, only_where}
+use Rattle.t1_reasons.specs.declared.reason.Reason.TheVariants.{Code, Corners, Entry, Following, Features, Form, Gap, Glyph, Glyphs, Ids, Kind, LastToken, Nothing, Number, Numbers, SubrEntry, TooMany, Width, Zone, Zones}
+use Rattle.t1_reasons.specs.StepReasons.{in_edition, is_any, only_where}
 
 -- ---- candidates
 
@@ -83,6 +85,36 @@ kinds_of found wanted = only_where (not (is_nothing found)) (Kind found wanted)
 
 abbrev pub kinds_at : FontValue → Key → ℕ → List Reason
 kinds_at font k index = if index == 0 then kinds_of (found_in (value_at font k)) (wanted_at k) else []
+
+-- The two coordinates of one direction that FontBBox's corners have, where it has four numbers.
+abbrev pub corners_of : List ℤ → ℕ → List Reason
+corners_of (left ∷ (lower ∷ (right ∷ (upper ∷ [])))) index =
+    only_where (index == 0) (Corners left right) ++ only_where (index == 1) (Corners lower upper)
+corners_of _ index = []
+
+abbrev pub corners_at : FontValue → Key → ℕ → List Reason
+corners_at font k index = if is_so_many 4 (value_at font k) then corners_of (first_in 4 (value_at font k)) index else []
+
+-- A number of a list.
+abbrev pub listed_in : List ℤ → ℕ → List Reason
+listed_in v index = only_where (nat_lt index (length v)) (Number (number_at v index))
+
+-- The first of a standard width, at its own entry, and at stem snaps without a number.
+abbrev pub first_of : List ℤ → List Reason
+first_of [] = []
+first_of (width ∷ widths) = Number width ∷ []
+
+abbrev pub first_widths_at : FontValue → Key → ℕ → List Reason
+first_widths_at font k index = if index == 0 then first_of (first_in 1 (value_at font k)) else []
+
+abbrev pub unsnapped_at : FontValue → Key → ℕ → List Reason
+unsnapped_at font k index =
+    if index == 0 && is_so_many 0 (value_at font k) then first_of (first_in 1 (value_at font (width_of k))) else []
+
+-- The last token of a Subr.
+abbrev pub last_token_of : FontValue → Option (List ℕ) → Reason
+last_token_of font None = Nothing
+last_token_of font (Some code) = LastToken (last_token (tokens_in font code))
 
 -- How many numbers a list has; at the first place that is too much, with its limit.
 abbrev pub excess_at : FontValue → Key → ℕ → List Reason
@@ -148,18 +180,6 @@ abbrev pub is_found_number : ℕ → Found → Bool
 is_found_number n (One z) = int_eq z (whole n)
 is_found_number n _ = false
 
-abbrev pub is_not_one : Reason → Bool
-is_not_one (Entry found) = not (is_found_number 1 found)
-is_not_one _ = false
-
-abbrev pub is_neither_fill_nor_stroke : Reason → Bool
-is_neither_fill_nor_stroke (Entry found) = not (is_found_number 0 found || is_found_number 2 found)
-is_neither_fill_nor_stroke _ = false
-
-abbrev pub is_not_5839 : Reason → Bool
-is_not_5839 (Entry found) = not (is_found_number 5839 found)
-is_not_5839 _ = false
-
 -- It is there, and no whole number from 0 to 16777215.
 abbrev pub is_no_id : Found → Bool
 is_no_id Absent = false
@@ -167,9 +187,64 @@ is_no_id (One z) = not (is_whole_to 16777215 z)
 is_no_id (Several count) = true
 is_no_id Other = true
 
-abbrev pub is_past_ids : Reason → Bool
-is_past_ids (Entry found) = is_no_id found
-is_past_ids _ = false
+-- Numbers, and not one.
+abbrev pub are_not_one : Found → Bool
+are_not_one (Several count) = not (count == 1)
+are_not_one _ = false
+
+-- It is so many numbers.
+abbrev pub are_so_many : ℕ → Found → Bool
+are_so_many n (Several count) = count == n
+are_so_many n _ = false
+
+-- It is there, and no list with a number.
+abbrev pub has_no_number : Found → Bool
+has_no_number Absent = false
+has_no_number (One z) = true
+has_no_number (Several count) = not (nat_lt 0 count)
+has_no_number Other = true
+
+-- It is a number of which this is so.
+abbrev pub is_found_so : (ℤ → Bool) → Found → Bool
+is_found_so test (One z) = test z
+is_found_so test _ = false
+
+-- What an entry isn't by a rule on it alone.
+abbrev pub is_wrong_found : Rule → Found → Bool
+is_wrong_found F03 found = not (is_found_number 1 found)
+is_wrong_found F04 found = not (is_found_number 0 found || is_found_number 2 found)
+is_wrong_found F05 found = is_no_id found
+is_wrong_found F07 found = not (is_found_number 5839 found)
+is_wrong_found F15 found = not (are_so_many 6 found)
+is_wrong_found F16 found = not (are_so_many 4 found)
+is_wrong_found F18 found = has_no_number found
+is_wrong_found F20 found = not (is_nothing found) && not (is_found_number 0 found || is_found_number 1 found)
+is_wrong_found Z08 found = are_not_one found
+is_wrong_found Z12 found = is_nothing found
+is_wrong_found Z17 found = is_found_so is_past_scales found
+is_wrong_found Z18 found = is_found_so is_past_shifts found
+is_wrong_found Z19 found = is_found_so is_past_fuzzes found
+is_wrong_found _ found = false
+
+abbrev pub is_wrong_entry : Rule → Reason → Bool
+is_wrong_entry rule (Entry found) = is_wrong_found rule found
+is_wrong_entry rule _ = false
+
+-- The same of a number of an entry.
+abbrev pub is_wrong_number : Rule → ℤ → Bool
+is_wrong_number F19 z = not (is_whole_to 16777215 z)
+is_wrong_number Z13 z = int_le z (pos 0)
+is_wrong_number Z14 z = not (is_whole z)
+is_wrong_number _ z = false
+
+abbrev pub is_wrong_listed : Rule → Reason → Bool
+is_wrong_listed rule (Number z) = is_wrong_number rule z
+is_wrong_listed rule _ = false
+
+-- A coordinate of one corner is above that of the other.
+abbrev pub are_exchanged : Reason → Bool
+are_exchanged (Corners first last) = int_lt last first
+are_exchanged _ = false
 
 abbrev pub are_two_ids : Reason → Bool
 are_two_ids (Ids one other) = not (int_eq one other)
@@ -216,18 +291,13 @@ abbrev pub is_odd : Reason → Bool
 is_odd (Numbers count) = count % 2 == 1
 is_odd _ = false
 
--- Numbers, and not one.
-abbrev pub are_not_one : Found → Bool
-are_not_one (Several count) = not (count == 1)
-are_not_one _ = false
-
-abbrev pub is_no_width : Reason → Bool
-is_no_width (Entry found) = are_not_one found
-is_no_width _ = false
-
 abbrev pub falls : Reason → Bool
 falls (Following before number) = int_lt number before
 falls _ = false
+
+abbrev pub repeats : Reason → Bool
+repeats (Following before number) = int_eq number before
+repeats _ = false
 
 abbrev pub is_near : Reason → Bool
 is_near (Gap upper lower d) = int_lt (lower -ℤ upper) d
@@ -267,56 +337,111 @@ pub record FontReasonRow : Type 0 where
 abbrev pub font_reason_row : (FontValue → ℕ → ℕ → List Reason) → (Reason → Bool) → FontReasonRow
 font_reason_row candidates is_against = record { candidates = candidates; is_against = is_against }
 
--- The rules that compare numbers.
-abbrev pub compares_in_fonts : Rule → Bool
-compares_in_fonts F03 = true
-compares_in_fonts F04 = true
-compares_in_fonts F05 = true
-compares_in_fonts F06 = true
-compares_in_fonts F07 = true
-compares_in_fonts F08 = true
-compares_in_fonts F11 = true
-compares_in_fonts F14 = true
-compares_in_fonts Z01 = true
-compares_in_fonts Z02 = true
-compares_in_fonts Z03 = true
-compares_in_fonts Z04 = true
-compares_in_fonts Z05 = true
-compares_in_fonts Z06 = true
-compares_in_fonts Z07 = true
-compares_in_fonts Z08 = true
-compares_in_fonts Z09 = true
-compares_in_fonts Z10 = true
-compares_in_fonts Z11 = true
-compares_in_fonts _ = false
+-- The rules that compare numbers: those up to number 70, and those after it.
+abbrev pub compares_first : Rule → Bool
+compares_first F03 = true
+compares_first F04 = true
+compares_first F05 = true
+compares_first F06 = true
+compares_first F07 = true
+compares_first F08 = true
+compares_first F11 = true
+compares_first F14 = true
+compares_first Z01 = true
+compares_first Z02 = true
+compares_first Z03 = true
+compares_first Z04 = true
+compares_first Z05 = true
+compares_first Z06 = true
+compares_first Z07 = true
+compares_first Z08 = true
+compares_first Z09 = true
+compares_first Z10 = true
+compares_first Z11 = true
+compares_first _ = false
 
-abbrev pub compared_font_row : Rule → FontReasonRow
-compared_font_row F03 = font_reason_row (at_keys (FontType ∷ []) entries_at) is_not_one
-compared_font_row F04 = font_reason_row (at_keys (PaintType ∷ []) entries_at) is_neither_fill_nor_stroke
-compared_font_row F05 = font_reason_row (at_keys id_keys entries_at) is_past_ids
-compared_font_row F06 = font_reason_row (at_keys (PrivateUniqueId ∷ []) ids_at) are_two_ids
-compared_font_row F07 = font_reason_row (at_keys (Password ∷ []) entries_at) is_not_5839
-compared_font_row F08 = font_reason_row (at_keys (MinFeature ∷ []) features_at) is_unusual_feature
-compared_font_row F11 = font_reason_row (at_key encoding_key forms_at) is_unknown_form
-compared_font_row F14 = font_reason_row (at_key subrs_key subrs_in) is_wrong_subr
-compared_font_row Z01 = font_reason_row (at_keys hint_keys kinds_at) is_misfit
-compared_font_row Z02 = font_reason_row (at_keys zone_keys excess_at) is_excess
-compared_font_row Z03 = font_reason_row (at_keys zone_keys counts_at) is_odd
-compared_font_row Z04 = font_reason_row (at_keys zone_keys (λ font k index. falls_in (numbers_at font k) index)) falls
-compared_font_row Z05 = font_reason_row (at_keys zone_keys (λ font k index. gap_in (distance font) (numbers_at font k) index)) is_near
-compared_font_row Z06 = font_reason_row (at_keys low_zone_keys meetings_at) are_near
-compared_font_row Z07 = font_reason_row (at_keys zone_keys (λ font k index. zone_in (scale font) (numbers_at font k) index)) reaches_one
-compared_font_row Z08 = font_reason_row (at_keys width_keys entries_at) is_no_width
-compared_font_row Z09 = font_reason_row (at_keys snap_keys excess_at) is_excess
-compared_font_row Z10 = font_reason_row (at_keys snap_keys (λ font k index. falls_in (numbers_at font k) index)) falls
-compared_font_row Z11 = font_reason_row (at_keys snap_keys widths_at) is_apart
-compared_font_row _ = font_reason_row (λ font key index. []) is_any
+abbrev pub compares_later : Rule → Bool
+compares_later F15 = true
+compares_later F16 = true
+compares_later F17 = true
+compares_later F18 = true
+compares_later F19 = true
+compares_later F20 = true
+compares_later Z12 = true
+compares_later Z13 = true
+compares_later Z14 = true
+compares_later Z15 = true
+compares_later Z16 = true
+compares_later Z17 = true
+compares_later Z18 = true
+compares_later Z19 = true
+compares_later _ = false
+
+abbrev pub compares_in_fonts : Rule → Bool
+compares_in_fonts rule = compares_first rule || compares_later rule
+
+-- The row of a rule on entries alone.
+abbrev pub entry_row : Rule → List Key → FontReasonRow
+entry_row rule keys = font_reason_row (at_keys keys entries_at) (is_wrong_entry rule)
+
+-- The rows of the rules up to number 70.
+abbrev pub first_font_row : Rule → FontReasonRow
+first_font_row F03 = entry_row F03 (FontType ∷ [])
+first_font_row F04 = entry_row F04 (PaintType ∷ [])
+first_font_row F05 = entry_row F05 id_keys
+first_font_row F06 = font_reason_row (at_keys (PrivateUniqueId ∷ []) ids_at) are_two_ids
+first_font_row F07 = entry_row F07 (Password ∷ [])
+first_font_row F08 = font_reason_row (at_keys (MinFeature ∷ []) features_at) is_unusual_feature
+first_font_row F11 = font_reason_row (at_key encoding_key forms_at) is_unknown_form
+first_font_row F14 = font_reason_row (at_key subrs_key subrs_in) is_wrong_subr
+first_font_row Z01 = font_reason_row (at_keys hint_keys kinds_at) is_misfit
+first_font_row Z02 = font_reason_row (at_keys zone_keys excess_at) is_excess
+first_font_row Z03 = font_reason_row (at_keys zone_keys counts_at) is_odd
+first_font_row Z04 = font_reason_row (at_keys zone_keys (λ font k index. falls_in (numbers_at font k) index)) falls
+first_font_row Z05 = font_reason_row (at_keys zone_keys (λ font k index. gap_in (distance font) (numbers_at font k) index)) is_near
+first_font_row Z06 = font_reason_row (at_keys low_zone_keys meetings_at) are_near
+first_font_row Z07 = font_reason_row (at_keys zone_keys (λ font k index. zone_in (scale font) (numbers_at font k) index)) reaches_one
+first_font_row Z08 = entry_row Z08 width_keys
+first_font_row Z09 = font_reason_row (at_keys snap_keys excess_at) is_excess
+first_font_row Z10 = font_reason_row (at_keys snap_keys (λ font k index. falls_in (numbers_at font k) index)) falls
+first_font_row Z11 = font_reason_row (at_keys snap_keys widths_at) is_apart
+first_font_row _ = font_reason_row (λ font key index. []) is_any
+
+-- The rows of the rules after number 70.
+abbrev pub later_font_row : Rule → FontReasonRow
+later_font_row F15 = entry_row F15 (FontMatrix ∷ [])
+later_font_row F16 = entry_row F16 (FontBBox ∷ [])
+later_font_row F17 = font_reason_row (at_keys (FontBBox ∷ []) corners_at) are_exchanged
+later_font_row F18 = entry_row F18 (Xuid ∷ [])
+later_font_row F19 =
+    font_reason_row (at_keys (Xuid ∷ []) (λ font k index. listed_in (first_in xuid_limit (value_at font k)) index)) (is_wrong_listed F19)
+later_font_row F20 = entry_row F20 (LanguageGroup ∷ [])
+later_font_row Z12 = entry_row Z12 (BlueValues ∷ [])
+later_font_row Z13 = font_reason_row (at_keys width_keys first_widths_at) (is_wrong_listed Z13)
+later_font_row Z14 = font_reason_row (at_keys zone_keys (λ font k index. listed_in (numbers_at font k) index)) (is_wrong_listed Z14)
+later_font_row Z15 = font_reason_row (at_keys snap_keys (λ font k index. falls_in (numbers_at font k) index)) repeats
+later_font_row Z16 = font_reason_row (at_keys snap_keys unsnapped_at) is_any
+later_font_row Z17 = entry_row Z17 (BlueScale ∷ [])
+later_font_row Z18 = entry_row Z18 (BlueShift ∷ [])
+later_font_row Z19 = entry_row Z19 (BlueFuzz ∷ [])
+later_font_row _ = font_reason_row (λ font key index. []) is_any
+
+-- Rules after number 70 compare nothing in an edition that hasn't them.
+abbrev pub row_in : Edition → FontReasonRow → FontReasonRow
+row_in edition row = font_reason_row (λ font key index. in_edition edition (row.candidates font key index)) row.is_against
+
+abbrev pub is_later : Rule → Bool
+is_later rule = nat_lt last_number_before (number_of rule)
+
+abbrev pub compared_font_row : Edition → Rule → FontReasonRow
+compared_font_row edition rule = if is_later rule then row_in edition (later_font_row rule) else first_font_row rule
 
 -- The other rules: where the font breaks the rule, of what.
 abbrev pub told_in_font : Rule → FontValue → ℕ → Reason
 told_in_font F09 font index = Glyphs (length font.glyphs)
 told_in_font F10 font index = Glyph index
 told_in_font F13 font index = Code index
+told_in_font F21 font index = last_token_of font (lookup (nat_eq index) font.subrs)
 told_in_font _ font index = Nothing
 
 abbrev pub told_in_fonts : Edition → Rule → FontValue → ℕ → ℕ → List Reason
@@ -324,7 +449,7 @@ told_in_fonts edition rule font key index =
     only_where (violated (font_rules edition) (number_of rule) font key index) (told_in_font rule font index)
 
 abbrev pub font_row_of : Edition → Rule → FontReasonRow
-font_row_of edition rule = if compares_in_fonts rule then compared_font_row rule else font_reason_row (told_in_fonts edition rule) is_any
+font_row_of edition rule = if compares_in_fonts rule then compared_font_row edition rule else font_reason_row (told_in_fonts edition rule) is_any
 
 -- The first candidate that is against the rule.
 abbrev pub first_in_font_row : FontReasonRow → FontValue → ℕ → ℕ → Option Reason

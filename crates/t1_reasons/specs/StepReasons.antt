@@ -4,19 +4,23 @@ use Rattle.std.specs.Prelude.{ℕ, ℤ, ◌+◌, ◌-◌, take, ◌==◌, ◌&&�
 use Rattle.std.specs.List.{find, flat_map}
 use Rattle.std.specs.Ordering.{int_eq}
 use Rattle.t1_char.specs.declared.command.Command.{Command as Commands}
+use Rattle.t1_char.specs.declared.command.Command.TheVariants.{Hstem, Hstem3, Vstem, Vstem3}
 use Rattle.t1_char.specs.declared.edition.Edition.{Edition}
 use Rattle.t1_char.specs.declared.token.CharToken.{CharToken}
 use Rattle.t1_char.specs.declared.token.CharToken.TheVariants.{Command}
 use Rattle.t1_char.specs.Arguments.{argument, is_flex_end, is_flex_point, is_whole}
 use Rattle.t1_char.specs.Commands.{arguments_of}
+use Rattle.t1_char.specs.Editions.{has_later_rules}
+use Rattle.t1_char.specs.Numbers.{natural}
 use Rattle.t1_char.specs.Stacks.{from_top, most_numbers}
 use Rattle.t1_char.specs.Effects.{most_calls}
 use Rattle.t1_char.specs.Steps.{StepView, is_number, is_return}
 use Rattle.t1_char.specs.Seacs.{is_seac}
 use Rattle.t1_rules.specs.declared.rule.Rule.{Rule}
-use Rattle.t1_rules.specs.declared.rule.Rule.TheVariants.{C03, C04, C05, C06, C07, C08, C09, S01, S02, S03, S04, W01, W02, P01, P02, P03, H01, H02, H03, H04, R01, R02, X01, X02, X03, X04, X05, O01, O02, O03, K01, K02, K03, K04, K05, K06, K07}
+use Rattle.t1_rules.specs.declared.rule.Rule.TheVariants.{C03, C04, C05, C06, C07, C08, C09, S01, S02, S03, S04, W01, W02, P01, P02, P03, W03, H01, H02, H03, H04, H05, H06, H07, R01, R02, X01, X02, X03, X04, X05, O01, O02, O03, O05, O06, O07, O08, K01, K02, K03, K04, K05, K06, K07}
 use Rattle.t1_rules.specs.declared.sidebearings.Component.{Component}
 use Rattle.t1_rules.specs.declared.step_rules.stems.Stem.{Stem}
+use Rattle.t1_rules.specs.declared.step_rules.triples.Triple.{Triple as TripleOfStems}
 use Rattle.t1_rules.specs.Book.{number_of}
 use Rattle.t1_rules.specs.StepRules.{breaks, charstring_rules}
 use Rattle.t1_rules.specs.StepRules.Arguments.{divides, is_past, is_zero, quotient_is_past, wanted_by}
@@ -26,12 +30,16 @@ use Rattle.t1_rules.specs.StepRules.Flex.{current_point, end_point, flex_moves, 
 use Rattle.t1_rules.specs.StepRules.Paths.{in_flex}
 use Rattle.t1_rules.specs.StepRules.Seac.{accent, accent_sidebearing, is_unnamed, seac_code}
 use Rattle.t1_rules.specs.StepRules.Stems.{are_unequal, has_no_width, is_stem, is_triple, stem_at, lies_across, overlap_by, stands_upright, stems_of}
+use Rattle.t1_rules.specs.StepRules.Counters.{is_below, is_counting}
 use Rattle.t1_rules.specs.StepRules.Tokens.{is_command, is_pop, is_unknown}
+use Rattle.t1_rules.specs.StepRules.Triples.{has_same_edges, is_hstem3, is_thin, is_vstem3, triple_of}
 use Rattle.t1_reasons.specs.declared.background.Background.{Background}
+use Rattle.t1_reasons.specs.declared.background.SetTriple.{SetTriple}
 use Rattle.t1_reasons.specs.declared.reason.Reason.{Reason}
 use Rattle.t1_reasons.specs.declared.reason.SetStem.{SetStem}
-use Rattle.t1_reasons.specs.Backgrounds.{background_of}
-use Rattle.t1_reasons.specs.HintSets.{all_set_at, stems_set}
+use Rattle.t1_reasons.specs.Backgrounds.{background_of, set_three}
+use Rattle.t1_reasons.specs.Carried.{last_told}
+use Rattle.t1_reasons.specs.HintSets.{all_set_at, set_at, stems_set}
 use Rattle.t1_reasons.specs.declared.reason.Reason.TheVariants.{Argument, Arguments, Codes, Count, Depth, Ending, Full, Miss, Nothing, Open, Othersubr, Pairs, Quotient, Sidebearings, Since, Stem as StemAlone, Stems, Subr, Token, Triple}
 
 -- ---- candidates
@@ -165,6 +173,33 @@ abbrev pub sidebearings_at : List Component → StepView → List Reason
 sidebearings_at components step =
     if is_seac step.token then with_own (accent_sidebearing step) (accent components step).sidebearing else []
 
+-- Only in an edition that has the rules after number 70.
+abbrev pub in_edition : Edition → List Reason → List Reason
+in_edition edition reasons = if has_later_rules edition then reasons else []
+
+-- Three stems, each beside that which another command has in its place; the last one of their kind, where there was one.
+abbrev pub three_beside : TripleOfStems → SetTriple → List Reason
+three_beside own other =
+    Stems own.one (set_at other.step other.triple.one)
+    ∷ Stems own.two (set_at other.step other.triple.two)
+    ∷ Stems own.three (set_at other.step other.triple.three) ∷ []
+
+abbrev pub beside_last : TripleOfStems → Option SetTriple → List Reason
+beside_last own None = []
+beside_last own (Some other) = three_beside own other
+
+abbrev pub beside_last_of : CharToken → List StepView → TripleOfStems → List Reason
+beside_last_of (Command Hstem3) before own = beside_last own (last_told is_hstem3 set_three before)
+beside_last_of (Command Vstem3) before own = beside_last own (last_told is_vstem3 set_three before)
+beside_last_of _ before own = []
+
+abbrev pub threes_at : List StepView → StepView → List Reason
+threes_at before step = beside_last_of step.token before (triple_of step)
+
+-- The count that counter control is given, and how many numbers are there for it.
+abbrev pub counters_at : StepView → List Reason
+counters_at step = only_where (is_counting step) (Arguments (from_top step.stack 1) (length step.stack - 2))
+
 -- ---- tests
 
 -- More are there than are taken.
@@ -193,6 +228,21 @@ is_bad_count _ = false
 abbrev pub is_widthless : Reason → Bool
 is_widthless (StemAlone stem) = has_no_width stem
 is_widthless _ = false
+
+-- It has a width below half a unit.
+abbrev pub is_thin_stem : Reason → Bool
+is_thin_stem (StemAlone stem) = is_thin stem
+is_thin_stem _ = false
+
+-- Two stems don't have the same edges.
+abbrev pub have_other_edges : Reason → Bool
+have_other_edges (Stems own other) = not (has_same_edges other.stem own)
+have_other_edges _ = false
+
+-- The count is less than the numbers that are there.
+abbrev pub leaves_some : Reason → Bool
+leaves_some (Arguments count there) = is_below there (natural count)
+leaves_some _ = false
 
 abbrev pub is_uneven : Reason → Bool
 is_uneven (Triple one two three) = are_unequal one two three
@@ -279,6 +329,24 @@ ending_of (Some subr) = Ending subr
 abbrev pub call_of : List ℤ → Reason
 call_of stack = if nat_le 2 (length stack) then Othersubr (from_top stack 0) (from_top stack 1) else Nothing
 
+-- A stem of the step, and one of another command.
+abbrev pub beside_one : Stem → Option SetStem → Reason
+beside_one own None = Nothing
+beside_one own (Some other) = Stems own other
+
+-- The same, where the other command set three: the first of these.
+abbrev pub first_of_three : Option SetTriple → Option SetStem
+first_of_three None = None
+first_of_three (Some three) = Some (set_at three.step three.triple.one)
+
+-- The last stem of the other command of a direction, where a token is one of the two.
+abbrev pub last_of_other : CharToken → Background → Option SetStem
+last_of_other (Command Hstem) background = first_of_three background.hstem3
+last_of_other (Command Hstem3) background = background.hstem
+last_of_other (Command Vstem) background = first_of_three background.vstem3
+last_of_other (Command Vstem3) background = background.vstem
+last_of_other _ background = None
+
 -- What such a rule says of a step that breaks it: an earlier step, the token, or the numbers that it speaks of.
 abbrev pub told_by : Rule → Background → StepView → Reason
 told_by S04 background step = ending_of (slice_get step.path (length step.path - 1))
@@ -288,6 +356,11 @@ told_by P01 background step = Since background.closed
 told_by P02 background step = Open background.start background.end
 told_by P03 background step = Since background.closed
 told_by H01 background step = Since background.drawn
+told_by H06 background step = beside_one (stem_at step.stack 0) (last_of_other step.token background)
+told_by O05 background step = Since background.told
+told_by O06 background step = Since background.counted
+told_by O08 background step = Since background.told
+told_by W03 background step = Since background.told
 told_by R01 background step = Token step.token
 told_by R02 background step = Token step.token
 told_by X01 background step = Since background.flex
@@ -324,11 +397,14 @@ compares S03 = true
 compares H02 = true
 compares H03 = true
 compares H04 = true
+compares H05 = true
+compares H07 = true
 compares X04 = true
 compares X05 = true
 compares O01 = true
 compares O02 = true
 compares O03 = true
+compares O07 = true
 compares K01 = true
 compares K02 = true
 compares K05 = true
@@ -348,11 +424,14 @@ compared_row edition components S03 = reason_row (λ before step. returns_at ste
 compared_row edition components H02 = reason_row stems_at (is_overlap edition)
 compared_row edition components H03 = reason_row (λ before step. single_stems_at step) is_widthless
 compared_row edition components H04 = reason_row (λ before step. triples_at step) is_uneven
+compared_row edition components H05 = reason_row (λ before step. in_edition edition (single_stems_at step)) is_thin_stem
+compared_row edition components H07 = reason_row (λ before step. in_edition edition (threes_at before step)) have_other_edges
 compared_row edition components X04 = reason_row pairs_at are_no_pairs
 compared_row edition components X05 = reason_row misses_at is_miss
 compared_row edition components O01 = reason_row (λ before step. known_calls_at step) is_unknown_othersubr
 compared_row edition components O02 = reason_row (λ before step. othersubrs_at step) is_bad_count
 compared_row edition components O03 = reason_row (λ before step. known_calls_at step) is_miscounted
+compared_row edition components O07 = reason_row (λ before step. in_edition edition (counters_at step)) leaves_some
 compared_row edition components K01 = reason_row (λ before step. codes_at step) has_no_code
 compared_row edition components K02 = reason_row (λ before step. codes_at step) has_no_name
 compared_row edition components K05 = reason_row (λ before step. sidebearings_at components step) is_told_otherwise

@@ -2,14 +2,21 @@
 
 ghost use Rattle.std.specs.Prelude.{◌≡◌, ◌&&◌, ◌||◌, not, Some, if◌then◌else◌};
 ghost use Rattle.t1_char.specs.StepValues.{step_view};
-ghost use Rattle.t1_reasons.specs.Backgrounds.{background_after, draws_in, ends_path_in, is_in_flex_after, outlines_in};
+ghost use Rattle.t1_reasons.specs.Backgrounds.{background_after, draws_in, ends_path_in, first_stem, is_in_flex_after, outlines_in, set_three};
+ghost use Rattle.t1_rules.specs.StepRules.Counters.{ends_counting, is_told};
+ghost use Rattle.t1_rules.specs.StepRules.Othersubrs.{calls_by_numbers};
 
-use crate::step_reasons::{lies_across, stands_upright};
-use t1_char::Step;
-use t1_rules::{Point, closes, is_line, is_move, sets_width};
+use crate::hint_sets::set_stem;
+use crate::reason::SetStem;
+use crate::step_reasons::{is_good_count, is_whole, lies_across, stands_upright};
+use t1_char::{Step, is_callothersubr};
+use t1_rules::{
+    Point, Triple, clears, closes, is_hstem, is_hstem3, is_line, is_move, is_vstem, is_vstem3,
+    sets_width, triple_of,
+};
 
 /// The points and the steps that reasons tell of.
-#[derive(Clone, Copy, Debug, PartialEq, Eq)]
+#[derive(Clone, Copy)]
 pub(crate) struct Background {
     /// Where the open path begins.
     pub(crate) start: Point,
@@ -29,6 +36,25 @@ pub(crate) struct Background {
     pub(crate) width: Option<u32>,
     /// The last step that made a part of an outline.
     pub(crate) outlined: Option<u32>,
+    /// The last command that empties the stack or call of an OtherSubr.
+    pub(crate) told: Option<u32>,
+    /// The last end of counter control.
+    pub(crate) counted: Option<u32>,
+    /// The stem of the last hstem.
+    pub(crate) hstem: Option<SetStem>,
+    /// The stems of the last hstem3.
+    pub(crate) hstem3: Option<SetTriple>,
+    /// The stem of the last vstem.
+    pub(crate) vstem: Option<SetStem>,
+    /// The stems of the last vstem3.
+    pub(crate) vstem3: Option<SetTriple>,
+}
+
+/// Three stems of a command, and the step that set them.
+#[derive(Clone, Copy)]
+pub(crate) struct SetTriple {
+    pub(crate) triple: Triple,
+    pub(crate) step: u32,
 }
 
 impl Background {
@@ -43,6 +69,12 @@ impl Background {
         flex: None,
         width: None,
         outlined: None,
+        told: None,
+        counted: None,
+        hstem: None,
+        hstem3: None,
+        vstem: None,
+        vstem3: None,
     };
 
     /// The background after a step, by whether that is in flex, its number, and where it leaves the pen.
@@ -61,6 +93,12 @@ impl Background {
             flex: last(self.flex, step.starts_flex(), number),
             width: last(self.width, sets_width(step.token), number),
             outlined: last(self.outlined, outlines_in(step, in_flex), number),
+            told: last(self.told, is_told(step), number),
+            counted: last(self.counted, ends_counting(step), number),
+            hstem: last_stem(self.hstem, is_hstem(step.token), step, number),
+            hstem3: last_three(self.hstem3, is_hstem3(step.token), step, number),
+            vstem: last_stem(self.vstem, is_vstem(step.token), step, number),
+            vstem3: last_three(self.vstem3, is_vstem3(step.token), step, number),
         }
     }
 }
@@ -92,6 +130,62 @@ fn outlines_in(step: &Step, in_flex: bool) -> bool
 {
     let sets_stem = lies_across(step.token) | stands_upright(step.token);
     is_move(step.token) | (draws_in(step, in_flex) | (sets_stem | closes(step.token)))
+}
+
+/// Whether a step is a command that empties the stack, or a call of an OtherSubr.
+fn is_told(step: &Step) -> bool
+    ensures { result ≡ is_told (step_view step.now) }
+{
+    clears(step.token) | calls_by_numbers(step)
+}
+
+/// Whether a step calls an OtherSubr by a number and a count.
+fn calls_by_numbers(step: &Step) -> bool
+    ensures { result ≡ calls_by_numbers (step_view step.now) }
+{
+    is_callothersubr(step.token) & (step.stack.len() >= 2)
+}
+
+/// Whether a step ends counter control.
+fn ends_counting(step: &Step) -> bool
+    ensures { result ≡ ends_counting (step_view step.now) }
+{
+    if !is_callothersubr(step.token) || step.stack.len() < 2 {
+        return false;
+    }
+    // This can't fail: there are at most 24 numbers.
+    is_good_count(step.stack.from_top(1), step.stack.len() as u8 - 2)
+        & is_whole(13, step.stack.from_top(0))
+}
+
+/// The first stem of a step, where it is of a kind, or that of an earlier one.
+fn last_stem(earlier: Option<SetStem>, is_such: bool, step: &Step, number: u32) -> Option<SetStem>
+    ensures { result ≡ (if is_such then Some (first_stem number (step_view step.now)) else earlier) }
+{
+    if is_such {
+        Some(set_stem(step, 0, number))
+    } else {
+        earlier
+    }
+}
+
+/// The three stems of a step, where it is of a kind, or those of an earlier one.
+fn last_three(
+    earlier: Option<SetTriple>,
+    is_such: bool,
+    step: &Step,
+    number: u32,
+) -> Option<SetTriple>
+    ensures { result ≡ (if is_such then Some (set_three number (step_view step.now)) else earlier) }
+{
+    if is_such {
+        Some(SetTriple {
+            triple: triple_of(step),
+            step: number,
+        })
+    } else {
+        earlier
+    }
 }
 
 /// The number of the last step of a kind, where this step is one or isn't.

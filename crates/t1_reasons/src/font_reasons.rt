@@ -1,29 +1,32 @@
 //! Reasons in the entries of a font.
 
-ghost use Rattle.std.specs.Prelude.{◌≡◌, ◌*ℤ◌, ◌-ℤ◌, int_le, [], ◌∷◌};
+ghost use Rattle.std.specs.Prelude.{◌≡◌, ◌*ℤ◌, ◌-ℤ◌, int_le, [], ◌∷◌, nat_eq};
 ghost use Rattle.std.specs.List.{find};
+ghost use Rattle.std.specs.Map.{lookup};
 ghost use Rattle.t1_font.specs.declared.key.Key.TheVariants as Keys;
 ghost use Rattle.t1_font.specs.Entries.{entry_view};
-ghost use Rattle.t1_reasons.specs.FontReasons.{apart, are_near, are_not_one, are_two, are_two_ids, at_key, counts_at, excess_at, forms_at, is_excess, is_misfit, is_no_width, is_odd, kinds_of, is_unknown_form, is_wrong_subr, kinds_at, subrs_in, wanted_at, beside_zones, compared_font_row, compares_in_fonts, entries_at, falls, falls_in, features_at, features_in, first_in_font_row, font_reason, found_in, gap_in, ids_at, ids_of, is_apart, is_found_number, is_near, is_neither_fill_nor_stroke, is_no_id, is_not_5839, is_not_one, is_past_ids, is_unusual_feature, key_among, meetings_at, meetings_in, nearer, nearest, reaches_one, told_in_font, widths_at, widths_in, zone_in, zones_in};
+ghost use Rattle.t1_reasons.specs.FontReasons.{apart, are_near, are_two, are_two_ids, at_key, counts_at, excess_at, forms_at, is_excess, is_later, is_misfit, is_odd, kinds_of, is_unknown_form, is_wrong_subr, kinds_at, last_token_of, subrs_in, wanted_at, beside_zones, compared_font_row, compares_first, compares_in_fonts, compares_later, falls, falls_in, features_at, features_in, first_font_row, first_in_font_row, font_reason, gap_in, ids_at, ids_of, is_apart, is_near, is_unusual_feature, key_among, meetings_at, meetings_in, nearer, nearest, reaches_one, told_in_font, widths_at, widths_in, zone_in, zones_in};
 ghost use Rattle.t1_reasons.specs.StepReasons.{is_any, only_where};
 ghost use Rattle.t1_reasons.specs.declared.reason.Reason.TheVariants.{Gap, Ids, Numbers, SubrEntry, TooMany, Width, Zone, Zones as TwoZones};
-ghost use Rattle.t1_rules.specs.FontRules.Ids.{id_keys, is_whole_to};
+ghost use Rattle.t1_rules.specs.FontRules.Ids.{id_keys};
 ghost use Rattle.t1_rules.specs.FontRules.Stems.{snap_keys, width_keys, width_of};
 ghost use Rattle.t1_rules.specs.FontRules.Values.{count_in, first_in, product_one};
 ghost use Rattle.t1_rules.specs.FontRules.Zones.{high_of, low_zone_keys, zone_keys};
 ghost use Rattle.t1_rules.specs.FontRules.Hints.{hint_keys};
-ghost use Rattle.t1_rules.specs.Keys.{encoding_key, list_limit_of, subrs_key};
+ghost use Rattle.t1_rules.specs.Keys.{encoding_key, key_number, list_limit_of, subrs_key};
 
+use crate::entry_reasons::{entry_reason, found_in};
+use crate::later_font_reasons::later_compared;
 use crate::reason::{Edges, EntryKind, Found, Reason};
-use t1_char::Edition;
+use t1_char::{Edition, last_token};
 use t1_font::{BILLION, Encoding, Entry, Font, Key};
 use t1_rules::{INDEXES, Rule, distance, font_faults, numbers_at, scale};
 
 /// One, in the unit of a product of two numbers.
 const PRODUCT_ONE: i128 = BILLION as i128 * BILLION as i128;
 
-/// The greatest UniqueID.
-const LAST_ID: i64 = 16_777_215;
+/// The number of the last rule that all editions have.
+const LAST_NUMBER_BEFORE: u8 = 70;
 
 /// Returns why a font breaks a rule at a key and an index by an edition, or None where it doesn't: the first of what the rule compares that is
 /// against it.
@@ -37,7 +40,7 @@ pub fn font_reason(
     ensures { result ≡ font_reason edition font.now rule key index }
 {
     if compares_in_fonts(rule) {
-        compared(font, rule, key, index)
+        compared(font, rule, key, index, edition)
     } else {
         told_where(
             font_faults(font, key, index, edition).has(rule),
@@ -51,6 +54,12 @@ pub fn font_reason(
 /// Whether a rule compares numbers.
 fn compares_in_fonts(rule: Rule) -> bool
     ensures { result ≡ compares_in_fonts rule }
+{
+    compares_first(rule) | compares_later(rule)
+}
+
+fn compares_first(rule: Rule) -> bool
+    ensures { result ≡ compares_first rule }
 {
     matches!(
         rule,
@@ -76,17 +85,59 @@ fn compares_in_fonts(rule: Rule) -> bool
     )
 }
 
+fn compares_later(rule: Rule) -> bool
+    ensures { result ≡ compares_later rule }
+{
+    matches!(
+        rule,
+        Rule::F15
+            | Rule::F16
+            | Rule::F17
+            | Rule::F18
+            | Rule::F19
+            | Rule::F20
+            | Rule::Z12
+            | Rule::Z13
+            | Rule::Z14
+            | Rule::Z15
+            | Rule::Z16
+            | Rule::Z17
+            | Rule::Z18
+            | Rule::Z19
+    )
+}
+
 /// Why a font breaks a rule that compares numbers.
-fn compared(font: &Font<'_>, rule: Rule, key: u8, index: u32) -> Option<Reason>
-    ensures { result ≡ first_in_font_row (compared_font_row rule) font.now key index }
+fn compared(font: &Font<'_>, rule: Rule, key: u8, index: u32, edition: Edition) -> Option<Reason>
+    ensures { result ≡ first_in_font_row (compared_font_row edition rule) font.now key index }
+{
+    if !is_later(rule) {
+        first_compared(font, rule, key, index)
+    } else if edition.has_later_rules() {
+        later_compared(font, rule, key, index)
+    } else {
+        None
+    }
+}
+
+/// Whether a rule is one after number 70.
+fn is_later(rule: Rule) -> bool
+    ensures { result ≡ is_later rule }
+{
+    rule.number() > LAST_NUMBER_BEFORE
+}
+
+/// Why a font breaks a rule up to number 70 that compares numbers.
+fn first_compared(font: &Font<'_>, rule: Rule, key: u8, index: u32) -> Option<Reason>
+    ensures { result ≡ first_in_font_row (first_font_row rule) font.now key index }
 {
     match rule {
-        Rule::F03 => type_reason(font, font_type_key(key)?, index),
-        Rule::F04 => paint_reason(font, paint_type_key(key)?, index),
-        Rule::F05 => id_reason(font, id_key(key)?, index),
-        Rule::F06 => ids_reason(font, private_id_key(key)?, index),
-        Rule::F07 => password_reason(font, password_key(key)?, index),
-        Rule::F08 => feature_reason(font, feature_key(key)?, index),
+        Rule::F03 => entry_reason(rule, font, one_key(Key::FontType, 1, key)?, index),
+        Rule::F04 => entry_reason(rule, font, one_key(Key::PaintType, 2, key)?, index),
+        Rule::F05 => entry_reason(rule, font, id_key(key)?, index),
+        Rule::F06 => ids_reason(font, one_key(Key::PrivateUniqueId, 5, key)?, index),
+        Rule::F07 => entry_reason(rule, font, one_key(Key::Password, 6, key)?, index),
+        Rule::F08 => feature_reason(font, one_key(Key::MinFeature, 7, key)?, index),
         Rule::F11 => form_reason(font, key, index),
         Rule::F14 => subr_reason(font, key, index),
         Rule::Z01 => kind_reason(font, hint_key(key)?, index),
@@ -96,7 +147,7 @@ fn compared(font: &Font<'_>, rule: Rule, key: u8, index: u32) -> Option<Reason>
         Rule::Z05 => gap_reason(numbers_at(font, zone_key(key)?), index, distance(font)),
         Rule::Z06 => meeting_reason(font, low_zone_key(key)?, index),
         Rule::Z07 => zone_reason(numbers_at(font, zone_key(key)?), index, scale(font)),
-        Rule::Z08 => width_count_reason(font, width_key(key)?, index),
+        Rule::Z08 => entry_reason(rule, font, width_key(key)?, index),
         Rule::Z09 => excess_reason(font, snap_key(key)?, index),
         Rule::Z10 => fall_reason(numbers_at(font, snap_key(key)?), index),
         Rule::Z11 => width_reason(font, snap_key(key)?, index),
@@ -124,28 +175,29 @@ fn told_in_font(rule: Rule, font: &Font<'_>, index: u32) -> Reason
         },
         Rule::F10 => Reason::Glyph { glyph: index },
         Rule::F13 => Reason::Code { code: index },
+        Rule::F21 => last_token_of(font, index),
         _ => Reason::Nothing,
     }
 }
 
-/// FontType, where the key is that.
-fn font_type_key(key: u8) -> Option<Key>
-    ensures { result ≡ key_among (Keys.FontType ∷ []) key }
+/// The last token of a Subr.
+fn last_token_of(font: &Font<'_>, number: u32) -> Reason
+    ensures { result ≡ last_token_of font.now (lookup (nat_eq number) font.now.subrs) }
 {
-    match key {
-        1 => Some(Key::FontType),
-        _ => None,
+    match font.subr(number) {
+        Some(code) => Reason::LastToken {
+            token: last_token(font, code),
+        },
+        None => Reason::Nothing,
     }
 }
 
-/// PaintType, where the key is that.
-fn paint_type_key(key: u8) -> Option<Key>
-    ensures { result ≡ key_among (Keys.PaintType ∷ []) key }
+/// An entry, where the key is that of its number.
+pub(crate) fn one_key(own: Key, number: u8, key: u8) -> Option<Key>
+    requires { number ≡ key_number own }
+    ensures { result ≡ key_among (own ∷ []) key }
 {
-    match key {
-        2 => Some(Key::PaintType),
-        _ => None,
-    }
+    if key == number { Some(own) } else { None }
 }
 
 /// The UniqueID that a key is.
@@ -159,38 +211,8 @@ fn id_key(key: u8) -> Option<Key>
     }
 }
 
-/// The UniqueID of the Private dictionary, where the key is that.
-fn private_id_key(key: u8) -> Option<Key>
-    ensures { result ≡ key_among (Keys.PrivateUniqueId ∷ []) key }
-{
-    match key {
-        5 => Some(Key::PrivateUniqueId),
-        _ => None,
-    }
-}
-
-/// The password, where the key is that.
-fn password_key(key: u8) -> Option<Key>
-    ensures { result ≡ key_among (Keys.Password ∷ []) key }
-{
-    match key {
-        6 => Some(Key::Password),
-        _ => None,
-    }
-}
-
-/// MinFeature, where the key is that.
-fn feature_key(key: u8) -> Option<Key>
-    ensures { result ≡ key_among (Keys.MinFeature ∷ []) key }
-{
-    match key {
-        7 => Some(Key::MinFeature),
-        _ => None,
-    }
-}
-
 /// The list of zones that a key is.
-fn zone_key(key: u8) -> Option<Key>
+pub(crate) fn zone_key(key: u8) -> Option<Key>
     ensures { result ≡ key_among zone_keys key }
 {
     match key {
@@ -214,7 +236,7 @@ fn low_zone_key(key: u8) -> Option<Key>
 }
 
 /// The list of stem snaps that a key is.
-fn snap_key(key: u8) -> Option<Key>
+pub(crate) fn snap_key(key: u8) -> Option<Key>
     ensures { result ≡ key_among snap_keys key }
 {
     match key {
@@ -225,7 +247,7 @@ fn snap_key(key: u8) -> Option<Key>
 }
 
 /// The standard width that a key is.
-fn width_key(key: u8) -> Option<Key>
+pub(crate) fn width_key(key: u8) -> Option<Key>
     ensures { result ≡ key_among width_keys key }
 {
     match key {
@@ -267,7 +289,7 @@ fn high_of(low: Key) -> Key
 }
 
 /// The standard width beside a list of stem snaps.
-fn width_of(snaps: Key) -> Key
+pub(crate) fn width_of(snaps: Key) -> Key
     ensures { result ≡ width_of snaps }
 {
     match snaps {
@@ -275,106 +297,6 @@ fn width_of(snaps: Key) -> Key
         Key::StemSnapV => Key::StdVw,
         other => other,
     }
-}
-
-/// What an entry is.
-fn found_in(value: &Entry) -> Found
-    ensures { result ≡ found_in (entry_view value.now) }
-{
-    match value {
-        Entry::Absent => Found::Absent,
-        Entry::Number(number) => Found::One { number: *number },
-        Entry::Numbers { count, .. } => Found::Several { count: *count },
-        Entry::Other => Found::Other,
-    }
-}
-
-/// Whether it is this whole number.
-fn is_found_number(whole: u32, found: Found) -> bool
-    ensures { result ≡ is_found_number whole found }
-{
-    match found {
-        Found::One { number } => number == i64::from(whole) * BILLION,
-        Found::Absent | Found::Several { .. } | Found::Other => false,
-    }
-}
-
-/// Why an entry breaks F03 at an index.
-fn type_reason(font: &Font<'_>, key: Key, index: u32) -> Option<Reason>
-    ensures { result ≡ find is_not_one (entries_at font.now key index) }
-{
-    if index != 0 {
-        return None;
-    }
-    let found = found_in(font.value(key));
-    if is_found_number(1, found) {
-        None
-    } else {
-        Some(Reason::Entry { found })
-    }
-}
-
-/// Why an entry breaks F04 at an index.
-fn paint_reason(font: &Font<'_>, key: Key, index: u32) -> Option<Reason>
-    ensures { result ≡ find is_neither_fill_nor_stroke (entries_at font.now key index) }
-{
-    if index != 0 {
-        return None;
-    }
-    let found = found_in(font.value(key));
-    if is_found_number(0, found) | is_found_number(2, found) {
-        None
-    } else {
-        Some(Reason::Entry { found })
-    }
-}
-
-/// Why an entry breaks F07 at an index.
-fn password_reason(font: &Font<'_>, key: Key, index: u32) -> Option<Reason>
-    ensures { result ≡ find is_not_5839 (entries_at font.now key index) }
-{
-    if index != 0 {
-        return None;
-    }
-    let found = found_in(font.value(key));
-    if is_found_number(5839, found) {
-        None
-    } else {
-        Some(Reason::Entry { found })
-    }
-}
-
-/// Why a UniqueID breaks F05 at an index.
-fn id_reason(font: &Font<'_>, key: Key, index: u32) -> Option<Reason>
-    ensures { result ≡ find is_past_ids (entries_at font.now key index) }
-{
-    if index != 0 {
-        return None;
-    }
-    let found = found_in(font.value(key));
-    if is_no_id(found) {
-        Some(Reason::Entry { found })
-    } else {
-        None
-    }
-}
-
-/// Whether it is there, and no whole number from 0 to the greatest UniqueID.
-fn is_no_id(found: Found) -> bool
-    ensures { result ≡ is_no_id found }
-{
-    match found {
-        Found::Absent => false,
-        Found::One { number } => !is_id(number),
-        Found::Several { .. } | Found::Other => true,
-    }
-}
-
-/// Whether a number is whole, from 0 to the greatest UniqueID.
-fn is_id(number: i64) -> bool
-    ensures { result ≡ is_whole_to 16777215 number }
-{
-    number >= 0 && number % BILLION == 0 && number <= LAST_ID * BILLION
 }
 
 /// Why the UniqueID of the Private dictionary breaks F06 at an index.
@@ -572,31 +494,6 @@ fn odd_count(count: usize) -> Option<Reason>
         Some(Reason::Numbers { count })
     } else {
         None
-    }
-}
-
-/// Why a standard width breaks Z08 at an index.
-fn width_count_reason(font: &Font<'_>, key: Key, index: u32) -> Option<Reason>
-    ensures { result ≡ find is_no_width (entries_at font.now key index) }
-{
-    if index != 0 {
-        return None;
-    }
-    let found = found_in(font.value(key));
-    if are_not_one(found) {
-        Some(Reason::Entry { found })
-    } else {
-        None
-    }
-}
-
-/// Whether it is numbers, and not one.
-fn are_not_one(found: Found) -> bool
-    ensures { result ≡ are_not_one found }
-{
-    match found {
-        Found::Several { count } => count != 1,
-        Found::Absent | Found::One { .. } | Found::Other => false,
     }
 }
 

@@ -28,9 +28,11 @@
 
 mod background;
 mod charstring_reasons;
+mod entry_reasons;
 mod font_reasons;
 mod glyph_reasons;
 mod hint_sets;
+mod later_font_reasons;
 mod laws;
 mod reason;
 mod remedies;

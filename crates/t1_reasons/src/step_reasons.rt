@@ -1,21 +1,25 @@
 //! Reasons that a step alone has, or with its background, a hint set or the components.
 
-ghost use Rattle.std.specs.Prelude.{◌≡◌, ◌≤◌, ◌-◌, [], ◌∷◌, length, map, slice_get, take};
+ghost use Rattle.std.specs.Prelude.{◌≡◌, ◌≤◌, ◌-◌, ◌||◌, List, [], ◌∷◌, length, map, slice_get, take};
 ghost use Rattle.std.specs.List.{find, flat_map};
 ghost use Rattle.t1_char.specs.StepValues.{step_view};
-ghost use Rattle.t1_reasons.specs.StepReasons.{additions_at, brings, call_of, calls_at, ending_of, is_full, codes_at, depth_of, is_miscounted, takes, has_no_code, has_no_name, is_by_zero, is_outermost, is_past_quotient, is_too_deep, is_unknown_othersubr, is_unknown_token, known_calls_at, quotients_at, returns_at, tokens_at, compares, is_any, only_where, told_by, arguments_at, has_fewer, is_bad_count, is_past_range, is_uneven, is_widthless, triples_at, othersubrs_at, placed_from, single_stems_at, wants_at, beside, counts_at, has_more, is_lacking_subr, is_overlap, is_told_otherwise, pairs, pairs_with, sidebearings_at, subrs_at};
+ghost use Rattle.t1_char.specs.Steps.{StepView};
+ghost use Rattle.t1_reasons.specs.Backgrounds.{background_of};
+ghost use Rattle.t1_reasons.specs.HintSets.{set_at};
+ghost use Rattle.t1_rules.specs.StepRules.Counters.{is_below};
+ghost use Rattle.t1_reasons.specs.StepReasons.{beside_last, beside_one, counters_at, first_of_three, have_other_edges, is_thin_stem, last_of_other, leaves_some, three_beside, threes_at, additions_at, brings, call_of, calls_at, ending_of, is_full, codes_at, depth_of, is_miscounted, takes, has_no_code, has_no_name, is_by_zero, is_outermost, is_past_quotient, is_too_deep, is_unknown_othersubr, is_unknown_token, known_calls_at, quotients_at, returns_at, tokens_at, compares, is_any, only_where, told_by, arguments_at, has_fewer, is_bad_count, is_past_range, is_uneven, is_widthless, triples_at, othersubrs_at, placed_from, single_stems_at, wants_at, beside, counts_at, has_more, is_lacking_subr, is_overlap, is_told_otherwise, pairs, pairs_with, sidebearings_at, subrs_at};
 ghost use Rattle.t1_char.specs.Arguments.{argument, is_whole};
 ghost use Rattle.t1_char.specs.Commands.{arguments_of};
 ghost use Rattle.t1_rules.specs.StepRules.Seac.{is_unnamed};
 ghost use Rattle.t1_char.specs.Stacks.{most_numbers};
 ghost use Rattle.t1_char.specs.Steps.{is_number};
-ghost use Rattle.t1_reasons.specs.declared.reason.Reason.TheVariants.{Arguments, Codes, Othersubr, Quotient, Stem as StemAlone};
+ghost use Rattle.t1_reasons.specs.declared.reason.Reason.TheVariants.{Arguments, Codes, Othersubr, Quotient, Stem as StemAlone, Stems};
 ghost use Rattle.t1_rules.specs.StepRules.Arguments.{is_past, quotient_is_past, wanted_by};
 ghost use Rattle.t1_rules.specs.StepRules.Othersubrs.{is_flex_or_hints, is_good_count, is_known};
 ghost use Rattle.t1_rules.specs.StepRules.Stems.{stem_at, lies_across, stands_upright};
 ghost use Rattle.t1_rules.specs.StepRules.Tokens.{is_command, is_div, is_pop};
 
-use crate::background::Background;
+use crate::background::{Background, SetTriple};
 use crate::hint_sets::{is_triple, set_stem};
 use crate::reason::{Reason, SetStem};
 use t1_char::{
@@ -23,7 +27,8 @@ use t1_char::{
     is_callothersubr, is_callsubr, is_return, natural,
 };
 use t1_rules::{
-    Rule, Sidebearings, Stem, accent_code, are_unequal, base_code, is_seac, standard_name,
+    Rule, Sidebearings, Stem, Triple, accent_code, are_unequal, base_code, is_seac, standard_name,
+    triple_of,
 };
 
 /// Whether a rule compares numbers.
@@ -45,11 +50,14 @@ pub(crate) fn compares(rule: Rule) -> bool
             | Rule::H02
             | Rule::H03
             | Rule::H04
+            | Rule::H05
+            | Rule::H07
             | Rule::X04
             | Rule::X05
             | Rule::O01
             | Rule::O02
             | Rule::O03
+            | Rule::O07
             | Rule::K01
             | Rule::K02
             | Rule::K05
@@ -96,6 +104,16 @@ fn told_by(rule: Rule, background: &Background, step: &Step) -> Reason
             step: background.flex,
         },
         Rule::X02 => call_of(step),
+        Rule::H06 => beside_one(
+            set_stem(step, 0, 0).stem,
+            last_of_other(step.token, background),
+        ),
+        Rule::O05 | Rule::O08 | Rule::W03 => Reason::Since {
+            step: background.told,
+        },
+        Rule::O06 => Reason::Since {
+            step: background.counted,
+        },
         Rule::K03 | Rule::K04 | Rule::K07 => Reason::Codes {
             base: step.argument(3),
             accent: step.argument(4),
@@ -127,6 +145,42 @@ fn call_of(step: &Step) -> Reason
     Reason::Othersubr {
         number: step.stack.from_top(0),
         count: step.stack.from_top(1),
+    }
+}
+
+/// A stem of the step, and one of another command.
+fn beside_one(own: Stem, other: Option<SetStem>) -> Reason
+    ensures { result ≡ beside_one own other }
+{
+    match other {
+        Some(other) => Reason::Stems { own, other },
+        None => Reason::Nothing,
+    }
+}
+
+/// The last stem of the other command of a direction.
+fn last_of_other(token: CharToken, background: &Background) -> Option<SetStem>
+    ensures { result ≡ last_of_other token background.now }
+{
+    match token {
+        CharToken::Command(Command::Hstem) => first_of_three(background.hstem3),
+        CharToken::Command(Command::Hstem3) => background.hstem,
+        CharToken::Command(Command::Vstem) => first_of_three(background.vstem3),
+        CharToken::Command(Command::Vstem3) => background.vstem,
+        _ => None,
+    }
+}
+
+/// The first of three stems.
+fn first_of_three(three: Option<SetTriple>) -> Option<SetStem>
+    ensures { result ≡ first_of_three three }
+{
+    match three {
+        Some(three) => Some(SetStem {
+            stem: three.triple.one,
+            step: three.step,
+        }),
+        None => None,
     }
 }
 
@@ -288,7 +342,7 @@ fn takes(number: i64, count: i64) -> bool
 }
 
 /// Whether a number is that whole number.
-fn is_whole(whole: u16, number: i64) -> bool
+pub(crate) fn is_whole(whole: u16, number: i64) -> bool
     ensures { result ≡ is_whole whole number }
 {
     number == i64::from(whole) * UNIT
@@ -514,7 +568,51 @@ fn bad_count(count: i64, there: u8) -> Option<Reason>
     }
 }
 
-fn is_good_count(count: i64, there: u8) -> bool
+/// Why a step breaks O07.
+pub(crate) fn counter_reason(step: &Step) -> Option<Reason>
+    ensures { result ≡ find leaves_some (counters_at (step_view step.now)) }
+{
+    if !is_callothersubr(step.token) || step.stack.len() < 2 {
+        return None;
+    }
+    let count = step.stack.from_top(1);
+    // This can't fail: there are at most 24 numbers.
+    let there = step.stack.len() as u8 - 2;
+    if is_good_count(count, there) & is_counter_control(step.stack.from_top(0)) {
+        some_left(count, there)
+    } else {
+        None
+    }
+}
+
+/// Whether an OtherSubr is one of counter control.
+fn is_counter_control(number: i64) -> bool
+    ensures { result ≡ (is_whole 12 number || is_whole 13 number) }
+{
+    is_whole(12, number) | is_whole(13, number)
+}
+
+fn some_left(count: i64, there: u8) -> Option<Reason>
+    ensures { result ≡ find leaves_some (Arguments count there ∷ []) }
+{
+    if is_below(there, natural(count)) {
+        Some(Reason::Arguments { count, there })
+    } else {
+        None
+    }
+}
+
+/// Whether a count is less than the numbers that are there.
+fn is_below(there: u8, count: Option<u32>) -> bool
+    ensures { result ≡ is_below there count }
+{
+    match count {
+        Some(count) => count < u32::from(there),
+        None => false,
+    }
+}
+
+pub(crate) fn is_good_count(count: i64, there: u8) -> bool
     ensures { result ≡ is_good_count there count }
 {
     match natural(count) {
@@ -559,6 +657,79 @@ fn widthless_among(stems: &[Stem]) -> Option<Reason>
         rest = others;
     }
     None
+}
+
+/// Why a step breaks H05.
+pub(crate) fn thin_reason(step: &Step) -> Option<Reason>
+    ensures { result ≡ find is_thin_stem (single_stems_at (step_view step.now)) }
+{
+    if !lies_across(step.token) && !stands_upright(step.token) {
+        return None;
+    }
+    if is_triple(step.token) {
+        thin_among(&three_stems(step))
+    } else {
+        thin_among(&[set_stem(step, 0, 0).stem])
+    }
+}
+
+/// The first of the stems with a width below half a unit.
+fn thin_among(stems: &[Stem]) -> Option<Reason>
+    ensures { result ≡ find is_thin_stem (map (λ s. StemAlone s) stems.now) }
+{
+    let mut rest = stems;
+    while let [stem, others @ ..] = rest {
+        if stem.is_thin() {
+            return Some(Reason::Stem { stem: *stem });
+        }
+        rest = others;
+    }
+    None
+}
+
+/// Why a step breaks H07, given what came before it.
+pub(crate) fn three_reason(step: &Step, background: &Background) -> Option<Reason>
+    ensures { (before : List StepView) → background.now ≡ background_of before →
+        result ≡ find have_other_edges (threes_at before (step_view step.now)) }
+{
+    match step.token {
+        CharToken::Command(Command::Hstem3) => beside_last(triple_of(step), background.hstem3),
+        CharToken::Command(Command::Vstem3) => beside_last(triple_of(step), background.vstem3),
+        _ => None,
+    }
+}
+
+/// The same beside the last command of its kind, where there was one.
+fn beside_last(own: Triple, other: Option<SetTriple>) -> Option<Reason>
+    ensures { result ≡ find have_other_edges (beside_last own other) }
+{
+    match other {
+        Some(other) => three_beside(own, other),
+        None => None,
+    }
+}
+
+/// The first of three stems whose edges aren't those that another command has in its place.
+fn three_beside(own: Triple, other: SetTriple) -> Option<Reason>
+    ensures { result ≡ find have_other_edges (three_beside own other) }
+{
+    other_edges(own.one, other.triple.one, other.step)
+        .or(other_edges(own.two, other.triple.two, other.step))
+        .or(other_edges(own.three, other.triple.three, other.step))
+}
+
+/// Two stems, where they don't have the same edges.
+fn other_edges(own: Stem, other: Stem, step: u32) -> Option<Reason>
+    ensures { result ≡ find have_other_edges (Stems own (set_at step other) ∷ []) }
+{
+    if other.has_same_edges(own) {
+        None
+    } else {
+        Some(Reason::Stems {
+            own,
+            other: SetStem { stem: other, step },
+        })
+    }
 }
 
 /// Why a step breaks H04.

@@ -19,10 +19,11 @@ use crate::background::Background;
 use crate::hint_sets::{HintSets, is_triple, set_stem};
 use crate::reason::{Reason, SetStem};
 use crate::step_reasons::{
-    addition_reason, argument_reason, code_reason, compares, count_reason, depth_reason,
-    lies_across, name_reason, othersubr_reason, overlap_among, quotient_reason, return_reason,
-    sidebearing_reason, stands_upright, subr_reason, token_reason, told_where, triple_reason,
-    unknown_reason, want_reason, width_reason, wrong_count_reason, zero_reason,
+    addition_reason, argument_reason, code_reason, compares, count_reason, counter_reason,
+    depth_reason, lies_across, name_reason, othersubr_reason, overlap_among, quotient_reason,
+    return_reason, sidebearing_reason, stands_upright, subr_reason, thin_reason, three_reason,
+    token_reason, told_where, triple_reason, unknown_reason, want_reason, width_reason,
+    wrong_count_reason, zero_reason,
 };
 use t1_char::{Edition, Step};
 use t1_rules::{FlexWatcher, Mask, Point, Rule, Sidebearings, Watch};
@@ -109,11 +110,14 @@ impl StepsBefore {
             Rule::H02 => self.stem_reason(step),
             Rule::H03 => width_reason(step),
             Rule::H04 => triple_reason(step),
+            Rule::H05 if self.edition.has_later_rules() => thin_reason(step),
+            Rule::H07 if self.edition.has_later_rules() => three_reason(step, &self.background),
             Rule::X04 => self.pairs_reason(step),
             Rule::X05 => self.miss_reason(step),
             Rule::O01 => unknown_reason(step),
             Rule::O02 => othersubr_reason(step),
             Rule::O03 => wrong_count_reason(step),
+            Rule::O07 if self.edition.has_later_rules() => counter_reason(step),
             Rule::K01 => code_reason(step),
             Rule::K02 => name_reason(step),
             Rule::K05 => sidebearing_reason(sidebearings, step),

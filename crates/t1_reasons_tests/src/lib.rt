@@ -8,6 +8,7 @@
 //! |---|---|
 //! | `steps` | reasons at the steps of a glyph, by both editions, in any order |
 //! | `entries` | reasons at the entries of a font |
+//! | `third_edition` | reasons of the rules that the third edition adds |
 //! | `texts` | the texts of reasons |
 //! | `refusals` | the texts of refusals, and of errors of t1_seal and t1_font, which derive them |
 #![tactic(auto)]
@@ -20,3 +21,5 @@ mod refusals;
 mod steps;
 #[cfg(test)]
 mod texts;
+#[cfg(test)]
+mod third_edition;

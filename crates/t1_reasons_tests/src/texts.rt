@@ -4,3 +4,4 @@
 mod font_texts;
 mod rows;
 mod step_texts;
+mod third_edition;

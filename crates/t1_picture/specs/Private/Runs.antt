@@ -41,6 +41,7 @@ pub record AreAllSeen (old new : MachineView) : Type 0 where
   pub all : length (steps_in old) ≤ old.counted
   pub more : old.counted ≤ new.counted
   pub most : new.counted ≤ old.counted + 1
+  pub past : length (steps_in old) < new.counted
 
 abbrev pub GivesNext : MachineView → MachineView → Next → Type 0
 GivesNext old new (Step next) = IsDrawnNext old new next

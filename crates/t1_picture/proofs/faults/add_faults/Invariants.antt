@@ -17,6 +17,8 @@ invariant-loop-fault l = record {
   run : IsRunFor (subject_of l.view) l.run;
   run_before : l.run.counted ≤ l.course.mark.step - 1;
   reasons : IsRunFor (subject_of l.view) l.reasons;
+  directions : IsRunFor (subject_of l.view) l.directions;
+  directions_before : l.directions.counted ≤ l.course.mark.step;
   added : (faults : List FaultValue) → AreShownOf (subject_of l.view) (subject_of l.view).waivers faults
-      → HasAdded (subject_of l.view) faults l._fault l.course.mark l.marks (texts_of l.lines.items);
+      → HasAdded (subject_of l.view) faults l._fault l.course.mark l.marks l.causes.items (texts_of l.lines.items);
 }

@@ -1,4 +1,4 @@
-use Rattle.t1_picture.proofs.Shown.{has_picture, no_other_picture}
+use Rattle.t1_picture.proofs.OnePicture.{has_picture, no_other_picture}
 use Rattle.t1_picture.proofs.laws.a_subject_has_one_picture.Goals as goal
 
 pub returns-clause-some : goal.returns-clause-some

@@ -1,4 +1,4 @@
-use Rattle.std.proofs.Common.{◌≡◌, ◌&&◌, false, true, sym, ◌∙◌}
+use Rattle.std.proofs.Common.{◌&&◌, false, true, sym, ◌∙◌}
 use Rattle.std.proofs.lemmas.List.Folds.{find-append}
 use Rattle.t1_char.specs.StepValues.{step_view}
 use Rattle.t1_char.specs.Arguments.{is_flex_end, is_flex_point}

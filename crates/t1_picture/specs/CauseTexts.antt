@@ -1,0 +1,146 @@
+-- What reasons name, as a text of SVG 1.1: red bands, lines and marks, and the numbers of edges.
+use Rattle.std.specs.Prelude.{ℕ, ℤ, pos, ◌+ℤ◌, ◌-ℤ◌, ◌*ℤ◌, if◌then◌else◌, int_div, List, [], ◌∷◌, ◌++◌, codes}
+use Rattle.std.specs.List.{flat_map}
+use Rattle.std.specs.Ordering.{int_eq}
+use Rattle.t1_char.specs.Numbers.{unit}
+use Rattle.t1_picture.specs.declared.bands.Direction.{Direction}
+use Rattle.t1_picture.specs.declared.bands.Direction.TheVariants.{Across, Upright}
+use Rattle.t1_picture.specs.declared.bounds.Bounds.{Bounds}
+use Rattle.t1_picture.specs.declared.causes.Cause.{Cause}
+use Rattle.t1_picture.specs.declared.causes.Cause.TheVariants.{Ends, Miss, Named, Zone}
+use Rattle.t1_picture.specs.declared.causes.NamedStem.{NamedStem}
+use Rattle.t1_picture.specs.declared.causes.Role.{Role}
+use Rattle.t1_picture.specs.declared.causes.Role.TheVariants.{Other, Own}
+use Rattle.t1_picture.specs.declared.frame.Frame.{Frame}
+use Rattle.t1_picture.specs.Bands.{across_text, band_text, with_band}
+use Rattle.t1_picture.specs.Bounds.{kept, with_point, with_y}
+use Rattle.t1_picture.specs.Frames.{from_bottom, from_left, from_right, from_top, length_of, opposite, units_of}
+use Rattle.t1_picture.specs.Layers.{mark_text, stretch_text}
+use Rattle.t1_reason_texts.specs.declared.decimals.Exact.{Exact}
+use Rattle.t1_reason_texts.specs.Decimals.{coordinate_of, exact_text, value_of}
+use Rattle.t1_rules.specs.declared.step_rules.flex.Point.{Point}
+use Rattle.t1_rules.specs.StepRules.Flex.{at}
+
+-- ---- the frame
+
+-- The whole part of a number of a dictionary, which counts 10^-9, as a coordinate: the frame has room for the rest.
+abbrev pub near_coordinate : ℤ → ℤ
+near_coordinate z = kept (int_div z (pos 1000000000) *ℤ pos unit)
+
+-- The drawing reaches as far as what is named. A component is drawn anyway.
+abbrev pub with_cause : Bounds → Cause → Bounds
+with_cause b (Named stem) = with_band b stem.band
+with_cause b (Zone edges) = with_y (with_y b (near_coordinate edges.lower)) (near_coordinate edges.upper)
+with_cause b (Miss named pen) = with_point (with_point b named) pen
+with_cause b (Ends start pen) = with_point (with_point b start) pen
+with_cause b _ = b
+
+abbrev pub with_causes : Bounds → List Cause → Bounds
+with_causes b [] = b
+with_causes b (cause ∷ causes) = with_causes (with_cause b cause) causes
+
+-- ---- bands, lines and marks, y upwards
+
+-- The form of a point that is named, and that of the end of an open path.
+unfoldable pub cross_text : Exact → List ℕ
+cross_text size =
+    codes "<path id=\"cross\" d=\"M-" ++ (exact_text size ++ (codes " 0H" ++ (exact_text size
+    ++ (codes "M0 -" ++ (exact_text size ++ (codes "V" ++ (exact_text size ++ codes "\"/>\n")))))))
+
+unfoldable pub end_text : Exact → List ℕ
+end_text size =
+    codes "<path id=\"end\" d=\"M-" ++ (exact_text size ++ (codes " -" ++ (exact_text size
+    ++ (codes "H" ++ (exact_text size ++ (codes "V" ++ (exact_text size
+    ++ (codes "H-" ++ (exact_text size ++ codes "Z\"/>\n")))))))))
+
+-- Stems and zones, as bands.
+abbrev pub cause_band : Frame → Cause → List ℕ
+cause_band frame (Named stem) = band_text frame stem.band
+cause_band frame (Zone edges) = across_text frame (value_of edges.lower) (value_of edges.upper)
+cause_band frame _ = []
+
+unfoldable pub causes_start : List ℕ
+causes_start =
+    codes "<g id=\"causes\" clip-path=\"url(#frame)\" fill=\"red\" fill-opacity=\"0.15\" stroke=\"red\" stroke-opacity=\"0.5\">\n"
+
+unfoldable pub causes_part : Frame → List Cause → List ℕ
+causes_part frame causes = causes_start ++ (flat_map (cause_band frame) causes ++ codes "</g>\n")
+
+-- From the pen to the point that the end of a flex names.
+abbrev pub cause_line : Cause → List ℕ
+cause_line (Miss named pen) = stretch_text pen named
+cause_line _ = []
+
+unfoldable pub cause_lines_start : Exact → List ℕ
+cause_lines_start thin = codes "<path id=\"cause-lines\" stroke=\"red\" stroke-width=\"" ++ (exact_text thin ++ codes "\" d=\"\n")
+
+-- These lines, and then the outlines of components.
+unfoldable pub cause_lines_part : Frame → List Cause → List ℕ → List ℕ
+cause_lines_part frame causes components =
+    cause_lines_start (length_of frame (pos 2)) ++ (flat_map cause_line causes ++ (components ++ codes "\"/>\n"))
+
+-- The point that the end of a flex names, and the two ends of an open path.
+abbrev pub cause_points : Cause → List ℕ
+cause_points (Miss named pen) = mark_text (codes "cross") named
+cause_points (Ends start pen) = mark_text (codes "end") start ++ mark_text (codes "end") pen
+cause_points _ = []
+
+unfoldable pub cause_points_start : Exact → List ℕ
+cause_points_start thin = codes "<g id=\"cause-points\" stroke=\"red\" stroke-width=\"" ++ (exact_text thin ++ codes "\">\n")
+
+unfoldable pub cause_points_part : Frame → List Cause → List ℕ
+cause_points_part frame causes =
+    cause_points_start (length_of frame (pos 2)) ++ (flat_map cause_points causes ++ codes "</g>\n")
+
+-- ---- the numbers of edges, y downwards
+
+-- The numbers of a step's own stems are at the left or at the bottom of the frame, those of the other one at the right or at the
+-- top.
+abbrev pub column_of : Role → Frame → ℤ
+column_of Own frame = from_left frame (pos 4)
+column_of Other frame = from_right frame (pos 44)
+
+abbrev pub first_row : Role → Frame → ℤ
+first_row Own frame = from_bottom frame (pos 4)
+first_row Other frame = from_top frame (pos 28)
+
+abbrev pub second_row : Role → Frame → ℤ
+second_row Own frame = from_bottom frame (pos 18)
+second_row Other frame = from_top frame (pos 14)
+
+-- Where the base line of a number begins: below the lower edge and above the upper one, or beside the left and the right one, each
+-- in a row of its own.
+abbrev pub lower_place : Direction → Frame → NamedStem → Point
+lower_place Across frame stem = at (column_of stem.role frame) (kept (stem.band.lower -ℤ units_of frame (pos 12)))
+lower_place Upright frame stem = at (kept (stem.band.lower +ℤ units_of frame (pos 2))) (first_row stem.role frame)
+
+abbrev pub upper_place : Direction → Frame → NamedStem → Point
+upper_place Across frame stem = at (column_of stem.role frame) (kept (stem.band.upper +ℤ units_of frame (pos 2)))
+upper_place Upright frame stem = at (kept (stem.band.upper +ℤ units_of frame (pos 2))) (second_row stem.role frame)
+
+unfoldable pub edge_text : Exact → Exact → Exact → List ℕ
+edge_text x y number =
+    codes "<text x=\"" ++ (exact_text x ++ (codes "\" y=\"" ++ (exact_text y
+    ++ (codes "\">" ++ (exact_text number ++ codes "</text>\n")))))
+
+abbrev pub edge_at : Point → ℤ → List ℕ
+edge_at place number = edge_text (coordinate_of place.x) (coordinate_of (opposite place.y)) (coordinate_of number)
+
+-- Of a stem that is drawn as one edge there is one number.
+abbrev pub lower_number : Frame → NamedStem → List ℕ
+lower_number frame stem =
+    if int_eq stem.lower stem.upper then [] else edge_at (lower_place stem.band.direction frame stem) stem.lower
+
+abbrev pub edge_numbers : Frame → NamedStem → List ℕ
+edge_numbers frame stem = lower_number frame stem ++ edge_at (upper_place stem.band.direction frame stem) stem.upper
+
+abbrev pub cause_numbers : Frame → Cause → List ℕ
+cause_numbers frame (Named stem) = edge_numbers frame stem
+cause_numbers frame _ = []
+
+unfoldable pub edges_start : Exact → List ℕ
+edges_start letters =
+    codes "<g id=\"edges\" fill=\"red\" font-family=\"monospace\" font-size=\"" ++ (exact_text letters ++ codes "\">\n")
+
+unfoldable pub edges_part : Frame → List Cause → List ℕ
+edges_part frame causes = edges_start (length_of frame (pos 12)) ++ (flat_map (cause_numbers frame) causes ++ codes "</g>\n")

@@ -1,0 +1,360 @@
+//! What reasons name, a group or a path a layer: red bands, lines and marks, and the numbers of edges.
+
+ghost use Rattle.std.specs.Prelude.{◌≡◌, ◌++◌, OnOk, string_bytes};
+ghost use Rattle.std.specs.List.{flat_map};
+ghost use Rattle.t1_picture.specs.CauseTexts.{cause_band, cause_line, cause_lines_part, cause_lines_start, cause_numbers, cause_points, cause_points_part, cause_points_start, causes_part, causes_start, column_of, edge_at, edge_numbers, edge_text, edges_part, edges_start, first_row, lower_number, lower_place, near_coordinate, second_row, upper_place, with_cause, with_causes};
+
+use crate::bands::{Direction, write_across};
+use crate::bounds::Bounds;
+use crate::causes::{Cause, NamedStem, Role};
+use crate::frame::Frame;
+use crate::layers::{write_mark, write_stretch};
+use crate::texts::{END, END_OF_DATA, push};
+use std::alloc::AllocError;
+use t1_char::UNIT;
+use t1_font::BILLION;
+use t1_reason_texts::{Exact, coordinate, value};
+use t1_rules::Point;
+
+/// The group of stems and zones, which the frame cuts.
+const CAUSES: &str =
+    r##"<g id="causes" clip-path="url(#frame)" fill="red" fill-opacity="0.15" stroke="red" stroke-opacity="0.5">
+"##;
+
+/// The width of lines and of the lines of marks.
+const LINE: i64 = 2;
+
+/// The height of numbers.
+const NUMBERS: i64 = 12;
+
+/// The distance of a number from an edge of the frame, and from the edge of a stem that it is beside or above.
+const FROM_FRAME: i64 = 4;
+
+const BESIDE: i64 = 2;
+
+/// How far below an edge the base line of its number is.
+const BELOW: i64 = 12;
+
+/// How wide the column of numbers at the right is.
+const COLUMN: i64 = 44;
+
+/// The distance of two rows of numbers.
+const ROW: i64 = 14;
+
+// ---- the frame
+
+/// Takes what reasons name into the bounds of the drawing.
+pub(crate) fn widen_by_causes(bounds: &mut Bounds, causes: &[Cause])
+    ensures { bounds.new ≡ with_causes bounds.old causes.now }
+{
+    for cause in causes {
+        widen_by_cause(bounds, *cause);
+    }
+}
+
+fn widen_by_cause(bounds: &mut Bounds, cause: Cause)
+    ensures { bounds.new ≡ with_cause bounds.old cause }
+{
+    match cause {
+        Cause::Named(stem) => stem.band.widen(bounds),
+        Cause::Zone(edges) => {
+            bounds.take_y(near_coordinate(edges.lower));
+            bounds.take_y(near_coordinate(edges.upper));
+        }
+        Cause::Miss { named, pen } => {
+            bounds.take(named);
+            bounds.take(pen);
+        }
+        Cause::Ends { start, pen } => {
+            bounds.take(start);
+            bounds.take(pen);
+        }
+        Cause::Base | Cause::Accent => {}
+    }
+}
+
+/// The whole part of a number of a dictionary as a coordinate: the frame has room for the rest.
+fn near_coordinate(number: i64) -> i64
+    ensures { result ≡ near_coordinate number }
+{
+    (number / BILLION).saturating_mul(UNIT)
+}
+
+// ---- bands
+
+fn start_causes(svg: &mut String) -> Result<(), AllocError>
+    ensures { OnOk result (string_bytes svg.new ≡ string_bytes svg.old ++ causes_start) }
+{
+    push(svg, CAUSES)
+}
+
+/// Writes stems and zones.
+#[tactic(auto, unfolding(crate::specs::CauseTexts::causes_part))]
+pub(crate) fn write_causes(
+    svg: &mut String,
+    frame: &Frame,
+    causes: &[Cause],
+) -> Result<(), AllocError>
+    ensures { OnOk result (string_bytes svg.new ≡ string_bytes svg.old ++ causes_part frame.now causes.now) }
+{
+    start_causes(svg)?;
+    write_cause_bands(svg, frame, causes)?;
+    push(svg, END)
+}
+
+fn write_cause_bands(svg: &mut String, frame: &Frame, causes: &[Cause]) -> Result<(), AllocError>
+    ensures { OnOk result (string_bytes svg.new ≡ string_bytes svg.old ++ flat_map (cause_band frame.now) causes.now) }
+{
+    for cause in causes {
+        write_cause_band(svg, frame, *cause)?;
+    }
+    Ok(())
+}
+
+fn write_cause_band(svg: &mut String, frame: &Frame, cause: Cause) -> Result<(), AllocError>
+    ensures { OnOk result (string_bytes svg.new ≡ string_bytes svg.old ++ cause_band frame.now cause) }
+{
+    match cause {
+        Cause::Named(stem) => stem.band.write(svg, frame),
+        Cause::Zone(edges) => write_across(svg, frame, value(edges.lower), value(edges.upper)),
+        Cause::Miss { .. } | Cause::Ends { .. } | Cause::Base | Cause::Accent => Ok(()),
+    }
+}
+
+// ---- lines
+
+fn start_cause_lines(svg: &mut String, thin: Exact) -> Result<(), AllocError>
+    ensures { OnOk result (string_bytes svg.new ≡ string_bytes svg.old ++ cause_lines_start thin) }
+{
+    writeln!(
+        svg,
+        r#"<path id="cause-lines" stroke="red" stroke-width="{thin}" d=""#
+    )
+}
+
+/// Writes the lines to points that are named, and the outlines of components.
+#[tactic(auto, unfolding(crate::specs::CauseTexts::cause_lines_part))]
+pub(crate) fn write_cause_lines(
+    svg: &mut String,
+    frame: &Frame,
+    causes: &[Cause],
+    components: &str,
+) -> Result<(), AllocError>
+    ensures { OnOk result (string_bytes svg.new ≡ string_bytes svg.old ++ cause_lines_part frame.now causes.now components.now) }
+{
+    start_cause_lines(svg, frame.length(LINE))?;
+    write_misses(svg, causes)?;
+    push(svg, components)?;
+    push(svg, END_OF_DATA)
+}
+
+fn write_misses(svg: &mut String, causes: &[Cause]) -> Result<(), AllocError>
+    ensures { OnOk result (string_bytes svg.new ≡ string_bytes svg.old ++ flat_map cause_line causes.now) }
+{
+    for cause in causes {
+        write_miss(svg, *cause)?;
+    }
+    Ok(())
+}
+
+fn write_miss(svg: &mut String, cause: Cause) -> Result<(), AllocError>
+    ensures { OnOk result (string_bytes svg.new ≡ string_bytes svg.old ++ cause_line cause) }
+{
+    match cause {
+        Cause::Miss { named, pen } => write_stretch(svg, pen, named),
+        Cause::Named(_) | Cause::Zone(_) | Cause::Ends { .. } | Cause::Base | Cause::Accent => {
+            Ok(())
+        }
+    }
+}
+
+// ---- points
+
+fn start_cause_points(svg: &mut String, thin: Exact) -> Result<(), AllocError>
+    ensures { OnOk result (string_bytes svg.new ≡ string_bytes svg.old ++ cause_points_start thin) }
+{
+    writeln!(
+        svg,
+        r#"<g id="cause-points" stroke="red" stroke-width="{thin}">"#
+    )
+}
+
+/// Writes the points that are named, and the ends of open paths.
+#[tactic(auto, unfolding(crate::specs::CauseTexts::cause_points_part))]
+pub(crate) fn write_cause_points(
+    svg: &mut String,
+    frame: &Frame,
+    causes: &[Cause],
+) -> Result<(), AllocError>
+    ensures { OnOk result (string_bytes svg.new ≡ string_bytes svg.old ++ cause_points_part frame.now causes.now) }
+{
+    start_cause_points(svg, frame.length(LINE))?;
+    write_all_points(svg, causes)?;
+    push(svg, END)
+}
+
+fn write_all_points(svg: &mut String, causes: &[Cause]) -> Result<(), AllocError>
+    ensures { OnOk result (string_bytes svg.new ≡ string_bytes svg.old ++ flat_map cause_points causes.now) }
+{
+    for cause in causes {
+        write_points_of(svg, *cause)?;
+    }
+    Ok(())
+}
+
+fn write_points_of(svg: &mut String, cause: Cause) -> Result<(), AllocError>
+    ensures { OnOk result (string_bytes svg.new ≡ string_bytes svg.old ++ cause_points cause) }
+{
+    match cause {
+        Cause::Miss { named, .. } => write_mark(svg, "cross", named),
+        Cause::Ends { start, pen } => {
+            write_mark(svg, "end", start)?;
+            write_mark(svg, "end", pen)
+        }
+        Cause::Named(_) | Cause::Zone(_) | Cause::Base | Cause::Accent => Ok(()),
+    }
+}
+
+// ---- numbers
+
+fn start_edges(svg: &mut String, letters: Exact) -> Result<(), AllocError>
+    ensures { OnOk result (string_bytes svg.new ≡ string_bytes svg.old ++ edges_start letters) }
+{
+    writeln!(
+        svg,
+        r#"<g id="edges" fill="red" font-family="monospace" font-size="{letters}">"#
+    )
+}
+
+/// Writes the numbers of the edges of stems, y downwards.
+#[tactic(auto, unfolding(crate::specs::CauseTexts::edges_part))]
+pub(crate) fn write_edges(
+    svg: &mut String,
+    frame: &Frame,
+    causes: &[Cause],
+) -> Result<(), AllocError>
+    ensures { OnOk result (string_bytes svg.new ≡ string_bytes svg.old ++ edges_part frame.now causes.now) }
+{
+    start_edges(svg, frame.length(NUMBERS))?;
+    write_cause_numbers(svg, frame, causes)?;
+    push(svg, END)
+}
+
+fn write_cause_numbers(svg: &mut String, frame: &Frame, causes: &[Cause]) -> Result<(), AllocError>
+    ensures { OnOk result (string_bytes svg.new ≡ string_bytes svg.old ++ flat_map (cause_numbers frame.now) causes.now) }
+{
+    for cause in causes {
+        write_numbers_of(svg, frame, *cause)?;
+    }
+    Ok(())
+}
+
+fn write_numbers_of(svg: &mut String, frame: &Frame, cause: Cause) -> Result<(), AllocError>
+    ensures { OnOk result (string_bytes svg.new ≡ string_bytes svg.old ++ cause_numbers frame.now cause) }
+{
+    match cause {
+        Cause::Named(stem) => write_stem_numbers(svg, frame, stem),
+        Cause::Zone(_) | Cause::Miss { .. } | Cause::Ends { .. } | Cause::Base | Cause::Accent => {
+            Ok(())
+        }
+    }
+}
+
+/// Writes the numbers of a stem's edges.
+fn write_stem_numbers(svg: &mut String, frame: &Frame, stem: NamedStem) -> Result<(), AllocError>
+    ensures { OnOk result (string_bytes svg.new ≡ string_bytes svg.old ++ edge_numbers frame.now stem) }
+{
+    write_lower_number(svg, frame, stem)?;
+    write_edge_at(svg, upper_place(frame, stem), stem.upper)
+}
+
+/// Writes the number of the lower or left edge; there is none of a stem that is drawn as one edge.
+fn write_lower_number(svg: &mut String, frame: &Frame, stem: NamedStem) -> Result<(), AllocError>
+    ensures { OnOk result (string_bytes svg.new ≡ string_bytes svg.old ++ lower_number frame.now stem) }
+{
+    if stem.lower == stem.upper {
+        Ok(())
+    } else {
+        write_edge_at(svg, lower_place(frame, stem), stem.lower)
+    }
+}
+
+/// Where the number of the lower or left edge begins.
+fn lower_place(frame: &Frame, stem: NamedStem) -> Point
+    ensures { result ≡ lower_place stem.band.direction frame.now stem }
+{
+    match stem.band.direction {
+        Direction::Across => Point {
+            x: column(stem.role, frame),
+            y: stem.band.lower.saturating_sub(frame.units(BELOW)),
+        },
+        Direction::Upright => Point {
+            x: stem.band.lower.saturating_add(frame.units(BESIDE)),
+            y: first_row(stem.role, frame),
+        },
+    }
+}
+
+/// Where the number of the upper or right edge begins.
+fn upper_place(frame: &Frame, stem: NamedStem) -> Point
+    ensures { result ≡ upper_place stem.band.direction frame.now stem }
+{
+    match stem.band.direction {
+        Direction::Across => Point {
+            x: column(stem.role, frame),
+            y: stem.band.upper.saturating_add(frame.units(BESIDE)),
+        },
+        Direction::Upright => Point {
+            x: stem.band.upper.saturating_add(frame.units(BESIDE)),
+            y: second_row(stem.role, frame),
+        },
+    }
+}
+
+/// Where the column of the numbers of stems across begins.
+fn column(role: Role, frame: &Frame) -> i64
+    ensures { result ≡ column_of role frame.now }
+{
+    match role {
+        Role::Own => frame.from_left(FROM_FRAME),
+        Role::Other => frame.from_right(COLUMN),
+    }
+}
+
+/// How high the row of the left edges of upright stems is.
+fn first_row(role: Role, frame: &Frame) -> i64
+    ensures { result ≡ first_row role frame.now }
+{
+    match role {
+        Role::Own => frame.from_bottom(FROM_FRAME),
+        Role::Other => frame.from_top(2 * ROW),
+    }
+}
+
+/// How high that of their right edges is.
+fn second_row(role: Role, frame: &Frame) -> i64
+    ensures { result ≡ second_row role frame.now }
+{
+    match role {
+        Role::Own => frame.from_bottom(FROM_FRAME + ROW),
+        Role::Other => frame.from_top(ROW),
+    }
+}
+
+/// Writes the number of an edge at a place.
+fn write_edge_at(svg: &mut String, place: Point, number: i64) -> Result<(), AllocError>
+    ensures { OnOk result (string_bytes svg.new ≡ string_bytes svg.old ++ edge_at place number) }
+{
+    write_edge(
+        svg,
+        coordinate(place.x),
+        coordinate(place.y.wrapping_neg()),
+        coordinate(number),
+    )
+}
+
+fn write_edge(svg: &mut String, x: Exact, y: Exact, number: Exact) -> Result<(), AllocError>
+    ensures { OnOk result (string_bytes svg.new ≡ string_bytes svg.old ++ edge_text x y number) }
+{
+    writeln!(svg, r#"<text x="{x}" y="{y}">{number}</text>"#)
+}
