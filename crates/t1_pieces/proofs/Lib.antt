@@ -3,6 +3,7 @@ pub mod DocumentPlaces
 pub mod DocumentResults
 pub mod DrawnTexts
 pub mod GivenLines
+pub mod Numbers
 pub mod Objects
 pub mod PieceLaws
 pub mod Readings

@@ -4,6 +4,7 @@ pub mod Documents
 pub mod Drawings
 pub mod Forms
 pub mod Laws
+pub mod Numbered
 pub mod Pieces
 pub mod Reading
 pub mod T1check

@@ -12,17 +12,21 @@
 //! - A room that doesn't hold the next line or part leaves the mark, or the place, as it was.
 //! - Of the same bytes t1check, asked for a whole report with waivers, writes the same lines; and a font or waivers are refused exactly where
 //!   t1check refuses them, by the same code and text ([`t1check_writes_the_same`]).
-//! - A picture is the one that t1draw makes. For a room that doesn't hold it the size is returned.
+//! - A picture is the one that t1draw makes, of a whole glyph, up to a step, or of a fault by its number in the report. For a
+//!   room that doesn't hold it the size is returned.
 //! - Memory doesn't grow with the number of lines.
 #![tactic(auto)]
 
 mod document_writer;
 mod documents;
 mod drawing;
+mod drawn;
+mod extent;
 mod filling;
 mod filling_documents;
 mod form;
 mod laws;
+mod numbered;
 mod picture_request;
 mod picture_result;
 mod piece;
@@ -35,6 +39,7 @@ mod writer;
 
 pub use documents::{DocumentRequest, document};
 pub use drawing::picture;
+pub use extent::Extent;
 pub use form::Form;
 pub use laws::{pieces_are_the_document, pieces_are_the_report, t1check_writes_the_same};
 pub use picture_request::PictureRequest;
