@@ -2,6 +2,7 @@ pub mod DocumentLaws
 pub mod DocumentPlaces
 pub mod DocumentResults
 pub mod DrawnTexts
+pub mod EntryTexts
 pub mod GivenLines
 pub mod Numbers
 pub mod Objects

@@ -2,6 +2,7 @@ pub mod DocumentLaws
 pub mod DocumentParts
 pub mod Documents
 pub mod Drawings
+pub mod Entries
 pub mod Forms
 pub mod Laws
 pub mod Numbered

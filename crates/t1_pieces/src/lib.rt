@@ -2,7 +2,7 @@
 //!
 //! [`lines`] hands over as many whole lines as a room holds, as text or as objects of JSON, and goes on from a
 //! [`Mark`](t1_report::Mark) at the next call. [`document`] hands over a document of SARIF in the same way, from a place
-//! ([`Reached`]) on, and [`picture`] the picture of a glyph.
+//! ([`Reached`]) on, [`picture`] the picture of a glyph, and [`entry_numbers`] the numbers of an entry that is a list.
 //! What is made of the bytes of a font and of waivers is what t1check makes of them, by the same definitions.
 //!
 //! What is promised, for all bytes:
@@ -21,6 +21,9 @@ mod document_writer;
 mod documents;
 mod drawing;
 mod drawn;
+mod entries;
+mod entry_request;
+mod entry_result;
 mod extent;
 mod filling;
 mod filling_documents;
@@ -39,6 +42,9 @@ mod writer;
 
 pub use documents::{DocumentRequest, document};
 pub use drawing::picture;
+pub use entries::entry_numbers;
+pub use entry_request::EntryRequest;
+pub use entry_result::EntryResult;
 pub use extent::Extent;
 pub use form::Form;
 pub use laws::{pieces_are_the_document, pieces_are_the_report, t1check_writes_the_same};
