@@ -42,9 +42,10 @@ function rows(page) {
   return page.js("[...document.querySelectorAll('#fonts li')].map((item) => [...item.children].map((it) => it.innerText.trim()).join('|'))");
 }
 
-// The faults that are shown, each with its reason.
+// The faults that are shown, each with its reason, without the lists that they are in.
 function shownFaults(page) {
-  return page.js("[...document.querySelectorAll('#faults [data-focus]')].map((it) => it.textContent.replace(/\\s+/g, ' ').trim())");
+  const text = "[...it.childNodes].filter((node) => node.className !== 'entry').map((node) => node.textContent).join('').replace(/\\s+/g, ' ').trim()";
+  return page.js(`[...document.querySelectorAll('#faults [data-focus]')].map((it) => ${text})`);
 }
 
 // What the page shows of a line of JSON.
@@ -139,6 +140,8 @@ const tests = {
     }
     same('the units, by arrow keys, have all lines of the report', given, faults.map(shownOf));
     await page.js('chooseUnit(0)');
+    const entries = "[...document.querySelectorAll('#faults .entry')].map((it) => [it.innerText, it.querySelector('mark')?.innerText])";
+    same('a fault in a list has the list, with its number marked', await page.js(entries), [['/BlueValues [0 26]', '26']]);
     await page.until("document.querySelector('#drawn').innerText === 'glyph A'");
     test('a fault of zones is shown across a glyph', await page.js("document.querySelector('#picture').naturalWidth > 0"));
     await page.js("document.querySelector('#across').value = 'B', draw()");
@@ -202,18 +205,19 @@ const tests = {
     await page.click('#faults button', 'X05');
     await page.until("document.querySelector('#drawn').innerText === 'glyph D up to step 68' && document.querySelector('#picture').naturalWidth > 0");
     const { name, bytes } = await downloaded(page, '#save-picture');
-    same('the picture up to a line that was clicked', bytes, run('t1draw', ['--step', '68', 'D', letter]).out);
+    same('the picture of a line that was clicked', bytes, run('t1draw', ['--fault', '2', 'D', letter]).out);
     same('the name of its file', name.replace(/ \(\d+\)/, ''), 'letter.pfb.D.svg');
     test('the page of its rule is beside it', (await page.text('#page')).startsWith('X05 flex ends elsewhere'));
-    same('it is shown with its own number, without a legend, before the whole glyph', await page.js(PARTS), [['1', '2'], 0, 1, 1]);
+    same('it is shown with its own number, without a legend, before the whole glyph', await page.js(PARTS), [['2'], 0, 1, 1]);
     await looks(page, 'fault');
     await page.click('#whole');
     await page.until("document.querySelector('#drawn').innerText === 'glyph D'");
     same('all steps are drawn again, for the same fault', await page.js('fault.number'), 2);
     await page.press('n');
-    await page.until('picture.title === "glyph D" && fault.number === 3');
-    same('also for the next fault', await page.text('#drawn'), 'glyph D');
+    await page.until("fitted().querySelectorAll('#cause-points use').length === 2");
+    same('also for the next fault, with what its reason names', [await page.text('#drawn'), await page.js('fault.number')], ['glyph D', 3]);
     same('with a note of the legend', await page.text('#notes'), "dashed: a path that isn't closed");
+    same('that picture is downloaded', (await downloaded(page, '#save-picture')).bytes, run('t1draw', ['D', letter]).out);
     await page.click('#whole');
     await page.until("document.querySelector('#drawn').innerText === 'glyph D up to step 102'");
     await page.look(360, 800, 'light');
