@@ -11,7 +11,7 @@ export LC_ALL
 here=$(CDPATH='' cd -P -- "$(dirname "$0")" && pwd -P) || exit 3
 top=$(dirname "$here")
 crate=t1_web
-exports='t1_web_lines t1_web_document t1_web_picture web_room web_free memory'
+exports='t1_web_lines t1_web_document t1_web_picture t1_web_entry web_room web_free memory'
 out=$here/out
 
 # shellcheck source=bin/build.sh

@@ -2,7 +2,16 @@
 // crates/t1_web says what each export does. The page has a copy of this file in its worker.
 
 // How a call ended; crates/t1_web/specs/Numbers.antt has the same numbers.
-const LAST = 0, MORE = 1, NO_ROOM = 2, REFUSED = 3, MEMORY = 4, NO_GLYPH = 5, BAD_NAME = 6;
+const LAST = 0, MORE = 1, NO_ROOM = 2, REFUSED = 3, MEMORY = 4, NO_GLYPH = 5, BAD_NAME = 6, NO_FAULT = 7, NO_NUMBERS = 8;
+
+// How much of a glyph is drawn.
+const ALL = 0, UP_TO = 1, FAULT = 2;
+
+// The numbers of the keys whose entries may be lists, by the names that reports have.
+const KEYS = {
+  MinFeature: 7, BlueValues: 9, OtherBlues: 10, FamilyBlues: 11, FamilyOtherBlues: 12, StdHW: 16, StdVW: 17, StemSnapH: 18, StemSnapV: 19,
+  FontMatrix: 22, FontBBox: 23, XUID: 24,
+};
 
 // How many rules and refusals there are.
 const CODES = 93 + 15;
@@ -78,6 +87,8 @@ class Call {
   // What is returned where there is no report and no picture.
   ended(status) {
     if (status === NO_GLYPH) return { kind: 'no glyph' };
+    if (status === NO_FAULT) return { kind: 'no fault' };
+    if (status === NO_NUMBERS) return { kind: 'no numbers' };
     if (status === MEMORY) return { kind: 'memory' };
     if (status === BAD_NAME) throw new TypeError('the name is not UTF-8');
     if (status !== REFUSED) throw new Error(`status ${status}`);
@@ -128,12 +139,26 @@ export function* report(module, font, { waivers = NOTHING, edition = 1, form = '
   }
 }
 
-// Draws the glyph of a name, up to a step or, with step 0, as a whole.
-// Returns { kind: 'picture', svg }; or { kind: 'refused', code, text }, { kind: 'no glyph' } or { kind: 'memory' }.
-export function picture(module, font, { waivers = NOTHING, edition = 1, glyph, step = 0 }) {
+// Draws the glyph of a name: for the fault of a number in the report, up to a step, or, without both, as a whole.
+// Returns { kind: 'picture', svg }; or { kind: 'refused', code, text }, { kind: 'no glyph' }, { kind: 'no fault' } or { kind: 'memory' }.
+export function picture(module, font, { waivers = NOTHING, edition = 1, glyph, step = 0, fault = 0 }) {
+  const extent = fault > 0 ? [FAULT, BigInt(fault)] : [step > 0 ? UP_TO : ALL, BigInt(step)];
   return unlessMemory(() => {
     const call = new Call(module);
-    const status = call.call('t1_web_picture', ...words(call, font, waivers, edition), ...call.put(glyph), BigInt(step));
+    const status = call.call('t1_web_picture', ...words(call, font, waivers, edition), ...call.put(glyph), ...extent);
     return status === LAST ? { kind: 'picture', svg: call.handed() } : call.ended(status);
+  });
+}
+
+// Reads the numbers of a font's entry that is a list, by the name of its key in reports.
+// Returns { kind: 'numbers', count, numbers }: how many there are, and the first 16 as decimals; or { kind: 'no numbers' }, { kind: 'refused', code,
+// text } or { kind: 'memory' }.
+export function entry(module, font, key) {
+  return unlessMemory(() => {
+    const call = new Call(module);
+    const status = call.call('t1_web_entry', ...call.put(font), KEYS[key] ?? 0);
+    if (status !== LAST) return call.ended(status);
+    const [count, ...numbers] = new TextDecoder().decode(call.handed()).split(' ');
+    return { kind: 'numbers', count: Number(count), numbers };
   });
 }

@@ -17,18 +17,27 @@ async function unpack(packed) {
   return compile(await new Response(stream).arrayBuffer());
 }
 
+// The lists of numbers that faults of the font are in, by the names of their keys.
+function entriesOf(module, font, faults) {
+  const keys = new Set(faults.filter(({ unit }) => unit === 'font').map(({ key }) => key));
+  const entries = [...keys].map((key) => [key, entry(module, font, key)]);
+  return Object.fromEntries(entries.filter(([, { kind }]) => kind === 'numbers'));
+}
+
 const answers = {
-  // The first faults of a report, each as the object of its JSON line. `isWhole` says whether there are no others.
+  // The first faults of a report, each as the object of its JSON line, and the lists that they are in. `isWhole` says whether there are no others.
   check(module, { font, waivers, edition }) {
     const pieces = report(module, font, { waivers, edition, form: 'json' });
     const decoder = new TextDecoder();
     const faults = [];
     for (let bytes = 0; ; ) {
       const { done, value } = pieces.next();
-      if (done) return { ...value, faults, isWhole: true };
+      if (done) return { ...value, faults, entries: entriesOf(module, font, faults), isWhole: true };
       for (const line of decoder.decode(value).split('\n')) {
         if (line === '') continue;
-        if (faults.length === MOST_LINES || bytes > MOST_BYTES) return { kind: 'report', status: 1, faults, isWhole: false };
+        if (faults.length === MOST_LINES || bytes > MOST_BYTES) {
+          return { kind: 'report', status: 1, faults, entries: entriesOf(module, font, faults), isWhole: false };
+        }
         faults.push(JSON.parse(line));
         bytes += line.length;
       }
@@ -51,8 +60,8 @@ const answers = {
     }
   },
 
-  picture(module, { font, waivers, edition, glyph, step }) {
-    return picture(module, font, { waivers, edition, glyph, step });
+  picture(module, { font, waivers, edition, glyph, fault }) {
+    return picture(module, font, { waivers, edition, glyph, fault });
   },
 };
 

@@ -172,10 +172,11 @@ export class Page {
     throw new Error('a download never came');
   }
 
-  /** Sets the size of the window, and the colour scheme. */
+  /** Sets the size of the window, and the colour scheme, and waits until the page has seen them. */
   async look(width, height, scheme) {
     await this.call('Emulation.setDeviceMetricsOverride', { width, height, deviceScaleFactor: 1, mobile: false });
     await this.call('Emulation.setEmulatedMedia', { features: [{ name: 'prefers-color-scheme', value: scheme }] });
+    await this.js('new Promise((done) => requestAnimationFrame(() => requestAnimationFrame(done)))');
   }
 
   /** Writes what is seen to a file. */

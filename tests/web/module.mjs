@@ -63,17 +63,17 @@ function tryDocument(font, edition) {
   same(`${name}: SARIF, edition ${edition}`, bytes, run('t1check_all', formWords('sarif', edition, name), { cwd: path.dirname(font) }).out);
 }
 
-// The first pictures of glyphs with faults: whole, and up to a fault's step.
+// The first pictures of glyphs with faults: whole, up to a fault's step, and of the fault.
 function tryPictures(name, font, edition, report) {
   const bytes = fs.readFileSync(font);
   const lines = report.out.toString('latin1').match(/^\d+: glyph [^\n]*$/gm) ?? [];
   const places = new Map(lines.map((line) => [nameOf(Buffer.from(line, 'latin1')).word, line]));
   for (const [word, line] of [...places].slice(0, PICTURES_A_FONT)) {
-    for (const step of [0, Number(line.split(' ')[4])]) {
-      const words = ['--edition', String(edition), ...(step > 0 ? ['--step', String(step)] : []), '--', word, font];
-      const answer = host.picture(module, bytes, { waivers: NONE, edition, glyph: nameOf(Buffer.from(line, 'latin1')).bytes, step });
+    for (const [extent, number] of [['step', 0], ['step', Number(line.split(' ')[4])], ['fault', parseInt(line)]]) {
+      const words = ['--edition', String(edition), ...(number > 0 ? [`--${extent}`, String(number)] : []), '--', word, font];
+      const answer = host.picture(module, bytes, { waivers: NONE, edition, glyph: nameOf(Buffer.from(line, 'latin1')).bytes, [extent]: number });
       if (test(`${name}: a picture of ${word} is made`, answer.kind === 'picture', answer.kind)) {
-        same(`${name}: picture of ${word} up to step ${step}, edition ${edition}`, answer.svg, run('t1draw', words).out);
+        same(`${name}: picture of ${word}, ${extent} ${number}, edition ${edition}`, answer.svg, run('t1draw', words).out);
       }
     }
   }
@@ -125,6 +125,20 @@ for (const [code, text, waivers] of REFUSED_WAIVERS) {
 if (host.picture) {
   const answer = host.picture(module, fs.readFileSync(letter), { waivers: NONE, edition: 1, glyph: Buffer.from('no.such.glyph'), step: 0 });
   same('no such glyph', answer, { kind: 'no glyph' });
+  const none = host.picture(module, fs.readFileSync(letter), { glyph: Buffer.from('D'), fault: 4 });
+  same('no such fault', none, { kind: 'no fault' });
+}
+
+// The numbers of entries, as the fonts have them.
+for (const [name, key, numbers] of [
+  ['zones_and_glyphs.pfb', 'BlueValues', { kind: 'numbers', count: 2, numbers: ['0', '26'] }],
+  ['zones_and_glyphs.pfb', 'StdHW', { kind: 'no numbers' }],
+  ['letter.pfb', 'OtherBlues', { kind: 'numbers', count: 2, numbers: ['-210', '-200'] }],
+  ['letter.pfb', 'FamilyBlues', { kind: 'no numbers' }],
+  ['zones_and_glyphs.pfb', 'nothing', { kind: 'no numbers' }],
+  ['E04.bin', 'BlueValues', { kind: 'refused', code: 'E04', text: 'no eexec' }],
+]) {
+  same(`${name}: the numbers of ${key}`, host.entry(module, fs.readFileSync(fontOfTests(name)), key), numbers);
 }
 
 // Ten million lines in pieces: the first ones, and memory that doesn't grow.

@@ -42,9 +42,10 @@ function rows(page) {
   return page.js("[...document.querySelectorAll('#fonts li')].map((item) => [...item.children].map((it) => it.innerText.trim()).join('|'))");
 }
 
-// The faults that are shown, each with its reason.
+// The faults that are shown, each with its reason, without the lists that they are in.
 function shownFaults(page) {
-  return page.js("[...document.querySelectorAll('#faults [data-focus]')].map((it) => it.textContent.replace(/\\s+/g, ' ').trim())");
+  const text = "[...it.childNodes].filter((node) => node.className !== 'entry').map((node) => node.textContent).join('').replace(/\\s+/g, ' ').trim()";
+  return page.js(`[...document.querySelectorAll('#faults [data-focus]')].map((it) => ${text})`);
 }
 
 // What the page shows of a line of JSON.
@@ -54,19 +55,21 @@ function shownOf({ unit, number, key, index, name, waived, path: subrs, step, co
     glyph: () => `step ${step}${subrs.length > 0 ? ` in Subr ${subrs.join('>')}` : ''}`,
     waiver: () => `${name} ${waived}`,
   };
-  return `${number}: ${places[unit]()} ${code} ${text}${reason ? ` ${reason.text}` : ''}`.replace(/\s+/g, ' ');
+  return `${number} ${places[unit]()} ${code} ${text}${reason ? ` ${reason.text}` : ''}`.replace(/\s+/g, ' ');
 }
 
 function jsonOf(font, edition = 1) {
   return run('t1check_all', formWords('jsonl', edition, font)).out.toString().split('\n').filter(Boolean).map((line) => JSON.parse(line));
 }
 
-// Tries how the page looks in a state, wide and narrow, light and dark: nothing is cut, and each text has a contrast of 4.5:1 to its ground.
+// Tries how the page looks in a state, wide and narrow, light and dark: nothing is cut, what is pressed is at least 24 pixels high, and each text
+// has a contrast of 4.5:1 to its ground.
 async function looks(page, state) {
   for (const scheme of ['light', 'dark']) {
-    for (const width of [360, 1280]) {
+    for (const width of [360, 800, 1280]) {
       await page.look(width, 900, scheme);
       same(`${state}: nothing is cut at ${width} pixels, ${scheme}`, await page.js(CUT), []);
+      same(`${state}: nothing is too low to be pressed at ${width} pixels, ${scheme}`, await page.js(LOW), []);
       if (pictures) await page.photograph(path.join(pictures, `${state}-${width}-${scheme}.png`));
     }
     same(`${state}: contrasts are at least 4.5:1, ${scheme}`, await page.js(FAINT), []);
@@ -110,12 +113,16 @@ const tests = {
 
   async drop(page) {
     await dropped(page, letter, fontOfTests('zones_and_glyphs.pfb'), fontOfTests('E04.bin'), fontOfTests('clean.pfb'));
-    same('four dropped fonts have their statuses and counts', await rows(page), [
-      'letter.pfb|3 faults|1 must|2 should|0 tidy', 'zones_and_glyphs.pfb|5 faults|2 must|2 should|1 tidy',
-      'E04.bin|refused: E04 no eexec', 'clean.pfb|no fault|0 must|0 should|0 tidy',
+    same('four dropped fonts have their statuses and counts, the worst first', await rows(page), [
+      'E04.bin|refused: E04 no eexec', 'zones_and_glyphs.pfb|5 faults|2 must|2 should|1 tidy',
+      'letter.pfb|3 faults|1 must|2 should|0 tidy', 'clean.pfb|no fault|0 must|0 should|0 tidy',
+    ]);
+    same('counts of zero are pale', await page.js("[...document.querySelectorAll('#fonts span.pale')].map((it) => it.innerText)"), [
+      '0 tidy', '0 must', '0 should', '0 tidy',
     ]);
     same('the first of them is shown', await page.text('#font'), 'letter.pfb: 3 faults');
     same('with its faults and their reasons', await shownFaults(page), jsonOf(letter).map(shownOf));
+    test('the report begins in the upper third', await page.js("document.querySelector('#report').getBoundingClientRect().top < 300"));
     await looks(page, 'report');
     await page.click('#fonts button', 'clean.pfb');
     same('a font without a fault has no list of units', await page.js("document.querySelector('#chooser').hidden"), true);
@@ -132,12 +139,45 @@ const tests = {
       await page.press('ArrowDown');
     }
     same('the units, by arrow keys, have all lines of the report', given, faults.map(shownOf));
-    test('a unit of the font has no picture', await page.js("chooseUnit(0), document.querySelector('#drawing').hidden"));
+    await page.js('chooseUnit(0)');
+    const entries = "[...document.querySelectorAll('#faults .entry')].map((it) => [it.innerText, it.querySelector('mark')?.innerText])";
+    same('a fault in a list has the list, with its number marked', await page.js(entries), [['/BlueValues [0 26]', '26']]);
+    await page.until("document.querySelector('#drawn').innerText === 'glyph A'");
+    test('a fault of zones is shown across a glyph', await page.js("document.querySelector('#picture').naturalWidth > 0"));
+    await page.js("document.querySelector('#across').value = 'B', draw()");
+    await page.until("document.querySelector('#drawn').innerText === 'glyph B'");
+    await page.js("document.querySelector('#across').value = 'nothing', draw()");
+    await page.untilText('#drawn', 'No picture of glyph nothing: the font has no such glyph.');
+    await page.js("document.querySelector('#across').value = ''");
+    same('why it has no waiver', await page.text('#unwaivable'), "Faults of the font can't be waived: a waiver names a glyph.");
+    await dropped(page, fontOfTests('F03.pfb'));
+    test('any other fault of the font has no picture', await page.js("document.querySelector('#figure').hidden"));
+  },
+
+  // Two files of one name, as of two folders.
+  async sameNames(page) {
+    const copied = (place, font) => {
+      fs.mkdirSync(path.join(folder, place), { recursive: true });
+      fs.copyFileSync(font, path.join(folder, place, 'same.pfb'));
+      return path.join(folder, place, 'same.pfb');
+    };
+    const row = async () => (await rows(page)).find((it) => it.startsWith('same.pfb|'));
+    await dropped(page, copied('first', letter));
+    await dropped(page, copied('second', fontOfTests('clean.pfb')));
+    const note = 'It takes the place of another file of this name: 3 faults. Keep both';
+    same('a font in the place of another of its name says so', await row(), `same.pfb|no fault|0 must|0 should|0 tidy|${note}`);
+    await page.click('#fonts button', 'Keep both');
+    await page.until(`${CHECKED} && document.querySelector('#fonts small') === null`);
+    same('and the other comes back', (await rows(page)).filter((it) => it.startsWith('same.pfb')), [
+      'same.pfb (before)|3 faults|1 must|2 should|0 tidy', 'same.pfb|no fault|0 must|0 should|0 tidy',
+    ]);
+    await dropped(page, path.join(folder, 'second', 'same.pfb'));
+    same('the same file again takes its own place', await row(), 'same.pfb|no fault|0 must|0 should|0 tidy');
   },
 
   async filters(page) {
-    const font = fontOfTests('zones_and_glyphs.pfb');
-    const faults = jsonOf(font);
+    await page.click('#fonts button', 'zones_and_glyphs.pfb');
+    const faults = jsonOf(fontOfTests('zones_and_glyphs.pfb'));
     const passing = () => page.js('passing.flatMap(({ faults }) => faults.map((it) => it.number))');
     for (const { code } of faults) {
       await page.select('#rule', code);
@@ -149,7 +189,7 @@ const tests = {
     same('the filter by levels', await passing(), faults.filter((it) => it.level !== 'must').map((it) => it.number));
     await page.click('[name=level][value=should]');
     await page.click('[name=level][value=tidy]');
-    same('no level chooses nothing', await page.text('#unit'), 'No fault passes the filters.');
+    same('no level chooses nothing', [await page.text('#unit'), await page.text('#said')], ['No fault passes the filters.', '0 faults in 0 units.']);
     for (const level of ['must', 'should', 'tidy']) await page.click(`[name=level][value=${level}]`);
     await dropped(page, fontOfTests('standard_encoding.pfb'));
     const names = new Set(jsonOf(fontOfTests('standard_encoding.pfb')).map((it) => it.name));
@@ -165,13 +205,45 @@ const tests = {
     await page.click('#faults button', 'X05');
     await page.until("document.querySelector('#drawn').innerText === 'glyph D up to step 68' && document.querySelector('#picture').naturalWidth > 0");
     const { name, bytes } = await downloaded(page, '#save-picture');
-    same('the picture up to a line that was clicked', bytes, run('t1draw', ['--step', '68', 'D', letter]).out);
+    same('the picture of a line that was clicked', bytes, run('t1draw', ['--fault', '2', 'D', letter]).out);
     same('the name of its file', name.replace(/ \(\d+\)/, ''), 'letter.pfb.D.svg');
     test('the page of its rule is beside it', (await page.text('#page')).startsWith('X05 flex ends elsewhere'));
+    same('it is shown with its own number, without a legend, before the whole glyph', await page.js(PARTS), [['2'], 0, 1, 1]);
     await looks(page, 'fault');
     await page.click('#whole');
     await page.until("document.querySelector('#drawn').innerText === 'glyph D'");
-    test('all steps are drawn again', await page.js("fault === null"));
+    same('all steps are drawn again, for the same fault', await page.js('fault.number'), 2);
+    await page.press('n');
+    await page.until("fitted().querySelectorAll('#cause-points use').length === 2");
+    same('also for the next fault, with what its reason names', [await page.text('#drawn'), await page.js('fault.number')], ['glyph D', 3]);
+    same('with a note of the legend', await page.text('#notes'), "dashed: a path that isn't closed");
+    same('that picture is downloaded', (await downloaded(page, '#save-picture')).bytes, run('t1draw', ['D', letter]).out);
+    await page.click('#whole');
+    await page.until("document.querySelector('#drawn').innerText === 'glyph D up to step 102'");
+    await page.look(360, 800, 'light');
+    await page.press('p');
+    const sight = `['#picture', '#faults [aria-current=true]'].map((it) => document.querySelector(it).getBoundingClientRect())
+      .every(({ top, bottom }) => top >= 0 && bottom <= innerHeight)`;
+    test('a narrow window has the picture and the fault in sight', await page.until(sight));
+    await page.look(1280, 900, 'light');
+  },
+
+  // A rule's page begins with its cure; its links lead to other pages.
+  async pages(page) {
+    await page.click('#fonts button', 'zones_and_glyphs.pfb');
+    await page.js("chooseUnit(0), chooseFault(unit.faults.find((it) => it.code === 'Z07'))");
+    test('the cure comes first', (await page.text('#page .cure')).startsWith('Cure: make the zone lower'));
+    same('and once', (await page.text('#page')).match(/Cure:/g).length, 1);
+    await page.js("showPage('Z05')");
+    await page.click('#page a', 'Z04');
+    same('a link leads to another rule', await page.text('#page h2'), 'Z04 zone numbers fall');
+    await page.click('a', 'About waivers');
+    same('and to what is said of waivers', await page.text('#page h2'), 'Waivers');
+    await page.click('a', 'what differs');
+    test('a table is shown as one', await page.js("document.querySelectorAll('#page tr').length > 2"));
+    const broken = "[...pages.keys()].filter((key) => (showPage(key), [...document.querySelectorAll('#page a')].some((it) => it.hash && !pages.has(it.hash.slice(1)))))";
+    same('no link leads nowhere', await page.js(broken), []);
+    same('no word of Markdown is left', await page.js("[...pages.keys()].filter((key) => (showPage(key), document.querySelector('#page').innerText.includes('](')))"), []);
   },
 
   async keys(page) {
@@ -221,6 +293,7 @@ const tests = {
     const status = async () => (await rows(page)).find((it) => it.startsWith('letter.pfb')).split('|')[1];
     await page.click('#fonts button', 'letter.pfb');
     await page.click('#faults label', 'waive');
+    same('how much a waiver leaves out', await page.text('#use-waivers'), 'Check with 1 waiver of 1 fault');
     const { name, bytes } = await downloaded(page, '#save-waivers');
     same('the waivers that were made', [name, bytes.toString()], ['letter.pfb.waivers', 'D H02\n']);
     await page.click('#use-waivers');
@@ -290,7 +363,7 @@ const tests = {
 
   async sizes(page) {
     await dropped(page, made('large.pfa', largeFont(16777216)), made('larger.pfa', largeFont(16777217)));
-    same('16 MiB, and a byte more', (await rows(page)).slice(-2), [
+    same('16 MiB, and a byte more', (await rows(page)).filter((it) => it.startsWith('large')).sort(), [
       'large.pfa|no fault|0 must|0 should|0 tidy', 'larger.pfa|refused: E05 file too large',
     ]);
   },
@@ -299,7 +372,8 @@ const tests = {
   async stop(page) {
     await page.drop('#drop', [made('long.pfa', longFont())]);
     await page.until("!document.querySelector('#stop').hidden");
-    same('a long check is said', (await rows(page)).at(-1), 'long.pfa|checking …');
+    const row = async () => (await rows(page)).find((it) => it.startsWith('long.pfa'));
+    same('a long check is said', await row(), 'long.pfa|checking …');
     await page.click('#fonts button', 'letter.pfb');
     await page.click('#faults button', 'X05');
     await page.until("document.querySelector('#picture').naturalWidth > 0");
@@ -308,7 +382,7 @@ const tests = {
     test('the stop button is in view', await page.js("document.querySelector('#stop').getBoundingClientRect().bottom <= innerHeight"));
     await page.click('#stop');
     await page.until("fonts.every((font) => font.result.kind !== 'checking')");
-    same('it is stopped', (await rows(page)).at(-1), 'long.pfa|stopped');
+    same('it is stopped', await row(), 'long.pfa|stopped');
     test('the stop button goes', await page.js("document.querySelector('#stop').hidden"));
     await dropped(page, fontOfTests('clean.pfb'));
     test('the next font is checked', (await rows(page)).includes('clean.pfb|no fault|0 must|0 should|0 tidy'));
@@ -387,7 +461,7 @@ const tests = {
 };
 
 // The elements that are shown.
-const ELEMENTS = "[...document.querySelectorAll('body *')].filter((it) => it.getClientRects().length > 0)";
+const ELEMENTS = "[...document.querySelectorAll('body *')].filter((it) => it.checkVisibility() && it.getClientRects().length > 0)";
 
 // The elements that reach past the window, or whose text is wider than they are.
 const CUT = `${ELEMENTS}.filter((it) => !it.closest('select')).filter((it) => {
@@ -395,6 +469,16 @@ const CUT = `${ELEMENTS}.filter((it) => !it.closest('select')).filter((it) => {
   const isBlock = getComputedStyle(it).display !== 'inline' && it.clientWidth > 0;
   return left < 0 || right > document.documentElement.clientWidth + 0.5 || isBlock && it.scrollWidth > it.clientWidth + 1;
 }).map((it) => it.tagName + '#' + it.id + ' ' + it.innerText.slice(0, 30))`;
+
+// What is pressed or chosen and is less than 24 pixels high.
+const LOW = `${ELEMENTS}.filter((it) => it.matches('button, select, summary, .file, label:has([type=checkbox]), .field input'))
+  .filter((it) => it.getBoundingClientRect().height < 24).map((it) => it.innerText)`;
+
+// Of the picture in the page: the numbers of faults, and how many legends, pale glyphs and marks of the chosen fault there are.
+const PARTS = `((drawn) => [
+  [...drawn.querySelectorAll('#numbers text')].map((it) => it.textContent),
+  ...['#legend', '#ghost', '#marks [fill]'].map((it) => drawn.querySelectorAll(it).length),
+])(fitted())`;
 
 // The texts whose colour is too near to their ground's, by WCAG's formula.
 const FAINT = `(() => {

@@ -2,8 +2,10 @@ pub mod DocumentLaws
 pub mod DocumentParts
 pub mod Documents
 pub mod Drawings
+pub mod Entries
 pub mod Forms
 pub mod Laws
+pub mod Numbered
 pub mod Pieces
 pub mod Reading
 pub mod T1check

@@ -1,30 +1,39 @@
 //! From the bytes of a font and of waivers to a picture.
 
-ghost use Rattle.std.specs.Prelude.{◌≡◌, IfErr, IfOk, Ok, Option, length, option_map, string_bytes};
+ghost use Rattle.std.specs.Prelude.{◌≡◌, ◌⊎◌, ◌+◌, ◌<◌, IfErr, IfOk, IfSome, Ok, length, option_map};
+ghost use Rattle.t1_picture.specs.Subjects.{fault_in, shown_value};
+ghost use Rattle.t1_report.specs.Checked.{checked};
+ghost use Rattle.t1_report.specs.Faults.{fault_value};
+ghost use Rattle.t1_rules.specs.Components.{AreOf};
 ghost use Rattle.t1_run.specs.WaiverFiles.{waivers_in};
-ghost use Rattle.t1_pieces.specs.Drawings.{IsDrawing, IsReadText, IsRefusedBy, IsTextIn};
+ghost use Rattle.t1_pieces.specs.Drawings.{IsDrawing, IsReadDrawn, IsRefusedBy, IsShown, IsTextIn, IsWith, is_with};
 ghost use Rattle.t1_pieces.specs.Reading.{IsFailureOf, input_in, input_of};
 
+use crate::drawn::Drawn;
+use crate::extent::Extent;
+use crate::numbered::fault_numbered;
 use crate::picture_request::PictureRequest;
 use crate::picture_result::PictureResult;
 use crate::reading::{open, read_waivers};
 use crate::room::put_after;
 use std::alloc::Global;
 use t1_font::Font;
-use t1_picture::{View, picture as draw};
+use t1_picture::{Shown, View, picture as draw};
 use t1_refusals::{RefusalCode, refusal_text};
+use t1_report::{Fault, Waivers};
 use t1_rules::{Sidebearings, glyph_named};
 use t1_run::Failure;
 
 /// Hands over the picture of a glyph, as t1draw makes it.
 pub fn picture(alloc: Global, request: &PictureRequest<'_>, room: &mut [u8]) -> PictureResult
-    ensures drawing { IsDrawing request.now.glyph.now request.now.step
+    ensures drawing { IsDrawing request.now.glyph.now request.now.extent
         (input_in request.now.edition request.now.font.now request.now.waivers.now) room.new result }
     ensures length { length room.new ≡ length room.old }
 {
-    match text_of_file(alloc, request) {
-        Ok(Some(text)) => put_text(text.as_bytes(), room),
-        Ok(None) => PictureResult::NoGlyph,
+    match drawn_of_file(alloc, request) {
+        Ok(Drawn::Picture(text)) => put_text(text.as_bytes(), room),
+        Ok(Drawn::NoGlyph) => PictureResult::NoGlyph,
+        Ok(Drawn::NoFault) => PictureResult::NoFault,
         Err(Failure::Refused(code)) => put_refusal(code, room),
         Err(_) => PictureResult::Memory,
     }
@@ -55,40 +64,77 @@ fn put_refusal(code: RefusalCode, room: &mut [u8]) -> PictureResult
     PictureResult::Refused(text.len())
 }
 
-/// Reads the font, and draws the glyph: None where it has none of the name.
-fn text_of_file(alloc: Global, request: &PictureRequest<'_>) -> Result<Option<String>, Failure>
-    ensures text { IfOk result (λ text. IsReadText request.now.glyph.now request.now.step
-        (input_in request.now.edition request.now.font.now request.now.waivers.now) (option_map string_bytes text)) }
+/// Reads the font, and draws the glyph.
+fn drawn_of_file(alloc: Global, request: &PictureRequest<'_>) -> Result<Drawn, Failure>
+    ensures drawn { IfOk result (IsReadDrawn request.now.glyph.now request.now.extent
+        (input_in request.now.edition request.now.font.now request.now.waivers.now)) }
     ensures failed { IfErr result (IsFailureOf (input_in request.now.edition request.now.font.now request.now.waivers.now)) }
 {
     let mut file = open(alloc, request.font)?;
     let font = file.font(alloc)?;
-    let text = text_of_font(alloc, &font, request);
+    let drawn = drawn_of_font(alloc, &font, request);
     font.let_go();
-    text
+    drawn
 }
 
 /// Reads the waivers, and draws the glyph.
-fn text_of_font(
+fn drawn_of_font(
     alloc: Global,
     font: &Font<'_>,
     request: &PictureRequest<'_>,
-) -> Result<Option<String>, Failure>
-    ensures text { IfOk result (λ text. IsReadText request.now.glyph.now request.now.step
-        (input_of request.now.edition (Ok font.now) (waivers_in request.now.edition request.now.waivers.now)) (option_map string_bytes text)) }
+) -> Result<Drawn, Failure>
+    ensures drawn { IfOk result (IsReadDrawn request.now.glyph.now request.now.extent
+        (input_of request.now.edition (Ok font.now) (waivers_in request.now.edition request.now.waivers.now))) }
     ensures failed { IfErr result (IsFailureOf (input_of request.now.edition (Ok font.now) (waivers_in request.now.edition request.now.waivers.now))) }
 {
     let waivers = read_waivers(alloc, request.waivers, request.edition)?;
     let Some(glyph) = glyph_named(font, request.glyph) else {
-        return Ok(None);
+        return Ok(Drawn::NoGlyph);
     };
     let sidebearings = Sidebearings::prepare(alloc, font, request.edition)?;
+    let Some(shown) = shown_by(font, &sidebearings, &waivers, glyph, request.extent) else {
+        return Ok(Drawn::NoFault);
+    };
     let view = View {
         font: &*font,
         sidebearings: &sidebearings,
         waivers: &waivers,
         glyph,
-        step: request.step,
+        shown,
     };
-    Ok(Some(draw(alloc, &view)?))
+    Ok(Drawn::Picture(draw(alloc, &view)?))
+}
+
+/// What an extent shows of a glyph; None where it is no fault of the font or of this glyph.
+fn shown_by(
+    font: &Font<'_>,
+    sidebearings: &Sidebearings,
+    waivers: &Waivers<'_>,
+    glyph: usize,
+    extent: Extent,
+) -> Option<Shown>
+    requires { AreOf font.now sidebearings.now }
+    ensures shown { IsShown extent (record { font = checked font.now sidebearings.now.edition; waivers = waivers.now }) glyph
+        (option_map shown_value result) }
+    ensures fault { IfSome result (λ shown. IfSome (fault_in (shown_value shown)) (IsWith font.now waivers.now glyph)) }
+{
+    match extent {
+        Extent::All => Some(Shown::All),
+        Extent::UpTo(step) => Some(Shown::UpTo(step)),
+        Extent::Fault(number) => {
+            let fault = fault_numbered(font, sidebearings, waivers, number)?;
+            if is_with(&fault, glyph) {
+                Some(Shown::Fault(fault))
+            } else {
+                None
+            }
+        }
+    }
+}
+
+/// Whether a fault can be shown with a glyph: it is one of the font, or of this glyph.
+fn is_with(fault: &Fault, glyph: usize) -> bool
+    ensures { result ≡ is_with glyph (fault_value fault.now) }
+{
+    fault.unit == 0 || fault.unit as usize - 1 == glyph
 }

@@ -2,7 +2,7 @@
 //!
 //! [`lines`] hands over as many whole lines as a room holds, as text or as objects of JSON, and goes on from a
 //! [`Mark`](t1_report::Mark) at the next call. [`document`] hands over a document of SARIF in the same way, from a place
-//! ([`Reached`]) on, and [`picture`] the picture of a glyph.
+//! ([`Reached`]) on, [`picture`] the picture of a glyph, and [`entry_numbers`] the numbers of an entry that is a list.
 //! What is made of the bytes of a font and of waivers is what t1check makes of them, by the same definitions.
 //!
 //! What is promised, for all bytes:
@@ -12,17 +12,24 @@
 //! - A room that doesn't hold the next line or part leaves the mark, or the place, as it was.
 //! - Of the same bytes t1check, asked for a whole report with waivers, writes the same lines; and a font or waivers are refused exactly where
 //!   t1check refuses them, by the same code and text ([`t1check_writes_the_same`]).
-//! - A picture is the one that t1draw makes. For a room that doesn't hold it the size is returned.
+//! - A picture is the one that t1draw makes, of a whole glyph, up to a step, or of a fault by its number in the report. For a
+//!   room that doesn't hold it the size is returned.
 //! - Memory doesn't grow with the number of lines.
 #![tactic(auto)]
 
 mod document_writer;
 mod documents;
 mod drawing;
+mod drawn;
+mod entries;
+mod entry_request;
+mod entry_result;
+mod extent;
 mod filling;
 mod filling_documents;
 mod form;
 mod laws;
+mod numbered;
 mod picture_request;
 mod picture_result;
 mod piece;
@@ -35,6 +42,10 @@ mod writer;
 
 pub use documents::{DocumentRequest, document};
 pub use drawing::picture;
+pub use entries::entry_numbers;
+pub use entry_request::EntryRequest;
+pub use entry_result::EntryResult;
+pub use extent::Extent;
 pub use form::Form;
 pub use laws::{pieces_are_the_document, pieces_are_the_report, t1check_writes_the_same};
 pub use picture_request::PictureRequest;

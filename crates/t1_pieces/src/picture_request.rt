@@ -1,8 +1,9 @@
 //! What is drawn.
 
+use crate::extent::Extent;
 use t1_char::Edition;
 
-/// A glyph of a font, and how far it is drawn.
+/// A glyph of a font, and how much of it is drawn.
 #[derive(Clone, Copy, Debug)]
 pub struct PictureRequest<'a> {
     /// The bytes of the font's file.
@@ -13,6 +14,6 @@ pub struct PictureRequest<'a> {
     pub edition: Edition,
     /// The glyph's name.
     pub glyph: &'a [u8],
-    /// The number of the last step that is drawn; without it all are.
-    pub step: Option<u64>,
+    /// How much of it is drawn.
+    pub extent: Extent,
 }

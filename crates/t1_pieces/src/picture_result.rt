@@ -11,6 +11,8 @@ pub enum PictureResult {
     Refused(usize),
     /// The font has no glyph of the name.
     NoGlyph,
+    /// The report has no fault of the number, or another glyph has it.
+    NoFault,
     /// An allocation was refused.
     Memory,
 }

@@ -1,10 +1,16 @@
 -- What the numbers of a host mean.
-use Rattle.std.specs.Prelude.{◌≡◌, ℕ, ◌==◌, if◌then◌else◌, List, Option, None, Some}
+use Rattle.std.specs.Prelude.{◌≡◌, ℕ, ◌==◌, if◌then◌else◌, List, [], ◌∷◌, Option, None, Some}
 use Rattle.std.specs.Option.{unwrap_or}
 use Rattle.std.specs.Str.{IsUtf8}
 use Rattle.t1_char.specs.declared.edition.Edition.{Edition}
 use Rattle.t1_char.specs.declared.edition.Edition.TheVariants.{One}
 use Rattle.t1_char.specs.Editions.{edition_numbered}
+use Rattle.t1_font.specs.declared.key.Key.{Key}
+use Rattle.t1_font.specs.declared.key.Key.TheVariants.{BlueValues, FamilyBlues, FamilyOtherBlues, FontBBox, FontMatrix, MinFeature, OtherBlues, StdHw, StdVw, StemSnapH, StemSnapV, Xuid}
+use Rattle.t1_pieces.specs.declared.entry_result.EntryResult.{EntryResult}
+use Rattle.t1_pieces.specs.declared.entry_result.EntryResult.TheVariants as entry
+use Rattle.t1_pieces.specs.declared.extent.Extent.{Extent}
+use Rattle.t1_pieces.specs.declared.extent.Extent.TheVariants.{All, Fault, UpTo}
 use Rattle.t1_pieces.specs.declared.picture_result.PictureResult.{PictureResult}
 use Rattle.t1_pieces.specs.declared.picture_result.PictureResult.TheVariants as drawn
 use Rattle.t1_pieces.specs.declared.form.Form.{Form}
@@ -12,6 +18,7 @@ use Rattle.t1_pieces.specs.declared.form.Form.TheVariants.{Object, Text}
 use Rattle.t1_pieces.specs.declared.piece.Piece.{Piece}
 use Rattle.t1_pieces.specs.declared.piece.Piece.TheVariants.{Last, Memory, More, NoRoom, Refused}
 use Rattle.t1_report.specs.declared.marks.Mark.{Mark}
+use Rattle.t1_rules.specs.Keys.{key_number}
 use Rattle.t1_pieces.specs.declared.stage.Reached.{Reached}
 use Rattle.t1_pieces.specs.declared.stage.Stage.{Stage}
 use Rattle.t1_pieces.specs.declared.stage.Stage.TheVariants.{Beginning, Nothing, Results}
@@ -62,10 +69,42 @@ bytes_of NoRoom = 0
 bytes_of (Refused n) = n
 bytes_of Memory = 0
 
+-- ---- entries
+
+-- The keys of entries that are lists of numbers where a font has no fault.
+abbrev pub list_keys : List Key
+list_keys =
+    MinFeature ∷ BlueValues ∷ OtherBlues ∷ FamilyBlues ∷ FamilyOtherBlues ∷ StdHw ∷ StdVw ∷ StemSnapH ∷ StemSnapV ∷ FontMatrix
+    ∷ FontBBox ∷ Xuid ∷ []
+
+abbrev pub key_among : ℕ → List Key → Option Key
+key_among n [] = None
+key_among n (key ∷ keys) = if n == key_number key then Some key else key_among n keys
+
+-- The one of these that has a number as faults count keys.
+abbrev pub list_key : ℕ → Option Key
+list_key n = key_among n list_keys
+
+abbrev pub entry_status : EntryResult → ℕ
+entry_status (entry.Numbers n) = 0
+entry_status (entry.NoRoom n) = 2
+entry_status (entry.Refused n) = 3
+entry_status entry.Memory = 4
+entry_status entry.NoNumbers = 8
+
+-- How many bytes of the room were handed over; where it is too small, how many are to be.
+abbrev pub entry_bytes : EntryResult → ℕ
+entry_bytes (entry.Numbers n) = n
+entry_bytes (entry.NoRoom n) = n
+entry_bytes (entry.Refused n) = n
+entry_bytes entry.NoNumbers = 0
+entry_bytes entry.Memory = 0
+
 -- ---- pictures
 
-abbrev pub step_of : ℕ → Option ℕ
-step_of n = if n == 0 then None else Some n
+-- 0 is all steps, 1 the steps up to the one of a number, any other kind the fault of a number.
+abbrev pub extent_of : ℕ → ℕ → Extent
+extent_of kind n = if kind == 0 then All else (if kind == 1 then UpTo n else Fault n)
 
 abbrev pub drawn_status : PictureResult → ℕ
 drawn_status (drawn.Picture n) = 0
@@ -73,6 +112,7 @@ drawn_status (drawn.NoRoom n) = 2
 drawn_status (drawn.Refused n) = 3
 drawn_status drawn.Memory = 4
 drawn_status drawn.NoGlyph = 5
+drawn_status drawn.NoFault = 7
 
 -- How many bytes of the room were handed over; where it is too small, how many are to be.
 abbrev pub drawn_bytes : PictureResult → ℕ
@@ -80,4 +120,5 @@ drawn_bytes (drawn.Picture n) = n
 drawn_bytes (drawn.NoRoom n) = n
 drawn_bytes (drawn.Refused n) = n
 drawn_bytes drawn.NoGlyph = 0
+drawn_bytes drawn.NoFault = 0
 drawn_bytes drawn.Memory = 0

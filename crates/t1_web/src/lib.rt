@@ -13,18 +13,20 @@ ghost use Rattle.std.specs.Prelude.{List, None, map};
 ghost use Rattle.t1_forms.specs.PageValues.{PageValue, page_value};
 ghost use Rattle.t1_pieces.specs.Documents.{IsDocumentPiece, subject_read};
 ghost use Rattle.t1_pieces.specs.Reading.{input_in};
-ghost use Rattle.t1_web.specs.Answers.{AreHandedOver, IsDocumentHandedOver, IsPictureHandedOver};
-ghost use Rattle.t1_web.specs.Numbers.{edition_of, mark_of, reached_of, step_of};
+ghost use Rattle.t1_run.specs.FontFiles.{font_of};
+ghost use Rattle.t1_web.specs.Answers.{AreHandedOver, IsDocumentHandedOver, IsEntryHandedOver, IsPictureHandedOver};
+ghost use Rattle.t1_web.specs.Numbers.{edition_of, extent_of, list_key, mark_of, reached_of};
 
 use crate::numbers::{
-    bytes_of, drawn_bytes, drawn_status, edition_of, form_of, stage_number, stage_of, status_of,
-    step_of,
+    bytes_of, drawn_bytes, drawn_status, edition_of, entry_bytes, entry_status, extent_of, form_of,
+    list_key, stage_number, stage_of, status_of,
 };
 use std::alloc::Global;
 use t1_forms::{Page, Pages, RESULT_COUNTS};
 use t1_pages::pages;
 use t1_pieces::{
-    DocumentRequest, PictureRequest, Piece, Reached, Request, document, lines, picture,
+    DocumentRequest, EntryRequest, PictureRequest, Piece, Reached, Request, document,
+    entry_numbers, lines, picture,
 };
 use t1_report::Mark;
 
@@ -54,6 +56,9 @@ pub struct HostReached {
 
 /// The status where a name isn't UTF-8.
 const NO_NAME: u32 = 6;
+
+/// The status where no key has a number.
+const NO_ENTRY: u32 = 8;
 
 /// Hands over whole lines of a font's report after a mark, as many as the room holds, and moves the mark to the last of
 /// them. With the form 0 they are t1check's, with any other objects of JSON of the font of a name.
@@ -164,8 +169,8 @@ fn document_with<'a>(
     document(alloc, &request, place, room)
 }
 
-/// Hands over the picture of the glyph of a name, up to a step or, with the step 0, as a whole. Where the room doesn't hold it, the count is
-/// that of its bytes.
+/// Hands over the picture of the glyph of a name: with the kind 0 as a whole, with 1 up to the step of a number, with any other that of
+/// the fault of the number in the report. Where the room doesn't hold it, the count is that of its bytes.
 #[unsafe(no_mangle)]
 pub extern "C" fn t1_web_picture(
     alloc: Global,
@@ -173,11 +178,12 @@ pub extern "C" fn t1_web_picture(
     waivers: &[u8],
     edition: u32,
     glyph: &[u8],
-    step: u64,
+    kind: u32,
+    number: u64,
     room: &mut [u8],
     written: &mut usize,
 ) -> u32
-    ensures { IsPictureHandedOver glyph.now (step_of step) (input_in (edition_of edition) font.now waivers.now)
+    ensures { IsPictureHandedOver glyph.now (extent_of kind number) (input_in (edition_of edition) font.now waivers.now)
         (record { room = room.new; written = written.new; status = result }) }
 {
     let request = PictureRequest {
@@ -185,9 +191,32 @@ pub extern "C" fn t1_web_picture(
         waivers,
         edition: edition_of(edition),
         glyph,
-        step: step_of(step),
+        extent: extent_of(kind, number),
     };
     let drawn = picture(alloc, &request, room);
     *written = drawn_bytes(drawn);
     drawn_status(drawn)
+}
+
+/// Hands over the numbers of the entry of a key, by the key's number: how many there are, and the first 16 of them, each after a blank.
+/// Where the room doesn't hold them, the count is that of their bytes.
+#[unsafe(no_mangle)]
+pub extern "C" fn t1_web_entry(
+    alloc: Global,
+    font: &[u8],
+    key: u32,
+    room: &mut [u8],
+    written: &mut usize,
+) -> u32
+    ensures { IsEntryHandedOver (list_key key) (font_of font.now)
+        (record { room = room.new; written = written.new; status = result }) }
+{
+    let Some(key) = list_key(key) else {
+        *written = 0;
+        return NO_ENTRY;
+    };
+    let request = EntryRequest { font, key };
+    let entry = entry_numbers(alloc, &request, room);
+    *written = entry_bytes(entry);
+    entry_status(entry)
 }

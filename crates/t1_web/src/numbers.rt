@@ -1,10 +1,11 @@
 //! What the numbers of a host mean.
 
 ghost use Rattle.std.specs.Prelude.{◌≡◌};
-ghost use Rattle.t1_web.specs.Numbers.{IsFormOf, bytes_of, drawn_bytes, drawn_status, edition_of, stage_number, stage_of, status_of, step_of};
+ghost use Rattle.t1_web.specs.Numbers.{IsFormOf, bytes_of, drawn_bytes, drawn_status, edition_of, entry_bytes, entry_status, extent_of, list_key, stage_number, stage_of, status_of};
 
 use t1_char::Edition;
-use t1_pieces::{Form, PictureResult, Piece, Stage};
+use t1_font::Key;
+use t1_pieces::{EntryResult, Extent, Form, PictureResult, Piece, Stage};
 
 /// The edition that a host names by its number: the first where there is none of that number.
 pub(crate) fn edition_of(number: u32) -> Edition
@@ -72,11 +73,62 @@ pub(crate) fn bytes_of(piece: Piece) -> usize
     }
 }
 
-/// The step that a host names: 0 is none.
-pub(crate) fn step_of(number: u64) -> Option<u64>
-    ensures { result ≡ step_of number }
+/// How much of a glyph a host names by a kind and a number: 0 is all steps, 1 the steps up to that one, any other kind the
+/// fault of the number.
+pub(crate) fn extent_of(kind: u32, number: u64) -> Extent
+    ensures { result ≡ extent_of kind number }
 {
-    if number == 0 { None } else { Some(number) }
+    match kind {
+        0 => Extent::All,
+        1 => Extent::UpTo(number),
+        _ => Extent::Fault(number),
+    }
+}
+
+/// The key that a host names by its number, as faults count keys, if entries of it are lists of numbers.
+pub(crate) fn list_key(number: u32) -> Option<Key>
+    ensures { result ≡ list_key number }
+{
+    match number {
+        7 => Some(Key::MinFeature),
+        9 => Some(Key::BlueValues),
+        10 => Some(Key::OtherBlues),
+        11 => Some(Key::FamilyBlues),
+        12 => Some(Key::FamilyOtherBlues),
+        16 => Some(Key::StdHw),
+        17 => Some(Key::StdVw),
+        18 => Some(Key::StemSnapH),
+        19 => Some(Key::StemSnapV),
+        22 => Some(Key::FontMatrix),
+        23 => Some(Key::FontBBox),
+        24 => Some(Key::Xuid),
+        _ => None,
+    }
+}
+
+/// The status of what was handed over of an entry.
+pub(crate) fn entry_status(entry: EntryResult) -> u32
+    ensures { result ≡ entry_status entry }
+{
+    match entry {
+        EntryResult::Numbers(_) => 0,
+        EntryResult::NoRoom(_) => 2,
+        EntryResult::Refused(_) => 3,
+        EntryResult::Memory => 4,
+        EntryResult::NoNumbers => 8,
+    }
+}
+
+/// How many bytes were handed over of an entry, or are to be.
+pub(crate) fn entry_bytes(entry: EntryResult) -> usize
+    ensures { result ≡ entry_bytes entry }
+{
+    match entry {
+        EntryResult::Numbers(count) | EntryResult::NoRoom(count) | EntryResult::Refused(count) => {
+            count
+        }
+        EntryResult::NoNumbers | EntryResult::Memory => 0,
+    }
 }
 
 /// The status of what was handed over of a picture.
@@ -89,6 +141,7 @@ pub(crate) fn drawn_status(drawn: PictureResult) -> u32
         PictureResult::Refused(_) => 3,
         PictureResult::Memory => 4,
         PictureResult::NoGlyph => 5,
+        PictureResult::NoFault => 7,
     }
 }
 
@@ -100,6 +153,6 @@ pub(crate) fn drawn_bytes(drawn: PictureResult) -> usize
         PictureResult::Picture(count)
         | PictureResult::NoRoom(count)
         | PictureResult::Refused(count) => count,
-        PictureResult::NoGlyph | PictureResult::Memory => 0,
+        PictureResult::NoGlyph | PictureResult::NoFault | PictureResult::Memory => 0,
     }
 }

@@ -7,6 +7,8 @@
 #[cfg(test)]
 mod documents;
 #[cfg(test)]
+mod entries;
+#[cfg(test)]
 mod lines;
 #[cfg(test)]
 mod pictures;

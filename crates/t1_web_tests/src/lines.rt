@@ -8,7 +8,7 @@ use t1_report::Mark;
 use t1_samples::Sample;
 
 /// The glyph of the number 32001, 0, hmoveto, closepath, endchar.
-const FOUR_FAULTS: &[u8] = b"\xff\x00\x00\x7d\x01\x8b\x16\x09\x0e";
+pub(super) const FOUR_FAULTS: &[u8] = b"\xff\x00\x00\x7d\x01\x8b\x16\x09\x0e";
 
 /// Its report: the first line has 38 bytes, and the last, which is the longest, 44.
 const REPORT: &str = "\

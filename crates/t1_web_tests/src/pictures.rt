@@ -1,9 +1,9 @@
 //! Pictures of glyphs, in rooms that hold them or don't.
 
-use crate::lines::{front, with_glyph};
+use crate::lines::{FOUR_FAULTS, front, with_glyph};
 use std::test::Fail;
 use t1_char::Edition;
-use t1_pieces::{PictureRequest, PictureResult, picture};
+use t1_pieces::{Extent, PictureRequest, PictureResult, picture};
 
 /// `0 500 hsbw`, `50 hmoveto`, `100 hlineto`, `closepath`, `endchar`.
 const LINE: &[u8] = b"\x8b\xf8\x88\x0d\xbd\x16\xef\x06\x09\x0e";
@@ -15,7 +15,7 @@ fn request_for<'a>(font: &'a [u8], glyph: &'a [u8]) -> PictureRequest<'a> {
         waivers: b"",
         edition: Edition::One,
         glyph,
-        step: None,
+        extent: Extent::All,
     }
 }
 
@@ -51,5 +51,27 @@ fn no_picture_is_told_apart_from_a_refusal(rt: HostRuntime) -> Result<(), Fail> 
     let drawn = picture(rt.alloc(), &request_for(b"", b"A"), room.as_mut_slice());
     assert_eq!(rt; drawn, PictureResult::Refused(refusal.len()));
     assert!(rt; front(room.as_slice(), refusal.len()) == refusal.as_slice());
+    Ok(())
+}
+
+#[test]
+fn a_fault_is_drawn_by_its_number(rt: HostRuntime) -> Result<(), Fail> {
+    let font = with_glyph(rt.alloc(), FOUR_FAULTS)?;
+    let mut request = request_for(font.as_slice(), b"A");
+    request.extent = Extent::Fault(4);
+    let mut room = Vec::from_elem(rt.alloc(), 0u8, 10_000)?;
+    let drawn = picture(rt.alloc(), &request, room.as_mut_slice());
+    let PictureResult::Picture(count) = drawn else {
+        return Err(Fail::from("a picture"));
+    };
+    let text = str::from_utf8(front(room.as_slice(), count)).unwrap_or("");
+    assert!(rt; text.contains(">4: glyph A - 4 P03 closepath without a path</text>"));
+    assert!(rt; !text.contains(">3: glyph A - 3 "));
+    request.extent = Extent::Fault(5);
+    let drawn = picture(rt.alloc(), &request, room.as_mut_slice());
+    assert_eq!(rt; drawn, PictureResult::NoFault);
+    request.extent = Extent::Fault(0);
+    let drawn = picture(rt.alloc(), &request, room.as_mut_slice());
+    assert_eq!(rt; drawn, PictureResult::NoFault);
     Ok(())
 }
