@@ -18,6 +18,10 @@
 #   status: N       the wanted status
 #   out: LINE       one more wanted line of standard output
 #   picture: NAME   the file beside the case that standard output has to be, byte for byte
+#   folder: NAME    two more words are -o and a folder, which isn't there before; the folder beside the case that it has to be, or `none`: it isn't
+#                   there after the run either
+#   drawn: FILE NAME    a file of that folder that has to be the picture of this glyph, as a run without --faulty writes it
+#   kept: NAME      the folder is there before, with a file of this name, which stays as it is
 #   has: LINE       a line that standard output has to have; it may have others
 #   hasnot: LINE    a line that it must not have
 #   count: N        how many lines it has to have, where there are `has` lines
@@ -52,6 +56,15 @@ least_memory() {
     echo "$kilobytes"
 }
 
+# Makes the case's folder, with the file that stays, and adds its words.
+make_folder() {
+    grep -q '^folder:' "$1" || return
+    rm -rf "$scratch/folder"
+    printf '%s\n' -o "$scratch/folder" >>"$scratch/words"
+    kept=$(lines kept "$1")
+    [ -z "$kept" ] || { mkdir "$scratch/folder" && echo stays >"$scratch/folder/$kept"; }
+}
+
 # Runs the program as the case says, and answers its status: CASE [WORD..], words after the case's own.
 run_program() {
     input=$(lines input "$1") output=$(lines output "$1") errors=$(lines errors "$1") memory=$(lines memory "$1")
@@ -61,6 +74,7 @@ run_program() {
     : >"$scratch/rest"
     rest=$(lines rest "$1")
     lines word "$1" >"$scratch/words"
+    make_folder "$1"
     shift
     [ $# -eq 0 ] || printf '%s\n' "$@" >>"$scratch/words"
     # The shell reports each try that can't be loaded, which is left out here.
@@ -114,6 +128,41 @@ is_picture() {
     return 1
 }
 
+# Whether pictures in the folder are those of their glyphs, with the case's further words. These are then taken out of it.
+are_drawn() {
+    tried=$1 font=$(lines word "$1" | tail -n 1)
+    lines drawn "$1" >"$scratch/drawn"
+    shift
+    while IFS=' ' read -r file glyph; do
+        (cd "$cases/fonts" && timeout 60 "$program" "$@" "$glyph" "$font") >"$scratch/picture"
+        if ! cmp -s "$scratch/picture" "$scratch/folder/$file"; then
+            echo "failed: $(basename "$tried" .case): '$file' isn't the picture of '$glyph'"
+            return 1
+        fi
+        rm -f "$scratch/folder/$file"
+    done <"$scratch/drawn"
+}
+
+# Whether the folder is the one that the case names, beside the file that stays: CASE [WORD..]
+is_folder() {
+    wanted=$(lines folder "$1") kept=$(lines kept "$1")
+    [ -n "$wanted" ] || return 0
+    if [ "$wanted" = none ]; then
+        [ -e "$scratch/folder" ] || return 0
+        echo "failed: $(basename "$1" .case): the folder is made"
+        return 1
+    fi
+    if [ -n "$kept" ] && [ "$(cat "$scratch/folder/$kept")" != stays ]; then
+        echo "failed: $(basename "$1" .case): the file '$kept' didn't stay"
+        return 1
+    fi
+    [ -z "$kept" ] || rm -f "$scratch/folder/$kept"
+    are_drawn "$@" || return 1
+    diff -r "$cases/$wanted" "$scratch/folder" && return 0
+    echo "failed: $(basename "$1" .case): another folder (< wanted, > given)"
+    return 1
+}
+
 # Whether each line that the output has to have is in it, none that it must not have, and as many as wanted.
 has_lines() {
     lines has "$1" >"$scratch/lines"
@@ -155,6 +204,7 @@ answers() {
     else
         is_wanted out "$scratch/out" "$1" || return 1
     fi
+    is_folder "$@" || return 1
     is_wanted rest "$scratch/rest" "$1" || return 1
     is_wanted err "$scratch/err" "$1"
 }

@@ -278,7 +278,11 @@ options() {
         sub(/^ */, "")
         sub(/  .*/, "")
         count = split($0, words, /[ ,]+/)
-        for (i = 1; i <= count; i++) if (words[i] ~ /^-/ && words[i] != "-h") print words[i]
+        for (i = 1; i <= count; i++) {
+            # An option that may be given again ends with three points.
+            sub(/\.\.\.$/, "", words[i])
+            if (words[i] ~ /^-/ && words[i] != "-h") print words[i]
+        }
     }' | sort
 }
 

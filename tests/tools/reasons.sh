@@ -40,6 +40,28 @@ second.pfb: 1: glyph A - 9 H02 stems overlap
 END
 try 'reasons of two fonts' 1 "$all" -q --reasons edge.pfb second.pfb
 
+# Reasons of rules that edition 3 adds, and their numbers. StdVW is 20, and StemSnapV is empty.
+cp "$fonts/F17.pfb" "$fonts/F21.pfb" "$fonts/Z16.pfb" "$fonts/H07.pfb" .
+wanted <<'END'
+F17.pfb: 1: font FontBBox 0 F17 FontBBox has its corners exchanged
+   10 is above 5
+F21.pfb: 1: font Subrs 5 F21 Subr has no return
+   it ends with endchar
+Z16.pfb: 1: font StemSnapV 0 Z16 no stem snap beside a standard width
+   the standard width is 20; [20] would do
+H07.pfb: 1: glyph A - 24 H07 another stem3
+   60 to 80 in place of 50 to 70, set at step 10
+--
+END
+try 'reasons of edition 3' 1 "$all" -q --edition 3 --reasons F17.pfb F21.pfb Z16.pfb H07.pfb
+wanted <<'END'
+{"code":"F17","file":"F17.pfb","index":0,"key":"FontBBox","level":"should","number":1,"reason":{"first":"10","last":"5","text":"10 is above 5"},"text":"FontBBox has its corners exchanged","unit":"font"}
+{"code":"F21","file":"F21.pfb","index":5,"key":"Subrs","level":"should","number":1,"reason":{"text":"it ends with endchar","token":"endchar"},"text":"Subr has no return","unit":"font"}
+{"code":"Z16","file":"Z16.pfb","index":0,"key":"StemSnapV","level":"tidy","number":1,"reason":{"number":"20","text":"the standard width is 20; [20] would do"},"text":"no stem snap beside a standard width","unit":"font"}
+--
+END
+try 'reasons of edition 3 as jsonl' 1 "$all" -q --edition 3 --reasons --format jsonl F17.pfb F21.pfb Z16.pfb
+
 # Numbers beside the text.
 wanted <<'END'
 {"code":"P02","file":"glyphs.pfb","level":"should","name":"A","number":4,"path":[],"reason":{"pen":{"x":"150","y":"0"},"start":{"x":"50","y":"0"},"text":"from 50 0 to 150 0"},"step":12,"text":"path not closed","unit":"glyph"}

@@ -1,14 +1,17 @@
 //! `t1draw` reads one Adobe Type 1 font (PFA or PFB), from a file or standard input, and writes a picture of one of its glyphs,
-//! with the faults that t1check finds in it: a text of SVG 1.1.
+//! with the faults that t1check finds in it: a text of SVG 1.1. With `--faulty` it writes those of all glyphs that have faults into a
+//! folder, with an index.
 //!
 //! ```text
 //! $ t1draw A font.pfb >A.svg
+//! $ t1draw --faulty -o faults font.pfb
 //! ```
 //!
 //! Promised, where memory is there and no device fails: the words give options or none, by clap's rules
-//! ([`command_line::read_words`]); where they do, the words, the font's bytes and the waivers' decide the picture, to its last
-//! byte, or what is reported, and the status ([`answer`], [`laws`]). Where the font, the waivers or the words are
-//! refused, nothing is put on the output; that a read failed is reported only where one did.
+//! ([`command_line::read_words`]); where they do, the words, the font's bytes and the waivers' decide the picture, or the files of the
+//! folder, to the last byte, or what is reported, and the status ([`answer`], [`laws`]). Where the font, the waivers or the words are
+//! refused, nothing is put on the output; that a read failed is reported only where one did. That [`files`] makes the files as the
+//! output names them is not proved.
 #![tactic(auto)]
 
 mod command_line;
