@@ -241,8 +241,13 @@ const tests = {
     same('and to what is said of waivers', await page.text('#page h2'), 'Waivers');
     await page.click('a', 'what differs');
     test('a table is shown as one', await page.js("document.querySelectorAll('#page tr').length > 2"));
-    const broken = "[...pages.keys()].filter((key) => (showPage(key), [...document.querySelectorAll('#page a')].some((it) => it.hash && !pages.has(it.hash.slice(1)))))";
-    same('no link leads nowhere', await page.js(broken), []);
+    const links = "[...pages.keys()].flatMap((key) => (showPage(key), [...document.querySelectorAll('#page a')].map((it) => it.getAttribute('href'))))";
+    const [own, others] = [true, false].map((isOwn) => (it) => it.startsWith('#') === isOwn);
+    const all = await page.js(links);
+    const anchors = new Set(await page.js('[...pages.keys()]'));
+    same('no link leads nowhere', all.filter(own).filter((it) => !anchors.has(it.slice(1))), []);
+    const files = all.filter(others).map((it) => path.resolve(path.dirname(file), it.split('#')[0]));
+    same('beside the repository, links lead to its documents', [files.length > 0, files.filter((it) => !fs.existsSync(it))], [true, []]);
     same('no word of Markdown is left', await page.js("[...pages.keys()].filter((key) => (showPage(key), document.querySelector('#page').innerText.includes('](')))"), []);
   },
 
