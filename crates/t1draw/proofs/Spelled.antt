@@ -1,9 +1,9 @@
 -- Names that are spelled alike are one.
-use Rattle.std.proofs.Common.{◌≡◌, ◌<◌, ◌+◌, ◌*◌, ◌/◌, ◌%◌, ◌++◌, ℕ, Bool, true, false, List, [], ◌∷◌, ap, ap₂, arith, drop, get_or, if◌then◌else◌, refl, sym, ◌∙◌}
+use Rattle.std.proofs.Common.{◌≡◌, ◌<◌, ◌+◌, ◌/◌, ◌%◌, ◌++◌, ℕ, Bool, true, false, List, [], ◌∷◌, ap, ap₂, arith, drop, get_or, if◌then◌else◌, refl, sym, ◌∙◌}
 use Rattle.std.proofs.lemmas.Bool.{false≢true}
 use Rattle.std.proofs.lemmas.Bool.Decides.{nat_tests}
 use Rattle.std.proofs.lemmas.List.Folds.{list_all-append}
-use Rattle.std.specs.List.{AllByRecursion, list_all}
+use Rattle.std.specs.List.{list_all}
 use Rattle.t1draw.specs.Folders.{is_capital, is_small, small_digit, spelled, spelled_byte, spelled_by_digits, spelled_capital}
 use Rattle.t1draw.specs.Laws.{SpelledNamesArePlain, SpelledNamesDiffer, is_letter}
 

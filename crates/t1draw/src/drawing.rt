@@ -92,6 +92,7 @@ fn fault_among(
     ensures value { option_map fault_value result ≡ fault_for glyph number (faults_of faults.items) }
     ensures can { IfSome (option_map fault_value result) (CanShow sheet.now glyph) }
 {
+    // The contract alone speaks of it.
     let _sheet = sheet;
     if number == 0 || (faults.len() as u64) < number {
         return None;

@@ -1,4 +1,4 @@
-use Rattle.std.proofs.Common.{◌≡◌, ℕ, List, ap, Option, None, Some, map, option_map, codes, ◌∙◌, subst, sym, refl, lit<}
+use Rattle.std.proofs.Common.{◌≡◌, ℕ, List, ap, Option, None, Some, option_map, codes, ◌∙◌, subst, sym, refl, lit<}
 use Rattle.clap.specs.Words.{Text}
 use Rattle.t1_run.specs.Words.{IsEditionOrFirst, IsNumberArgument, IsPlainApp, IsRequiredArgument, IsTextOfNumber, edition_rule}
 use Rattle.t1_run.proofs.Commands.{by_rules, first_of-found}
