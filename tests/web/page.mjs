@@ -120,6 +120,9 @@ const tests = {
     same('counts of zero are pale', await page.js("[...document.querySelectorAll('#fonts span.pale')].map((it) => it.innerText)"), [
       '0 tidy', '0 must', '0 should', '0 tidy',
     ]);
+    same('no fault and a refusal are marked', await page.js("[...document.querySelectorAll('#fonts .status')].map((it) => it.className)"), [
+      'status refused', 'status report', 'status report', 'status clean',
+    ]);
     same('the first of them is shown', await page.text('#font'), 'letter.pfb: 3 faults');
     same('with its faults and their reasons', await shownFaults(page), jsonOf(letter).map(shownOf));
     test('the report begins in the upper third', await page.js("document.querySelector('#report').getBoundingClientRect().top < 300"));
