@@ -120,6 +120,9 @@ const tests = {
     same('counts of zero are pale', await page.js("[...document.querySelectorAll('#fonts span.pale')].map((it) => it.innerText)"), [
       '0 tidy', '0 must', '0 should', '0 tidy',
     ]);
+    same('no fault and a refusal are marked', await page.js("[...document.querySelectorAll('#fonts .status')].map((it) => it.className)"), [
+      'status refused', 'status report', 'status report', 'status clean',
+    ]);
     same('the first of them is shown', await page.text('#font'), 'letter.pfb: 3 faults');
     same('with its faults and their reasons', await shownFaults(page), jsonOf(letter).map(shownOf));
     test('the report begins in the upper third', await page.js("document.querySelector('#report').getBoundingClientRect().top < 300"));
@@ -210,6 +213,11 @@ const tests = {
     test('the page of its rule is beside it', (await page.text('#page')).startsWith('X05 flex ends elsewhere'));
     same('it is shown with its own number, without a legend, before the whole glyph', await page.js(PARTS), [['2'], 0, 1, 1]);
     await looks(page, 'fault');
+    await page.js("last = { result: null }, drawing.own = drawing.call, drawing.call = async () => ({ kind: 'stopped' }), draw()");
+    await page.untilText('#drawn', 'No picture of glyph D: stopped.');
+    await page.js('drawing.call = drawing.own, draw()');
+    await page.until("document.querySelector('#drawn').innerText === 'glyph D up to step 68'");
+    test('a picture that was stopped is drawn on request', await page.js("document.querySelector('#picture').naturalWidth > 0"));
     await page.click('#whole');
     await page.until("document.querySelector('#drawn').innerText === 'glyph D'");
     same('all steps are drawn again, for the same fault', await page.js('fault.number'), 2);
