@@ -777,7 +777,7 @@ static F15: Page = Page {
     code: "F15",
     anchor: "f15-fontmatrix-is-not-six-numbers",
     title: "FontMatrix is not six numbers",
-    text: "Level *should*: without the entry an interpreter refuses the font; one that t1check can't read may be right.\n\nFontMatrix says how units of glyph space become units of the page; nearly every font has 1,000 units to the em. A rasteriser multiplies each\ncoordinate by it. With another count of numbers it stops with an error, or draws nothing. Here the last number is missing.\n\n    /FontMatrix [0.001 0 0 0.001 0] def\n    1: font FontMatrix 0 F15 FontMatrix is not six numbers\n\nA number with an exponent is right in PostScript, but it is a word here, and so the list is none of numbers:\n\n    /FontMatrix [1e-3 0 0 1e-3 0 0] def\n    1: font FontMatrix 0 F15 FontMatrix is not six numbers\n\nCure: `/FontMatrix [0.001 0 0 0.001 0 0] def` in the clear text, or your font's own six numbers, without exponents.",
+    text: "Level *should*: without the entry an interpreter refuses the font; one that t1check can't read may be right.\n\nFontMatrix says how units of glyph space become units of the page; nearly every font has 1,000 units to the em. A rasteriser multiplies each\ncoordinate by it. With another count of numbers it stops with an error, or draws nothing. Here the last number is missing.\n\n    /FontMatrix [0.001 0 0 0.001 0] def\n    1: font FontMatrix 0 F15 FontMatrix is not six numbers\n       FontMatrix has 5 numbers; 6 are needed\n\nA number with an exponent is right in PostScript, but it is a word here, and so the list is none of numbers:\n\n    /FontMatrix [1e-3 0 0 1e-3 0 0] def\n    1: font FontMatrix 0 F15 FontMatrix is not six numbers\n       FontMatrix is no list of numbers\n\nCure: `/FontMatrix [0.001 0 0 0.001 0 0] def` in the clear text, or your font's own six numbers, without exponents.",
 };
 
 fn f15() -> &'static Page {
@@ -788,7 +788,7 @@ static F16: Page = Page {
     code: "F16",
     anchor: "f16-fontbbox-is-not-four-numbers",
     title: "FontBBox is not four numbers",
-    text: "Level *must*: an interpreter refuses the font, or cuts glyphs off.\n\nFontBBox is the box that encloses all glyphs: left, bottom, right and top. A rasteriser reserves room for a glyph by it. Without the entry an\ninterpreter fails, or guesses. Here the top is missing.\n\n    /FontBBox {0 0 1000} def\n    1: font FontBBox 0 F16 FontBBox is not four numbers\n\nCure: write four numbers, in the clear text. `{0 0 0 0}` says that the box isn't known.",
+    text: "Level *must*: an interpreter refuses the font, or cuts glyphs off.\n\nFontBBox is the box that encloses all glyphs: left, bottom, right and top. A rasteriser reserves room for a glyph by it. Without the entry an\ninterpreter fails, or guesses. Here the top is missing.\n\n    /FontBBox {0 0 1000} def\n    1: font FontBBox 0 F16 FontBBox is not four numbers\n       FontBBox has 3 numbers; 4 are needed\n\nCure: write four numbers, in the clear text. `{0 0 0 0}` says that the box isn't known.",
 };
 
 fn f16() -> &'static Page {
@@ -799,7 +799,7 @@ static F17: Page = Page {
     code: "F17",
     anchor: "f17-fontbbox-has-its-corners-exchanged",
     title: "FontBBox has its corners exchanged",
-    text: "Level *should*: glyphs may be cut off, or not be drawn.\n\nThe lower left corner comes first. If its x is greater than that of the other corner the line has the index 0, and if its y is greater the index 1.\nSuch a box encloses nothing, so a rasteriser that trusts it reserves no room. Here left is 10 and right is 5.\n\n    /FontBBox {10 0 5 1000} def\n    1: font FontBBox 0 F17 FontBBox has its corners exchanged\n\nCure: write the lesser x and the lesser y first, here `{5 0 10 1000}`.",
+    text: "Level *should*: glyphs may be cut off, or not be drawn.\n\nThe lower left corner comes first. If its x is greater than that of the other corner the line has the index 0, and if its y is greater the index 1.\nSuch a box encloses nothing, so a rasteriser that trusts it reserves no room. Here left is 10 and right is 5.\n\n    /FontBBox {10 0 5 1000} def\n    1: font FontBBox 0 F17 FontBBox has its corners exchanged\n       10 is above 5\n\nCure: write the lesser x and the lesser y first, here `{5 0 10 1000}`.",
 };
 
 fn f17() -> &'static Page {
@@ -810,7 +810,7 @@ static F18: Page = Page {
     code: "F18",
     anchor: "f18-xuid-malformed",
     title: "XUID malformed",
-    text: "Level *tidy*: glyphs are drawn, but a printer can't keep them under this number.\n\nXUID is a list of numbers that stands for the font, as UniqueID does. An interpreter that keeps drawn glyphs looks for them by it. It has to be a list\nwith at least one number. A number of ten digits or more isn't read here, so the list is none of numbers.\n\n    /XUID [] def\n    1: font XUID 0 F18 XUID malformed\n\nCure: leave the entry out; or write the list that is registered for the font.",
+    text: "Level *tidy*: glyphs are drawn, but a printer can't keep them under this number.\n\nXUID is a list of numbers that stands for the font, as UniqueID does. An interpreter that keeps drawn glyphs looks for them by it. It has to be a list\nwith at least one number. A number of ten digits or more isn't read here, so the list is none of numbers.\n\n    /XUID [] def\n    1: font XUID 0 F18 XUID malformed\n       XUID has no numbers\n\nCure: leave the entry out; or write the list that is registered for the font.",
 };
 
 fn f18() -> &'static Page {
@@ -821,7 +821,7 @@ static F19: Page = Page {
     code: "F19",
     anchor: "f19-xuid-number-out-of-range",
     title: "XUID number out of range",
-    text: "Level *tidy*: glyphs are drawn, but may be kept under a wrong number, or not be kept.\n\nEach number has 24 bits, as a UniqueID has. A rasteriser that stores it so mixes up fonts whose numbers differ elsewhere. The first 16 numbers are\nlooked at. INDEX is the number's place.\n\n    /XUID [1000 -1 2.5 16777216] def\n    1: font XUID 1 F19 XUID number out of range\n    2: font XUID 2 F19 XUID number out of range\n    3: font XUID 3 F19 XUID number out of range\n\nCure: mend the number, or leave the entry out.",
+    text: "Level *tidy*: glyphs are drawn, but may be kept under a wrong number, or not be kept.\n\nEach number has 24 bits, as a UniqueID has. A rasteriser that stores it so mixes up fonts whose numbers differ elsewhere. The first 16 numbers are\nlooked at. INDEX is the number's place.\n\n    /XUID [1000 -1 2.5 16777216] def\n    1: font XUID 1 F19 XUID number out of range\n       -1; a whole number from 0 to 16777215 is needed\n    2: font XUID 2 F19 XUID number out of range\n       2.5; a whole number from 0 to 16777215 is needed\n    3: font XUID 3 F19 XUID number out of range\n       16777216; a whole number from 0 to 16777215 is needed\n\nCure: mend the number, or leave the entry out.",
 };
 
 fn f19() -> &'static Page {
@@ -832,7 +832,7 @@ static F20: Page = Page {
     code: "F20",
     anchor: "f20-languagegroup-is-not-0-or-1",
     title: "LanguageGroup is not 0 or 1",
-    text: "Level *should*: hints may be applied by the wrong method.\n\nBy this entry a rasteriser chooses how it evens out strokes: 0 is for Latin and similar scripts, 1 for ideographs as those of Chinese and\nJapanese. Other numbers mean nothing. Without the entry it is 0.\n\n    /LanguageGroup 2 def\n    1: font LanguageGroup 0 F20 LanguageGroup is not 0 or 1\n\nHow much it matters: 14 of 1,906 real fonts have another number, each about 4,000,000, which none can have meant.\n\nCure: `/LanguageGroup 1 def` in Private for ideographs; for other fonts leave the entry out.",
+    text: "Level *should*: hints may be applied by the wrong method.\n\nBy this entry a rasteriser chooses how it evens out strokes: 0 is for Latin and similar scripts, 1 for ideographs as those of Chinese and\nJapanese. Other numbers mean nothing. Without the entry it is 0.\n\n    /LanguageGroup 2 def\n    1: font LanguageGroup 0 F20 LanguageGroup is not 0 or 1\n       LanguageGroup is 2; 0 or 1 is needed\n\nHow much it matters: 14 of 1,906 real fonts have another number, each about 4,000,000, which none can have meant.\n\nCure: `/LanguageGroup 1 def` in Private for ideographs; for other fonts leave the entry out.",
 };
 
 fn f20() -> &'static Page {
@@ -843,7 +843,7 @@ static F21: Page = Page {
     code: "F21",
     anchor: "f21-subr-has-no-return",
     title: "Subr has no return",
-    text: "Level *should*: where no glyph calls the Subr, nothing different is drawn.\n\nA Subr goes back to its caller by `return`. This rule looks at the bytes of each Subr, decrypted, whether a glyph calls it or not; it executes none. A\n`return` counts wherever it is, also after endchar. A rasteriser that reads all Subrs beforehand may refuse the font, or read on after the last byte.\nA Subr that is shorter than lenIV has this line too. Here Subr 5 is the one command endchar, and no glyph calls it.\n\n    /Subrs 6 array\n    dup 5 1 RD … NP\n    1: font Subrs 5 F21 Subr has no return\n\nIf a glyph calls such a Subr and its end is reached, S04 says so at that step.\n\nCure: write `return` at the Subr's end, also after an endchar; or leave a Subr out that nothing calls.",
+    text: "Level *should*: where no glyph calls the Subr, nothing different is drawn.\n\nA Subr goes back to its caller by `return`. This rule looks at the bytes of each Subr, decrypted, whether a glyph calls it or not; it executes none. A\n`return` counts wherever it is, also after endchar. A rasteriser that reads all Subrs beforehand may refuse the font, or read on after the last byte.\nA Subr that is shorter than lenIV has this line too. Here Subr 5 is the one command endchar, and no glyph calls it.\n\n    /Subrs 6 array\n    dup 5 1 RD … NP\n    1: font Subrs 5 F21 Subr has no return\n       it ends with endchar\n\nIf a glyph calls such a Subr and its end is reached, S04 says so at that step.\n\nCure: write `return` at the Subr's end, also after an endchar; or leave a Subr out that nothing calls.",
 };
 
 fn f21() -> &'static Page {
@@ -854,7 +854,7 @@ static Z12: Page = Page {
     code: "Z12",
     anchor: "z12-no-bluevalues",
     title: "no BlueValues",
-    text: "Level *must*: an interpreter may refuse the font.\n\nBlueValues is required in Private, also where the font has no zones: then it is an empty list. A rasteriser that looks for it and finds nothing fails,\nor applies no hints. Here Private has no such entry.\n\n    1: font BlueValues 0 Z12 no BlueValues\n\nHow much it matters: 41 of 1,906 real fonts have no such entry, most of them for Arabic and Persian.\n\nCure: `/BlueValues [] def` in Private; or better the font's zones, as `[-15 0 450 460 700 715]`, each a bottom and a top.",
+    text: "Level *must*: an interpreter may refuse the font.\n\nBlueValues is required in Private, also where the font has no zones: then it is an empty list. A rasteriser that looks for it and finds nothing fails,\nor applies no hints. Here Private has no such entry.\n\n    1: font BlueValues 0 Z12 no BlueValues\n       BlueValues is not there; [] would do\n\nHow much it matters: 41 of 1,906 real fonts have no such entry, most of them for Arabic and Persian.\n\nCure: `/BlueValues [] def` in Private; or better the font's zones, as `[-15 0 450 460 700 715]`, each a bottom and a top.",
 };
 
 fn z12() -> &'static Page {
@@ -865,7 +865,7 @@ static Z13: Page = Page {
     code: "Z13",
     anchor: "z13-standard-width-is-not-above-0",
     title: "standard width is not above 0",
-    text: "Level *should*: stems of the usual width are drawn too thin or uneven.\n\nA rasteriser draws stems that are nearly as wide as StdHW or StdVW just so wide. A width of 0 or less is that of no stroke. The first number alone is\nlooked at.\n\n    /StdHW [0] def\n    1: font StdHW 0 Z13 standard width is not above 0\n\nHow much it matters: 4 of 1,906 real fonts have 8 such widths: they are fonts of symbols.\n\nCure: write the most frequent width of horizontal (StdVW: vertical) stems; or leave the entry out.",
+    text: "Level *should*: stems of the usual width are drawn too thin or uneven.\n\nA rasteriser draws stems that are nearly as wide as StdHW or StdVW just so wide. A width of 0 or less is that of no stroke. The first number alone is\nlooked at.\n\n    /StdHW [0] def\n    1: font StdHW 0 Z13 standard width is not above 0\n       the width is 0; more than 0 is needed\n\nHow much it matters: 4 of 1,906 real fonts have 8 such widths: they are fonts of symbols.\n\nCure: write the most frequent width of horizontal (StdVW: vertical) stems; or leave the entry out.",
 };
 
 fn z13() -> &'static Page {
@@ -876,7 +876,7 @@ static Z14: Page = Page {
     code: "Z14",
     anchor: "z14-zone-number-is-not-whole",
     title: "zone number is not whole",
-    text: "Level *should*: a rasteriser may cut the fraction, and so move the zone's edge.\n\nThe numbers of BlueValues, OtherBlues, FamilyBlues and FamilyOtherBlues are whole units of glyph space. A rasteriser that reads whole numbers stops at\na fraction, or drops it, and edges are no longer in the zone. INDEX is the number's place, of those that\nzone rules look at.\n\n    /BlueValues [-10.5 0] def\n    1: font BlueValues 0 Z14 zone number is not whole\n\nHow much it matters: 4 of 1,906 real fonts have 10 such numbers.\n\nCure: round the number away from the zone, here `-11`, so that it still holds the same edges.",
+    text: "Level *should*: a rasteriser may cut the fraction, and so move the zone's edge.\n\nThe numbers of BlueValues, OtherBlues, FamilyBlues and FamilyOtherBlues are whole units of glyph space. A rasteriser that reads whole numbers stops at\na fraction, or drops it, and edges are no longer in the zone. INDEX is the number's place, of those that\nzone rules look at.\n\n    /BlueValues [-10.5 0] def\n    1: font BlueValues 0 Z14 zone number is not whole\n       -10.5 is not whole\n\nHow much it matters: 4 of 1,906 real fonts have 10 such numbers.\n\nCure: round the number away from the zone, here `-11`, so that it still holds the same edges.",
 };
 
 fn z14() -> &'static Page {
@@ -887,7 +887,7 @@ static Z15: Page = Page {
     code: "Z15",
     anchor: "z15-stem-snaps-equal",
     title: "stem snaps equal",
-    text: "Level *should*: a place of the list is wasted, and a search in it may go wrong.\n\nThe widths have to rise from number to number. Z10 is about those that fall; this is about one that is there twice. A\nrasteriser that looks for the nearest width takes one of them. Only the first 12 are compared. Here the number at place 1 is that at place 0.\n\n    /StemSnapV [20 20 30] def\n    1: font StemSnapV 1 Z15 stem snaps equal\n\nCure: leave one of the two out.",
+    text: "Level *should*: a place of the list is wasted, and a search in it may go wrong.\n\nThe widths have to rise from number to number. Z10 is about those that fall; this is about one that is there twice. A\nrasteriser that looks for the nearest width takes one of them. Only the first 12 are compared. Here the number at place 1 is that at place 0.\n\n    /StemSnapV [20 20 30] def\n    1: font StemSnapV 1 Z15 stem snaps equal\n       20 comes twice\n\nCure: leave one of the two out.",
 };
 
 fn z15() -> &'static Page {
@@ -898,7 +898,7 @@ static Z16: Page = Page {
     code: "Z16",
     anchor: "z16-no-stem-snap-beside-a-standard-width",
     title: "no stem snap beside a standard width",
-    text: "Level *tidy*: an empty list has no effect.\n\nStemSnapH and StemSnapV have the standard width and other frequent ones. An empty list says that there is none, though StdHW or StdVW names one. A\nrasteriser goes by the standard width alone.\n\n    /StdVW [20] def\n    /StemSnapV [] def\n    1: font StemSnapV 0 Z16 no stem snap beside a standard width\n\nHow much it matters: 107 of 1,906 real fonts have 111 such lists. 103 of these fonts are slanted, and it is their StemSnapV.\n\nCure: leave the list out, or write the standard width into it, here `[20]`.",
+    text: "Level *tidy*: an empty list has no effect.\n\nStemSnapH and StemSnapV have the standard width and other frequent ones. An empty list says that there is none, though StdHW or StdVW names one. A\nrasteriser goes by the standard width alone.\n\n    /StdVW [20] def\n    /StemSnapV [] def\n    1: font StemSnapV 0 Z16 no stem snap beside a standard width\n       the standard width is 20; [20] would do\n\nHow much it matters: 107 of 1,906 real fonts have 111 such lists. 103 of these fonts are slanted, and it is their StemSnapV.\n\nCure: leave the list out, or write the standard width into it, here `[20]`.",
 };
 
 fn z16() -> &'static Page {
@@ -909,7 +909,7 @@ static Z17: Page = Page {
     code: "Z17",
     anchor: "z17-bluescale-out-of-range",
     title: "BlueScale out of range",
-    text: "Level *should*: overshoots are suppressed at all sizes, or at none.\n\nBlueScale says, in pixels a unit, up to which size overshoots are suppressed. At 0.5 that is a size of 500 pixels for an em of 1,000 units, where\nevery overshoot is seen. At 0 or less nothing is suppressed at any size. Z07 compares it with the font's zones.\n\n    /BlueScale 0.6 def\n    1: font BlueScale 0 Z17 BlueScale out of range\n\nCure: leave the entry out, which means 0.039625; or write the value for your size.",
+    text: "Level *should*: overshoots are suppressed at all sizes, or at none.\n\nBlueScale says, in pixels a unit, up to which size overshoots are suppressed. At 0.5 that is a size of 500 pixels for an em of 1,000 units, where\nevery overshoot is seen. At 0 or less nothing is suppressed at any size. Z07 compares it with the font's zones.\n\n    /BlueScale 0.6 def\n    1: font BlueScale 0 Z17 BlueScale out of range\n       BlueScale is 0.6; more than 0 and at most 0.5 is needed\n\nCure: leave the entry out, which means 0.039625; or write the value for your size.",
 };
 
 fn z17() -> &'static Page {
@@ -920,7 +920,7 @@ static Z18: Page = Page {
     code: "Z18",
     anchor: "z18-blueshift-out-of-range",
     title: "BlueShift out of range",
-    text: "Level *should*: small overshoots are drawn at sizes where they shouldn't be, or the reverse.\n\nBlueShift says how many units an overshoot needs to be drawn at small sizes too. It is a whole number, and not negative. A rasteriser that reads\nanother one may take any value for it.\n\n    /BlueShift -1 def\n    1: font BlueShift 0 Z18 BlueShift out of range\n\nCure: leave the entry out, which means 7; or write a whole number. `7.0` is whole here.",
+    text: "Level *should*: small overshoots are drawn at sizes where they shouldn't be, or the reverse.\n\nBlueShift says how many units an overshoot needs to be drawn at small sizes too. It is a whole number, and not negative. A rasteriser that reads\nanother one may take any value for it.\n\n    /BlueShift -1 def\n    1: font BlueShift 0 Z18 BlueShift out of range\n       BlueShift is -1; a whole number from 0 on is needed\n\nCure: leave the entry out, which means 7; or write a whole number. `7.0` is whole here.",
 };
 
 fn z18() -> &'static Page {
@@ -931,7 +931,7 @@ static Z19: Page = Page {
     code: "Z19",
     anchor: "z19-bluefuzz-out-of-range",
     title: "BlueFuzz out of range",
-    text: "Level *should*: edges outside a zone are set on its line, or edges inside it aren't.\n\nBlueFuzz widens each zone by so many units below and above. So many as 11 reach into strokes nearby, and a negative number makes zones narrower.\nt1check takes whole numbers from 0 to 10. Z05 and Z06 go by the number as it is, also where\nthis rule is broken.\n\n    /BlueFuzz 11 def\n    1: font BlueFuzz 0 Z19 BlueFuzz out of range\n\nCure: `/BlueFuzz 0 def`, with zones that hold their edges; or leave the entry out, which means 1.",
+    text: "Level *should*: edges outside a zone are set on its line, or edges inside it aren't.\n\nBlueFuzz widens each zone by so many units below and above. So many as 11 reach into strokes nearby, and a negative number makes zones narrower.\nt1check takes whole numbers from 0 to 10. Z05 and Z06 go by the number as it is, also where\nthis rule is broken.\n\n    /BlueFuzz 11 def\n    1: font BlueFuzz 0 Z19 BlueFuzz out of range\n       BlueFuzz is 11; a whole number from 0 to 10 is needed\n\nCure: `/BlueFuzz 0 def`, with zones that hold their edges; or leave the entry out, which means 1.",
 };
 
 fn z19() -> &'static Page {
@@ -942,7 +942,7 @@ static H05: Page = Page {
     code: "H05",
     anchor: "h05-stem-below-half-a-unit",
     title: "stem below half a unit",
-    text: "Level *should*: the hint has no effect, or makes a line of no stroke.\n\nNo stroke is so thin. Mostly the width is a quotient whose divisor is wrong, or one that was meant for the position. A rasteriser rounds it to 0, or\ndraws a stroke of one pixel. A width of exactly 0 is H03. Here the width is a third of a unit.\n\n    A: 0 500 hsbw 0 1 3 div hstem endchar\n    1: glyph A - 8 H05 stem below half a unit\n\nCure: write the stroke's width, or leave the stem out.",
+    text: "Level *should*: the hint has no effect, or makes a line of no stroke.\n\nNo stroke is so thin. Mostly the width is a quotient whose divisor is wrong, or one that was meant for the position. A rasteriser rounds it to 0, or\ndraws a stroke of one pixel. A width of exactly 0 is H03. Here the width is a third of a unit.\n\n    A: 0 500 hsbw 0 1 3 div hstem endchar\n    1: glyph A - 8 H05 stem below half a unit\n       the stem from 0 to 0.3333282470703125 is 0.3333282470703125 wide\n\nCure: write the stroke's width, or leave the stem out.",
 };
 
 fn h05() -> &'static Page {
@@ -953,7 +953,7 @@ static H06: Page = Page {
     code: "H06",
     anchor: "h06-stem-beside-stem3",
     title: "stem beside stem3",
-    text: "Level *must*: interpreters keep one kind of stems or the other.\n\nA glyph that has hstem3 must not have hstem, and one that has vstem3 must not have vstem, not even in another hint set. A rasteriser may even\nout the three strokes for the whole glyph and drop the other stem, or drop the three. A glyph has at most one such line for each direction: at the\nfirst command of that kind which comes later. Here hstem comes first.\n\n    A: 0 500 hsbw 0 20 hstem 100 20 150 20 200 20 hstem3 endchar\n    1: glyph A - 13 H06 stem beside stem3\n\nHow much it matters: 61 of 1,906 real fonts have such glyphs, with 153 lines in all.\n\nCure: write three stems, each by a command of its own, in place of the hstem3; or leave the other stem out.",
+    text: "Level *must*: interpreters keep one kind of stems or the other.\n\nA glyph that has hstem3 must not have hstem, and one that has vstem3 must not have vstem, not even in another hint set. A rasteriser may even\nout the three strokes for the whole glyph and drop the other stem, or drop the three. A glyph has at most one such line for each direction: at the\nfirst command of that kind which comes later. Here hstem comes first.\n\n    A: 0 500 hsbw 0 20 hstem 100 20 150 20 200 20 hstem3 endchar\n    1: glyph A - 13 H06 stem beside stem3\n       100 to 120 beside 0 to 20, set at step 6\n\nHow much it matters: 61 of 1,906 real fonts have such glyphs, with 153 lines in all.\n\nCure: write three stems, each by a command of its own, in place of the hstem3; or leave the other stem out.",
 };
 
 fn h06() -> &'static Page {
@@ -964,7 +964,7 @@ static H07: Page = Page {
     code: "H07",
     anchor: "h07-another-stem3",
     title: "another stem3",
-    text: "Level *must*: interpreters even out the strokes by one of the two commands.\n\nWhere a glyph has several hint sets, each that has hstem3 (vstem3) has to have the same three stems. A rasteriser may take the first for the whole\nglyph, or the last. The command is compared with the one before it in the glyph, by the lower and upper edge of each stem, in their order. So `0 20 …`\nand `20 -20 …` are the same. Here Subr 5 is `return`, and the second stem is moved by 10.\n\n    A: 0 500 hsbw 0 20 50 20 100 20 hstem3 5 1 3 callothersubr pop callsubr 0 20 60 20 120 20 hstem3 endchar\n    1: glyph A - 24 H07 another stem3\n\nCure: write the same three stems in each hint set; or use hstem (vstem) throughout.",
+    text: "Level *must*: interpreters even out the strokes by one of the two commands.\n\nWhere a glyph has several hint sets, each that has hstem3 (vstem3) has to have the same three stems. A rasteriser may take the first for the whole\nglyph, or the last. The command is compared with the one before it in the glyph, by the lower and upper edge of each stem, in their order. So `0 20 …`\nand `20 -20 …` are the same. Here Subr 5 is `return`, and the second stem is moved by 10.\n\n    A: 0 500 hsbw 0 20 50 20 100 20 hstem3 5 1 3 callothersubr pop callsubr 0 20 60 20 120 20 hstem3 endchar\n    1: glyph A - 24 H07 another stem3\n       60 to 80 in place of 50 to 70, set at step 10\n\nCure: write the same three stems in each hint set; or use hstem (vstem) throughout.",
 };
 
 fn h07() -> &'static Page {
@@ -975,7 +975,7 @@ static O05: Page = Page {
     code: "O05",
     anchor: "o05-counter-control-not-at-the-start",
     title: "counter control not at the start",
-    text: "Level *must*: interpreters ignore the counter control, or refuse the glyph.\n\nA rasteriser decides how it evens out a glyph before it reads stems and paths. So counter control comes right after hsbw or sbw, or after more of\ncounter control. What comes later, or before the width, has no effect, or stops an interpreter. Here a move comes first.\n\n    A: 0 500 hsbw 0 hmoveto 5 1 13 callothersubr endchar\n    1: glyph A - 9 O05 counter control not at the start\n\nCure: move the calls right after hsbw or sbw.",
+    text: "Level *must*: interpreters ignore the counter control, or refuse the glyph.\n\nA rasteriser decides how it evens out a glyph before it reads stems and paths. So counter control comes right after hsbw or sbw, or after more of\ncounter control. What comes later, or before the width, has no effect, or stops an interpreter. Here a move comes first.\n\n    A: 0 500 hsbw 0 hmoveto 5 1 13 callothersubr endchar\n    1: glyph A - 9 O05 counter control not at the start\n       step 5 comes before it\n\nCure: move the calls right after hsbw or sbw.",
 };
 
 fn o05() -> &'static Page {
@@ -986,7 +986,7 @@ static O06: Page = Page {
     code: "O06",
     anchor: "o06-counter-control-again",
     title: "counter control again",
-    text: "Level *must*: interpreters take the first numbers or the last.\n\nOtherSubr 13 ends the counter control of a glyph, and a glyph has one. What a rasteriser does with more of it is open. Each further call has this\nline.\n\n    A: 0 500 hsbw 5 1 13 callothersubr 5 1 13 callothersubr endchar\n    1: glyph A - 11 O06 counter control again\n\nCure: write OtherSubr 12 for each part but the last; or leave the second one out.",
+    text: "Level *must*: interpreters take the first numbers or the last.\n\nOtherSubr 13 ends the counter control of a glyph, and a glyph has one. What a rasteriser does with more of it is open. Each further call has this\nline.\n\n    A: 0 500 hsbw 5 1 13 callothersubr 5 1 13 callothersubr endchar\n    1: glyph A - 11 O06 counter control again\n       step 7 ended counter control\n\nCure: write OtherSubr 12 for each part but the last; or leave the second one out.",
 };
 
 fn o06() -> &'static Page {
@@ -997,7 +997,7 @@ static O07: Page = Page {
     code: "O07",
     anchor: "o07-counter-control-leaves-numbers",
     title: "counter control leaves numbers",
-    text: "Level *must*: a number is left over, which a later command takes.\n\nThe count has to be that of all numbers on the stack. A rasteriser takes so many from the top, and the others stay below for the next command. Here\nthere are two numbers, and the count is 1.\n\n    A: 0 500 hsbw 7 5 1 13 callothersubr endchar\n    1: glyph A - 8 O07 counter control leaves numbers\n    2: glyph A - 9 C05 too many arguments\n       endchar takes no numbers, 1 is on the stack\n\nCure: write the count of all numbers, here 2; or leave out the number that is too many.",
+    text: "Level *must*: a number is left over, which a later command takes.\n\nThe count has to be that of all numbers on the stack. A rasteriser takes so many from the top, and the others stay below for the next command. Here\nthere are two numbers, and the count is 1.\n\n    A: 0 500 hsbw 7 5 1 13 callothersubr endchar\n    1: glyph A - 8 O07 counter control leaves numbers\n       the count is 1, 2 are there\n    2: glyph A - 9 C05 too many arguments\n       endchar takes no numbers, 1 is on the stack\n\nCure: write the count of all numbers, here 2; or leave out the number that is too many.",
 };
 
 fn o07() -> &'static Page {
@@ -1008,7 +1008,7 @@ static O08: Page = Page {
     code: "O08",
     anchor: "o08-counter-control-has-no-end",
     title: "counter control has no end",
-    text: "Level *must*: interpreters ignore the counter control, or take what follows for a part of it.\n\nAfter OtherSubr 12 more numbers come, up to a call of OtherSubr 13. A rasteriser that waits for that doesn't know what it has. The line is at the\ncommand, or the other OtherSubr, that comes in its place.\n\n    A: 0 500 hsbw 5 1 12 callothersubr endchar\n    1: glyph A - 8 O08 counter control has no end\n\nCure: write 13 for 12 in the last call.",
+    text: "Level *must*: interpreters ignore the counter control, or take what follows for a part of it.\n\nAfter OtherSubr 12 more numbers come, up to a call of OtherSubr 13. A rasteriser that waits for that doesn't know what it has. The line is at the\ncommand, or the other OtherSubr, that comes in its place.\n\n    A: 0 500 hsbw 5 1 12 callothersubr endchar\n    1: glyph A - 8 O08 counter control has no end\n       OtherSubr 12 at step 7, not ended by a 13\n\nCure: write 13 for 12 in the last call.",
 };
 
 fn o08() -> &'static Page {
@@ -1019,7 +1019,7 @@ static W03: Page = Page {
     code: "W03",
     anchor: "w03-othersubr-before-hsbw-or-sbw",
     title: "OtherSubr before hsbw or sbw",
-    text: "Level *must*: interpreters refuse the glyph, or lose what the call was to do.\n\nhsbw or sbw comes first in a glyph. An OtherSubr before it, as a hint replacement or a flex, speaks of a glyph that has no point yet: a rasteriser\nstops with an error, or forgets the call at hsbw. Numbers, div and calls of Subrs may come before. A call with a bad count (O02) has this line too; a\ncounter control has O05. Here Subr 5 is `return`.\n\n    A: 5 1 3 callothersubr pop callsubr 0 500 hsbw endchar\n    1: glyph A - 4 W03 OtherSubr before hsbw or sbw\n\nCure: move the call after hsbw or sbw.",
+    text: "Level *must*: interpreters refuse the glyph, or lose what the call was to do.\n\nhsbw or sbw comes first in a glyph. An OtherSubr before it, as a hint replacement or a flex, speaks of a glyph that has no point yet: a rasteriser\nstops with an error, or forgets the call at hsbw. Numbers, div and calls of Subrs may come before. A call with a bad count (O02) has this line too; a\ncounter control has O05. Here Subr 5 is `return`.\n\n    A: 5 1 3 callothersubr pop callsubr 0 500 hsbw endchar\n    1: glyph A - 4 W03 OtherSubr before hsbw or sbw\n       no hsbw or sbw so far\n\nCure: move the call after hsbw or sbw.",
 };
 
 fn w03() -> &'static Page {
