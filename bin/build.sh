@@ -121,8 +121,8 @@ build() {
 # Answers a word that is alone and needs no program, and ends: `--build`, which builds the program of a crate, NAME, and `--help` and `--version`
 # where that isn't built. NAME WORDS...
 answer_alone() {
-    [ $# -eq 2 ] || return 0
     name_files "$1"
+    [ $# -eq 2 ] || return 0
     command=$(printf '%s\n' "$name" | sed 's/_/-/')
     case $2 in
         --build)
