@@ -135,14 +135,15 @@ font_of() {
     sed -n 's/^word: //p' "$1" | grep -vx -e --edition -e '[123]'
 }
 
-# The case of an example: the rule's own for the first, else the first plain one that wants the same lines.
+# The case of an example: the rule's own for the first, else the first plain one that wants the same lines and has the same reasons.
 case_of() {
     if [ "$2" -eq 1 ] && [ "$1" != Several ]; then
         printf '%s\n' "$cases/$1.case"
         return
     fi
     for candidate in "$cases"/*.case; do
-        is_plain "$candidate" && sed -n 's/^out: //p' "$candidate" | cmp -s - "$scratch/lines" && printf '%s\n' "$candidate" && return
+        is_plain "$candidate" && sed -n 's/^out: //p' "$candidate" | cmp -s - "$scratch/lines" &&
+            report_with_reasons "$candidate" | cmp -s - "$scratch/reasons" && printf '%s\n' "$candidate" && return
     done
 }
 
