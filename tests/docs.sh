@@ -377,7 +377,7 @@ compare_codes 'tests/program, cases of the rules and their fonts' codes <"$scrat
 
 # Other files that have all rules.
 sed -n '/^## From a rule/,$p' "$top/docs/ARCHITECTURE.md" >"$scratch/passage"
-(cd "$top" && find README.md bin completions crates docs man tests bench -name out -prune -o -type f -exec grep -lw U01 {} +) >"$scratch/files"
+(cd "$top" && find README.md bin completions crates docs man tests bench \( -name out -o -name t1check.html \) -prune -o -type f -exec grep -lw U01 {} +) >"$scratch/files"
 while IFS= read -r file; do
     codes_in "$top/$file" >"$scratch/place"
     cmp -s "$scratch/place" "$scratch/sorted" || continue

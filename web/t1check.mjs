@@ -137,7 +137,7 @@ function moduleBytes() {
   const built = new URL('out/t1_web.wasm', import.meta.url);
   if (fs.existsSync(built)) return fs.readFileSync(built);
   const page = fs.readFileSync(new URL('../docs/t1check.html', import.meta.url), 'latin1');
-  const [, packed] = page.match(/<script id="module"[^>]*>\n([A-Za-z0-9+/=]+)\n<\/script>/);
+  const [, packed] = page.match(/<script[^>]* id="module">\n([A-Za-z0-9+/=]+)\n<\/script>/);
   return zlib.gunzipSync(Buffer.from(packed, 'base64'));
 }
 
