@@ -7,12 +7,12 @@
 #   `X … (seven times) Y` means seven X and one Y. The lines with the reasons below them are those that t1check-all writes of that font.
 # - Each rule and each refusal has its text in the table of its kind, and each rule in its heading too; the texts of refusals are those of
 #   t1_refusals, in code and definition, and t1_font has those of a font's bytes. The pages of t1_pages are those of docs/RULES.md.
-# - Each rule is in all places that docs/ARCHITECTURE.md names for it; one that lacks rules is printed with their codes. A file that has all
+# - Each rule is in all places that docs/dev/ARCHITECTURE.md names for it; one that lacks rules is printed with their codes. A file that has all
 #   of them is named there. The definitions in a rule's row of docs/RULES.md are in the files that follow them, and the first of them
 #   is cited where specs/ says what breaks the rule. Above each row in specs/ is a source.
-# - Each word of the definitions that a clause of a public function cites has a row in docs/DEFINITIONS.md, or is in the last column of a
+# - Each word of the definitions that a clause of a public function cites has a row in docs/dev/DEFINITIONS.md, or is in the last column of a
 #   rule's row in docs/RULES.md, where the README's first promise rests on it: in the files that has_rows below takes. Of each other word that
-#   such a clause cites, the file that defines it is linked from docs/DEFINITIONS.md. Each word of a row is defined in the file that the row
+#   such a clause cites, the file that defines it is linked from docs/dev/DEFINITIONS.md. Each word of a row is defined in the file that the row
 #   names, and that file is linked. Left out are words of laws and types that the code declares. Public are all functions of a program, and of
 #   a library those of the modules of which it hands on more than a constant; one that isn't handed on itself may cite words of private functions.
 #   These are in specs/Private, and no definition elsewhere rests on them; there the relations of watchers and pens are in Standing, with
@@ -376,7 +376,7 @@ list_cases >"$scratch/list"
 compare_codes 'tests/program, cases of the rules and their fonts' codes <"$scratch/list"
 
 # Other files that have all rules.
-sed -n '/^## From a rule/,$p' "$top/docs/ARCHITECTURE.md" >"$scratch/passage"
+sed -n '/^## From a rule/,$p' "$top/docs/dev/ARCHITECTURE.md" >"$scratch/passage"
 (cd "$top" && find README.md bin completions crates docs man tests bench \( -name out -o -name t1check.html \) -prune -o -type f -exec grep -lw U01 {} +) >"$scratch/files"
 while IFS= read -r file; do
     codes_in "$top/$file" >"$scratch/place"
@@ -384,7 +384,7 @@ while IFS= read -r file; do
     if grep -qF -e "$file" "$scratch/passage"; then
         pass
     else
-        fail "docs/ARCHITECTURE.md: $file has all rules, and isn't among their places"
+        fail "docs/dev/ARCHITECTURE.md: $file has all rules, and isn't among their places"
     fi
 done <"$scratch/files"
 
@@ -502,22 +502,22 @@ has_rows() {
     return 1
 }
 
-# The words of the rows of docs/DEFINITIONS.md, each after its file; and these with the words in the rows of docs/RULES.md.
+# The words of the rows of docs/dev/DEFINITIONS.md, each after its file; and these with the words in the rows of docs/RULES.md.
 awk -F '|' '/^\| `/ {
     file = $(NF - 1)
     gsub(/[][ ]/, "", file)
     count = split($2, words, "`")
     for (i = 2; i < count; i += 2) print file, words[i]
-}' "$top/docs/DEFINITIONS.md" | sort -u >"$scratch/defining"
+}' "$top/docs/dev/DEFINITIONS.md" | sort -u >"$scratch/defining"
 {
     cat "$scratch/defining"
     awk '{ file = $4; if (!sub(/^crates\//, "", file)) file = "t1_rules/" file; sub(/\/specs\//, "/", file); print file, $3 }' "$scratch/definitions"
 } | sort -u >"$scratch/listed"
-# The files of specs/ that docs/DEFINITIONS.md links: those of rows as `[t1_seal/Cipher]: ../crates/t1_seal/specs/Cipher.antt`, others in line.
-sed -n 's/^\[\(t1[a-z_]*\)\/\([A-Za-z\/]*\)\]: \.\.\/crates\/\1\/specs\/\2\.antt$/\1\/\2/p' "$top/docs/DEFINITIONS.md" >"$scratch/labels"
+# The files of specs/ that docs/dev/DEFINITIONS.md links: those of rows as `[t1_seal/Cipher]: ../../crates/t1_seal/specs/Cipher.antt`, others in line.
+sed -n 's/^\[\(t1[a-z_]*\)\/\([A-Za-z\/]*\)\]: \.\.\/\.\.\/crates\/\1\/specs\/\2\.antt$/\1\/\2/p' "$top/docs/dev/DEFINITIONS.md" >"$scratch/labels"
 {
     cat "$scratch/labels"
-    grep -o '](\.\./crates/[^)]*\.antt)' "$top/docs/DEFINITIONS.md" | sed 's/^](\.\.\/crates\///; s/\/specs\//\//; s/\.antt)$//'
+    grep -o '](\.\./\.\./crates/[^)]*\.antt)' "$top/docs/dev/DEFINITIONS.md" | sed 's/^](\.\.\/\.\.\/crates\///; s/\/specs\//\//; s/\.antt)$//'
 } | grep -v '/Private/' | sort -u >"$scratch/linked"
 list_public >"$scratch/public"
 # A word of specs/Private that a public contract cites has no row, no link to its file counts, and so it is printed.
@@ -528,7 +528,7 @@ while read -r file word; do
     if grep -qxF -e "$file $word" "$scratch/listed"; then
         pass
     else
-        fail "docs/DEFINITIONS.md: no row of $file begins with $word, which a contract cites"
+        fail "docs/dev/DEFINITIONS.md: no row of $file begins with $word, which a contract cites"
     fi
 done <"$scratch/cited"
 cut -d ' ' -f 1 "$scratch/cited" | uniq >"$scratch/files"
@@ -537,7 +537,7 @@ while read -r file; do
     if grep -qxF -e "$file" "$scratch/linked"; then
         pass
     else
-        fail "docs/DEFINITIONS.md: no link leads to $file, whose words a contract cites:" \
+        fail "docs/dev/DEFINITIONS.md: no link leads to $file, whose words a contract cites:" \
             "$(sed -n "s|^$file ||p" "$scratch/cited" | tr '\n' ' ' | sed 's/ $//')"
     fi
 done <"$scratch/files"
@@ -552,11 +552,11 @@ done <"$scratch/files"
     }' {} +) | sort -u >"$scratch/defined"
 while read -r file word; do
     if ! grep -qxF -e "$file" "$scratch/labels"; then
-        fail "docs/DEFINITIONS.md: the row of $word names $file, which isn't linked"
+        fail "docs/dev/DEFINITIONS.md: the row of $word names $file, which isn't linked"
     elif grep -qxF -e "$file $word" "$scratch/defined"; then
         pass
     else
-        fail "docs/DEFINITIONS.md: nothing in $file defines $word"
+        fail "docs/dev/DEFINITIONS.md: nothing in $file defines $word"
     fi
 done <"$scratch/defining"
 
@@ -592,7 +592,7 @@ anchors() {
     sed -n 's/^##* //p' "$1" | tr 'A-Z' 'a-z' | sed 's/[^a-z0-9 _-]//g; s/ /-/g'
 }
 
-for page in "$top/README.md" "$top/CONTRIBUTING.md" "$top"/docs/*.md; do
+for page in "$top/README.md" "$top/CONTRIBUTING.md" "$top"/docs/*.md "$top"/docs/dev/*.md; do
     grep -o '](\([^)]*\))' "$page" | sed 's/^](//; s/)$//' | sort -u >"$scratch/links"
     while IFS= read -r link; do
         case $link in http*) continue ;; esac
