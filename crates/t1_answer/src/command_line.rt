@@ -23,7 +23,7 @@ A line of the report:
   NUMBER: font KEY INDEX RULE text          as in 1: font BlueValues 6 Z04 zone numbers fall
   NUMBER: glyph NAME PATH STEP RULE text    as in 2: glyph A 5>6 8 P01 drawing without a move
   NUMBER: waiver NAME RULE U01 text         as in 3: waiver A P01 U01 waiver not used
-  docs/RULES.md explains each RULE and each refusal (Enn), with an example and the cure, and waivers
+  t1explain RULE prints what a rule or a refusal (Enn) means, an example and the cure
 
 Exit status:
   0  no line of a report was written, or a trace was

@@ -23,35 +23,35 @@ pub const HELP: &str = "\
 Checks many fonts: t1check-all [OPTION...] [--] FONT|FOLDER...
 
 A folder stands for the .pfa, .pfb and .t1 files below it, in the order of their paths. Each line of a report, and each
-refusal, is written as `NAME: LINE`; what could not be checked is told on standard error. A file NAME.waivers beside a
+refusal, is written as `NAME: LINE`; what could not be checked is printed on standard error. A file NAME.waivers beside a
 font NAME has its waivers, lines as `A H02`. A FONT `-` is standard input.
 
   -q                 no summary and no progress
   --edition N        check by this edition of the rule book, 1, 2 or 3
-  --only CODES       tell these rules alone: codes or their letters, as H02,Z
-  --except CODES     tell all rules but these
-  --level LEVELS     tell rules of these levels alone: must, should or tidy, as must,should
+  --only CODES       report these rules alone: codes or their letters, as H02,Z
+  --except CODES     report all rules but these
+  --level LEVELS     report rules of these levels alone: must, should or tidy, as must,should
   --fail-on LEVELS   let lines of these levels alone make the status 1
-  --no-waivers       leave waivers aside
-  --write-waivers    write NAME.waivers, which waives each line of a glyph; lines of the font are told
+  --no-waivers       ignore waivers
+  --write-waivers    write NAME.waivers, which waives each line of a glyph; lines of the font are reported
   --force            overwrite waivers
-  --baseline FILE    tell only what goes beyond the known faults in FILE
+  --baseline FILE    report only what goes beyond the known faults in FILE
   --update-baseline  make what is found the known faults in FILE
   --files-from FILE  check what FILE names too, a line each; - is standard input
-  --exclude GLOB     leave fonts out whose names match: * and ? within a folder, ** over folders
+  --exclude GLOB     omit fonts whose names match: * and ? within a folder, ** over folders
   --shard I/N        check part I of N of the list
   --format FORM      write lines, and what was not checked, in a form for other programs: jsonl, sarif or github
   --docs URL         let a sarif document name the page of each rule, as URL#ANCHOR
   --columns N        write a line for each font and rule, cut to N columns, as on a terminal
   --colour           colour these by the levels of their rules
   --long             write each line of a report, also on a terminal
-  --reasons          tell with each line why it is there
-  --no-reasons       leave reasons out, also on a terminal, where the first one of each line is told
-  --no-settings      leave the settings file aside, .t1check.toml in the folder of the first PATH or above it
+  --reasons          write below each line why it is there
+  --no-reasons       omit reasons, also on a terminal, where the first one of each line is written
+  --no-settings      ignore the settings file, .t1check.toml in the folder of the first PATH or above it
   --help, --version
 
-Status: 0 nothing was told, 1 a line was, 2 a font was refused, 3 one was not checked or the usage is wrong; the greatest
-of these. Refusals are always told. With --fail-on a line of another level leaves the status as it is.
+Status: 0 nothing to report, 1 a fault, 2 a font refused, 3 a font not checked or a usage error; the greatest counts.
+Refusals are always reported. With --fail-on, faults of other levels leave the status as it is.
 ";
 
 /// An argument of the command line.

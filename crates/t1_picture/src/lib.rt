@@ -4,7 +4,7 @@
 //! Font Format 1.1, chapters 5, 6 and 8.
 //!
 //! [`picture`] makes it: of a whole glyph, up to a step, or of one fault alone ([`Shown`]), which may be one of the font's zones. What is
-//! drawn, and the form of the text, is said in docs/PICTURES.md.
+//! drawn, and the form of the text, is said in docs/REFERENCE.md.
 //!
 //! What is promised, for all fonts:
 //!

@@ -19,7 +19,7 @@ static BOOK: [Row; RULE_COUNT] = [
     (Rule::F05, Level::Must, "F05", "UniqueID out of range"),
     (Rule::F06, Level::Must, "F06", "UniqueIDs differ"),
     (Rule::F07, Level::Must, "F07", "password is not 5839"),
-    (Rule::F08, Level::Tidy, "F08", "MinFeature is not {16 16}"),
+    (Rule::F08, Level::Must, "F08", "MinFeature is not {16 16}"),
     (Rule::F09, Level::Must, "F09", "no .notdef"),
     (Rule::F10, Level::Must, "F10", "glyph given twice"),
     (Rule::F11, Level::Must, "F11", "Encoding of another form"),
@@ -49,7 +49,7 @@ static BOOK: [Row; RULE_COUNT] = [
         "zone too high for BlueScale",
     ),
     (Rule::Z08, Level::Must, "Z08", "not one standard width"),
-    (Rule::Z09, Level::Should, "Z09", "too many stem snaps"),
+    (Rule::Z09, Level::Must, "Z09", "too many stem snaps"),
     (Rule::Z10, Level::Should, "Z10", "stem snaps fall"),
     (
         Rule::Z11,

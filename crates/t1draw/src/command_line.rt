@@ -30,7 +30,7 @@ writes a picture in SVG. With --faulty it draws each glyph that has faults, into
 
 const AFTER_HELP: &str = "\
 In GLYPH \\xNN is a byte, by two hexadecimal digits, and \\\\ is a backslash.
-docs/PICTURES.md says what is drawn.
+man t1draw says what is drawn.
 
 Exit status:
   0  the pictures were written, with faults or none
