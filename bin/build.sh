@@ -41,7 +41,7 @@ is_proved() {
 # The checksum of what the page is made of.
 sources_sum() (
     cd "$top" || exit 1
-    find crates crates.txt web docs/RULES.md -name out -prune -o -type f -print0 | LC_ALL=C sort -z | xargs -0 sha256sum | sha256sum | cut -d ' ' -f 1
+    find crates crates.txt web docs/RULES.md docs/REFERENCE.md -name out -prune -o -type f -print0 | LC_ALL=C sort -z | xargs -0 sha256sum | sha256sum | cut -d ' ' -f 1
 )
 
 # Shows a line, on a terminal in the place of the one before.

@@ -1,9 +1,8 @@
 #!/bin/sh
-# Writes docs/RULES.md as the manual page t1check-rules(7).
+# Writes docs/RULES.md, and docs/REFERENCE.md after it, as the manual page t1check-rules(7).
 #
 # Of a table each row becomes an item: its first cell, then the others, the further ones each behind its column's heading.
-# Links become their texts. The list of contents and pictures are left out, and so are columns of definitions, for which one needs the sources at
-# hand.
+# Links become their texts. Lists of contents and pictures are omitted.
 set -u
 LC_ALL=C
 export LC_ALL
@@ -18,7 +17,7 @@ t1check\\-rules \\- rules and refusals of t1check
 .SH DESCRIPTION
 END
 # shellcheck disable=SC2016
-awk '
+{ cat "$top/docs/RULES.md" && sed -n '/^## /,$p' "$top/docs/REFERENCE.md"; } | awk '
     function replace(text, from, to,    out, at) {
         while ((at = index(text, from)) > 0) {
             out = out substr(text, 1, at - 1) to
@@ -108,7 +107,6 @@ awk '
         print ".TP"
         fill(cell[1], " \\")
         for (i = 2; i <= count; i++) {
-            if (heading[i] ~ /^\[definition\]/) continue
             if (i > 2) print ".br"
             fill((i > 2 || heading[1] == "" ? heading[i] ": " : "") cell[i])
         }
@@ -141,11 +139,12 @@ awk '
         write_line(literal(substr($0, 5)))
         next
     }
-    /^- / {
+    /^ *- / && (held == "" || kind == "item") {
         flush()
         if (!within) next
         kind = "item"
-        held = substr($0, 3)
+        held = $0
+        sub(/^ *- /, "", held)
         next
     }
     /^$/ { flush(); next }
@@ -156,7 +155,7 @@ awk '
         held = held (held == "" ? "" : " ") $0
     }
     END { flush() }
-' <"$top/docs/RULES.md" || exit 1
+' || exit 1
 cat <<'END'
 .SH SEE ALSO
 .BR t1check (1),

@@ -1,39 +1,29 @@
 #!/bin/sh
 # Compares the pages of docs/ and the README with the program. Names what differs; the last line counts both.
 #
-# - Each example below a rule's heading in docs/RULES.md, and that of several rules at once, has a case of tests/program: the rule's own for
-#   the first, and one with the same lines for another one. The example's lines are those that the case wants. Where the example is of
-#   charstrings, the tokens that are written out are those that the program traces in the case's font: `A: ..` and `Subr 5: ..`. A line
-#   `X … (seven times) Y` means seven X and one Y. The lines with the reasons below them are those that t1check-all writes of that font.
-# - Each rule and each refusal has its text in the table of its kind, and each rule in its heading too; the texts of refusals are those of
-#   t1_refusals, in code and definition, and t1_font has those of a font's bytes. The pages of t1_pages are those of docs/RULES.md.
+# - Of each example below a rule's heading in docs/RULES.md a font is made (tests/make.awk), and t1check-all reports its lines with the reasons
+#   below them; of the mended example it reports nothing.
+# - Each rule and each refusal has its text in its heading, and each rule in the table too; the texts of refusals are those of
+#   t1_refusals, in code and definition, and t1_font has those of a font's bytes. Each rule's page has its level, and the source that specs/
+#   names. The pages of t1_pages are those of docs/RULES.md.
 # - Each rule is in all places that docs/dev/ARCHITECTURE.md names for it; one that lacks rules is printed with their codes. A file that has all
-#   of them is named there. The definitions in a rule's row of docs/RULES.md are in the files that follow them, and the first of them
-#   is cited where specs/ says what breaks the rule. Above each row in specs/ is a source.
-# - Each word of the definitions that a clause of a public function cites has a row in docs/dev/DEFINITIONS.md, or is in the last column of a
-#   rule's row in docs/RULES.md, where the README's first promise rests on it: in the files that has_rows below takes. Of each other word that
-#   such a clause cites, the file that defines it is linked from docs/dev/DEFINITIONS.md. Each word of a row is defined in the file that the row
-#   names, and that file is linked. Left out are words of laws and types that the code declares. Public are all functions of a program, and of
-#   a library those of the modules of which it hands on more than a constant; one that isn't handed on itself may cite words of private functions.
-#   These are in specs/Private, and no definition elsewhere rests on them; there the relations of watchers and pens are in Standing, with
-#   nothing else.
+#   of them is named there. Above each row in specs/ is a source.
+# - tests/definitions.sh prints the words of definitions that clauses of public functions cite. Each of them is defined in the file that is printed
+#   with it, and that isn't in specs/Private. Where the README's first promise rests on it, in the files that has_rows below takes, it has a row in
+#   docs/dev/DEFINITIONS.md, or a rule's row in specs/ cites it. Each word of a row of the page is defined in the file that the row is of.
+# - No definition rests on a word of specs/Private; there the relations of watchers and pens are in Standing, with nothing else.
 # - The README's lines for an editor are lines of crates/example. web/host.mjs counts rules and refusals as they are.
 # - Each link between the pages leads to a file, and to a heading where it names one. Each file of crates/, docs/ and tests/ that a page
 #   names is there.
 #
-# Where a program can't be built, which counts as a failure, examples are compared with the cases and with the other program alone.
+# Where t1check-all can't be built, which counts as a failure, examples aren't tried.
 set -u
 LC_ALL=C
 export LC_ALL
 
 top=$(CDPATH='' cd -P -- "$(dirname "$0")/.." && pwd -P) || exit 1
-program=$top/crates/t1check/out/t1check
 cases=$top/tests/program
 rules=$top/docs/RULES.md
-
-# Rules on charstrings whose examples aren't read as such, as those of F and Z aren't: they show bytes, more tokens than are written out,
-# or a waiver.
-unread='C01 C02 C06 L01 U01'
 
 scratch=$(mktemp -d) || exit 1
 trap 'rm -rf "$scratch"' EXIT
@@ -50,161 +40,94 @@ fail() {
     printf 'failed: %s\n' "$*"
 }
 
-built=yes
-"$top/bin/t1check" --build || {
-    built=''
-    fail 'bin/t1check --build'
-}
 many_built=yes
 "$top/bin/t1check-all" --build || {
     many_built=''
     fail 'bin/t1check-all --build'
 }
 
-# The examples below the rules' headings, a line each: the rule's code, the example's number, then the line; `Several` is the code of the
-# example of several rules. A line that goes on in the next one is joined, and repetitions are written out. A reason, which has the same
-# indentation, is a line of its own with three blanks: it comes after a line of the report.
-list_examples() {
-    awk '
-        function spread(text,    at, end, count, group, out) {
-            while ((at = index(text, " … (")) > 0) {
-                end = index(text, " times)")
-                count = substr(text, at + length(" … ("), end - at - length(" … ("))
-                count = count == "six" ? 6 : count == "seven" ? 7 : 0
-                group = substr(text, 1, at - 1)
-                out = ""
-                while (count-- > 0) out = out " " group
-                text = substr(out, 2) substr(text, end + length(" times)"))
-            }
-            return text
-        }
-        function flush() {
-            if (held != "") print code, block, held
-            held = ""
-        }
-        /^##/ {
-            flush()
-            code = $1 == "###" && ($2 ~ /^[A-Z]+[0-9]+$/ || $2 == "Several") && $2 !~ /^E[0-9]/ ? $2 : ""
-            block = 0
-            within = 0
-            next
-        }
-        code == "" { next }
-        /^       / && held ~ /^[0-9]+: / {
-            flush()
-            held = substr($0, 5)
-            next
-        }
-        /^       / && within { held = held " " spread(substr($0, 8)); next }
-        /^    / {
-            flush()
-            if (!within) block++
-            within = 1
-            held = spread(substr($0, 5))
-            next
-        }
-        { flush(); within = 0 }
-        END { flush() }
-    ' "$rules"
+# The examples below the rules' headings, a file of $scratch/examples each: CODE.1 and so on, and CODE.mended, which is below the word `Mended:`.
+# `Several` is the code of the example of several rules. A report's lines and reasons come last.
+mkdir "$scratch/examples"
+awk -v folder="$scratch/examples/" '
+    /^##/ {
+        code = $1 == "###" && ($2 ~ /^[A-Z]+[0-9]+$/ || $2 == "Several") && $2 !~ /^E[0-9]/ ? $2 : ""
+        count = is_within = is_mended = 0
+        next
+    }
+    code == "" { next }
+    /^    / {
+        if (!is_within) file = folder code "." (is_mended ? "mended" : ++count)
+        is_within = 1
+        print substr($0, 5) >file
+        next
+    }
+    { is_within = 0 }
+    NF { is_mended = /^Mended:$/ }
+' "$rules"
+
+# Makes the font of an example and its waivers, as $scratch/run/font.pfb: what is changed in a sound font is in the file that $2 names. An
+# example of a whole file, or of waivers, has those of its rule's case.
+make_font() {
+    rm -rf "$scratch/run"
+    mkdir "$scratch/run" || exit 1
+    case $1 in
+        F01 | F02 | U01)
+            cp "$cases/fonts/$1.pfb" "$scratch/run/font.pfb"
+            sed -n 's/^waivers: //p' "$cases/$1.case" >"$scratch/waivers"
+            [ ! -s "$scratch/waivers" ] || printf '%b' "$(cat "$scratch/waivers")" >"$scratch/run/font.pfb.waivers"
+            return
+            ;;
+        K*) echo 'B: 7 500 hsbw endchar' ;;
+    esac | cat - "$2" | awk -f "$top/tests/make.awk" >"$scratch/run/font.pfb"
 }
 
-# The tokens of a charstring in a trace: of the glyph itself where no Subr is named, else those of its first call.
-traced() {
-    "$program" --trace "$1" "$cases/fonts/$2" | awk -v subr="$3" '
-        { path = $2; $1 = ""; $2 = ""; sub(/^ +/, "") }
-        path == (subr == "" ? "-" : subr) { printf "%s ", $0 }
-    ' | sed 's/ end $/ /'
-}
-
-# Whether the tokens that are written are those of the trace, which ends at the token that finishes the glyph.
-agree() {
-    case "$1 " in
-        "$2") return 0 ;;
-        "$2"*) case $2 in *' endchar ' | *' seac ') return 0 ;; esac ;;
-    esac
-    return 1
-}
-
-# Whether a case is of a font alone, or of one by an edition: other words make another report, or none.
-is_plain() {
-    sed -n 's/^word: //p' "$1" | tr '\n' ' ' | grep -qx '\(--edition [123] \)\{0,1\}[^ -][^ ]* \(--edition [123] \)\{0,1\}'
-}
-
-# The font of such a case.
-font_of() {
-    sed -n 's/^word: //p' "$1" | grep -vx -e --edition -e '[123]'
-}
-
-# The case of an example: the rule's own for the first, else the first plain one that wants the same lines and has the same reasons.
-case_of() {
-    if [ "$2" -eq 1 ] && [ "$1" != Several ]; then
-        printf '%s\n' "$cases/$1.case"
-        return
-    fi
-    for candidate in "$cases"/*.case; do
-        is_plain "$candidate" && sed -n 's/^out: //p' "$candidate" | cmp -s - "$scratch/lines" &&
-            report_with_reasons "$candidate" | cmp -s - "$scratch/reasons" && printf '%s\n' "$candidate" && return
-    done
-}
-
-# The lines of the report on a case's font with their reasons, by the case's edition and with its waivers.
+# The lines of the report on that font with their reasons, by the edition that first has the rule.
 report_with_reasons() {
-    font=$(font_of "$1")
-    edition=$(sed -n 's/^word: //p' "$1" | grep -x '[123]')
-    waivers=$(sed -n 's/^waivers: //p' "$1")
-    rm -rf "$scratch/fonts"
-    mkdir "$scratch/fonts" && cp "$cases/fonts/$font" "$scratch/fonts/$font" || exit 1
-    [ -z "$waivers" ] || printf '%b' "$waivers" >"$scratch/fonts/$font.waivers"
-    # A line begins with the font's name and a colon, a reason with blanks.
-    (cd "$scratch/fonts" && exec "$top/bin/t1check-all" -q --long --no-settings --reasons --edition "${edition:-1}" "$font" </dev/null) |
-        sed 's/^[^ :]*: //'
+    edition=1
+    ! sed '1,/^U01$/d' "$scratch/codes" | grep -qx -e "$1" || edition=3
+    (cd "$scratch/run" && exec "$top/bin/t1check-all" -q --long --no-settings --reasons --edition "$edition" font.pfb </dev/null) |
+        sed 's/^font\.pfb: //'
 }
 
-# Compares an example's lines and reasons, which are in $scratch/reasons, with those of its case's font.
-try_reasons() {
-    report_with_reasons "$3" >"$scratch/reported"
-    if cmp -s "$scratch/reported" "$scratch/reasons"; then
+# What is changed in the mended font: a line of the mended example takes the place of those that begin as it does.
+merge() {
+    awk '
+        function label() {
+            return $1 ($1 == "Subr" || $1 == "dup" && !/put$/ ? " " $2 : "") (/% in Private$/ ? " of Private" : "")
+        }
+        !/^   / { at = label() }
+        FILENAME == ARGV[1] { is_mended[at] = 1 }
+        FILENAME == ARGV[2] && !(at in is_mended)
+        FILENAME == ARGV[1] { mended = mended $0 "\n" }
+        END { printf "%s", mended }
+    ' "$1" "$2"
+}
+
+# Tries an example: t1check-all reports its lines of the faulty font, and nothing of the mended one.
+try_example() {
+    sed '/^[0-9][0-9]*: [fgw]/,$d' "$1" >"$scratch/changes"
+    sed -n '/^[0-9][0-9]*: [fgw]/,$p' "$1" >"$scratch/lines"
+    make_font "$2" "$scratch/changes"
+    report_with_reasons "$2" >"$scratch/reported"
+    if cmp -s "$scratch/lines" "$scratch/reported"; then
         pass
     else
-        fail "docs/RULES.md: example $2 of $1 has other lines with reasons than t1check-all writes of the font of ${3##*/}:" \
-            "$(diff "$scratch/reported" "$scratch/reasons" | sed -n "s/^< /without '/p; s/^> /with '/p" | sed "s/\$/'/" | tr '\n' ' ')"
+        fail "docs/RULES.md: example ${1##*.} of $2 has other lines than t1check-all reports:" \
+            "$(diff "$scratch/reported" "$scratch/lines" | sed -n "s/^< /without '/p; s/^> /with '/p" | sed "s/\$/'/" | tr '\n' ' ')"
+    fi
+    mended=$scratch/examples/$2.mended
+    [ "${1##*.}" = 1 ] && [ "$2" != Several ] || return
+    case $2 in
+        F01 | F02 | U01) (cd "$scratch/run" && sh "$mended") ;;
+        *) merge "$mended" "$scratch/changes" >"$scratch/merged" && make_font "$2" "$scratch/merged" ;;
+    esac
+    if [ -s "$mended" ] && [ -z "$(report_with_reasons "$2")" ]; then
+        pass
+    else
+        fail "docs/RULES.md: the mended example of $2 isn't there, or isn't clean: $(report_with_reasons "$2" | sed -n 1p)"
     fi
 }
-
-# Compares an example, whose lines are in $scratch/example.
-try_example() {
-    sed -n '/^[0-9][0-9]*: /p' "$scratch/example" >"$scratch/lines"
-    grep '^[0-9][0-9]*: \|^   ' "$scratch/example" >"$scratch/reasons"
-    grep -v '^[0-9][0-9]*: \|^   ' "$scratch/example" >"$scratch/charstrings"
-    case=$(case_of "$1" "$2")
-    [ -f "$case" ] || { fail "docs/RULES.md: no case has the lines of example $2 of $1"; return; }
-    sed -n 's/^out: //p' "$case" | cmp -s - "$scratch/lines" ||
-        { fail "docs/RULES.md: example $2 of $1 has other lines than ${case##*/}"; return; }
-    is_plain "$case" || { fail "docs/RULES.md: example $2 of $1: ${case##*/} has words beside a font and an edition"; return; }
-    [ -z "$many_built" ] || [ ! -s "$scratch/lines" ] || try_reasons "$1" "$2" "$case"
-    case $1 in F* | Z* | Several) pass; return ;; esac
-    case " $unread " in *" $1 "*) pass; return ;; esac
-    [ -n "$built" ] || return
-    font=$(font_of "$case")
-    glyph=A
-    while IFS= read -r line; do
-        case $line in
-            Subr\ *) subr=${line#Subr } subr=${subr%%:*} ;;
-            *) subr='' glyph=${line%%:*} ;;
-        esac
-        [ -z "$subr" ] || glyph=A
-        agree "${line#*: }" "$(traced "$glyph" "$font" "$subr")" ||
-            { fail "docs/RULES.md: example $2 of $1: $font has other tokens than '$line'"; return; }
-    done <"$scratch/charstrings"
-    pass
-}
-
-list_examples >"$scratch/all"
-cut -d ' ' -f 1,2 "$scratch/all" | uniq >"$scratch/examples"
-while read -r code number; do
-    sed -n "s/^$code $number //p" "$scratch/all" >"$scratch/example"
-    try_example "$code" "$number"
-done <"$scratch/examples"
 
 # The rules' codes, levels and texts, as the code has them.
 sed -n '/^static BOOK/,/^];$/p' "$top/crates/t1_rules/src/book.rt" | tr '\n' ' ' | sed 's/,* *),/\n/g' |
@@ -214,12 +137,8 @@ while read -r code text; do
     level=$(sed -n "s/^$code \\([A-Z][a-z]*\\) .*/\\1/p" "$scratch/levels" | tr '[:upper:]' '[:lower:]')
     if ! grep -qF "| $code | $text | $level |" "$rules"; then
         fail "docs/RULES.md: no row of the table says $code $text, $level"
-    elif ! sed -n "/^### $code /,/^Level/p" "$rules" | grep -q "^Level \*$level\*: "; then
-        fail "docs/RULES.md: the page of $code doesn't say that its level is $level"
     elif ! grep -qxF "### $code $text" "$rules"; then
         fail "docs/RULES.md: no heading says $code $text"
-    elif ! grep -qx "$code 1 .*" "$scratch/all"; then
-        fail "docs/RULES.md: $code has no example"
     else
         pass
     fi
@@ -228,8 +147,8 @@ sed -n 's/^.*=> "\(E[0-9]*\) \(.*\)",$/\1 \2/p' "$top/crates/t1_refusals/src/ref
 while read -r code text; do
     # A file's size and the waivers aren't t1_font's.
     case $code in E05 | E14 | E15) of_font='' ;; *) of_font=yes ;; esac
-    if ! grep -qF "| $code | $text |" "$rules"; then
-        fail "docs/RULES.md: no row of the table says $code $text"
+    if ! grep -qxF "### $code $text" "$rules"; then
+        fail "docs/RULES.md: no heading says $code $text"
     elif ! grep -qF "codes \"$code $text\"" "$top/crates/t1_refusals/specs/RefusalTexts.antt"; then
         fail "crates/t1_refusals/specs/RefusalTexts.antt: no refusal has the text $code $text"
     elif [ -n "$of_font" ] && ! grep -qF "\"$code $text\"" "$top/crates/t1_font/src/unread.rt"; then
@@ -304,21 +223,34 @@ list_breaches() {
         match($0, /number_of [A-Z]+[0-9]+ == n/) { print substr($0, RSTART + 10, RLENGTH - 15), name }' "$told"
 }
 
-# The definitions in the rows of docs/RULES.md: code, number, word and file.
-list_definitions() {
-    sed -n 's/^| \([A-Z]*[0-9][0-9]\) | .* | .* | .* | .* | \([^|]*\) |$/\1 \2/p' "$rules" | awk '{
-        number = held = 0
-        count = split($0, parts, "`")
-        for (i = 2; i < count; i += 2) {
-            split(parts[i], name, " ")
-            words[held++] = name[1]
-            file = parts[i + 1]
-            if (!sub(/^ in /, "", file)) continue
-            sub(/,.*/, "", file)
-            for (j = 0; j < held; j++) print $1, ++number, words[j], file
-            held = 0
+# The words of definitions that the rules' rows cite, each after its file, as `t1_rules/StepRules/Stems overlap_by`.
+list_row_words() {
+    awk -v breaches="$scratch/breaches" '
+        BEGIN {
+            while ((getline line <breaches) > 0) {
+                count = split(line, parts, /[^A-Za-z0-9_]+/)
+                for (i = 2; i <= count; i++) cited[parts[i]] = 1
+            }
         }
-    }'
+        FNR == 1 {
+            own = FILENAME
+            sub(/^.*\/crates\//, "", own)
+            sub(/\/specs\//, "/", own)
+            sub(/\.antt$/, "", own)
+        }
+        /^use Rattle\.t1[a-z_]*\.specs\./ && !/specs\.declared\./ {
+            file = $2
+            sub(/^Rattle\./, "", file)
+            sub(/\.[{].*$/, "", file)
+            sub(/\.specs\./, "/", file)
+            gsub(/\./, "/", file)
+            sub(/^.*[{]/, "")
+            sub(/[}].*$/, "")
+            count = split($0, parts, /, */)
+            for (i = 1; i <= count; i++) if (parts[i] in cited) print file, parts[i]
+        }
+        /^[a-z]+ pub [a-z_]+ :/ && $3 in cited { print own, $3 }
+    ' "$specs/FontRules.antt" "$specs/StepRules.antt" "$told"
 }
 
 # The rules of the contents of docs/RULES.md, with those between `C01 to C09`.
@@ -352,19 +284,41 @@ compare_codes 'crates/t1_rules/specs/Book.antt, rules' codes <"$scratch/list"
 list_breaches >"$scratch/breaches"
 cut -d ' ' -f 1 "$scratch/breaches" | sort >"$scratch/list"
 compare_codes 'crates/t1_rules/specs: FontRules.antt, StepRules.antt; crates/t1_report/specs/Reports.antt' sorted <"$scratch/list"
+# Each rule's page has its level and the source that is above its row, and its examples are as they say.
 {
-    list_rows | sed -n '/^ *-- .*\(Type 1 Font Format, chapter [0-9]*\|Technical Note [0-9]*\(, section [0-9.]*\)\{0,1\}\|Own\)\.$/{ n; p; }' |
-        sed 's/^[a-z_]* \([A-Z]*[0-9][0-9]\) .*/\1/'
-    printf 'L01\nU01\n'
-} | sort >"$scratch/list"
-compare_codes 'crates/t1_rules/specs: FontRules.antt, StepRules.antt, the sources' sorted <"$scratch/list"
+    list_rows | sed -n '/^ *-- /{
+        s/^.*\(Type 1 Font Format, chapter [0-9]*\|Technical Note [0-9]*\|Technical Note [0-9]*, section [0-9.]*[0-9]\|Own\)\.$/\1/
+        s/Font Format/Format/
+        s/^Own$/our own rule/
+        h
+        n
+        s/^[a-z_]* \([A-Z]*[0-9][0-9]\) .*/\1/
+        G
+        s/\n/ /p
+    }'
+    printf '%s our own rule\n' L01 U01
+} >"$scratch/sources"
+while read -r code level text; do
+    level=$(printf '%s' "$level" | tr '[:upper:]' '[:lower:]')
+    source=$(sed -n "s/^$code //p" "$scratch/sources")
+    if sed -n "/^### $code /,/^Level/p" "$rules" | grep -q "^Level \*$level\* ($source): "; then
+        pass
+    else
+        fail "docs/RULES.md: the page of $code doesn't begin with its level and its source, $level ($source)"
+    fi
+    [ -s "$scratch/examples/$code.1" ] || fail "docs/RULES.md: $code has no example"
+done <"$scratch/levels"
+[ -z "$many_built" ] || for example in "$scratch"/examples/*.[1-9]; do
+    code=${example##*/}
+    try_example "$example" "${code%.*}"
+done
 grep -oh 'Rule::[A-Z]*[0-9][0-9]' "$top"/crates/t1_rules/src/font_rules/*.rt "$top"/crates/t1_rules/src/step_rules/*.rt \
     "$top/crates/t1_rules/src/sidebearings.rt" "$top/crates/t1_report/src/violations.rt" "$top/crates/t1_report/src/usage.rt" |
     sed 's/^Rule:://' | sort -u >"$scratch/list"
 compare_codes 'the code in crates/t1_rules/src and crates/t1_report/src' sorted <"$scratch/list"
 find "$tests" -name '*.rt' ! -name book.rt ! -name mask.rt ! -name faults.rt -exec cat {} + | codes_in >"$scratch/list"
 compare_codes 'the tests in crates/t1_report_tests/src' sorted <"$scratch/list"
-sed -n 's/^| \([A-Z]*[0-9][0-9]\) | .* | .* | .* | .* | .* |$/\1/p' "$rules" >"$scratch/list"
+sed -n 's/^| \([A-Z]*[0-9][0-9]\) | .* | .* | .* | .* |$/\1/p' "$rules" >"$scratch/list"
 compare_codes 'docs/RULES.md, the table' codes <"$scratch/list"
 sed -n 's/^### \([A-Z]*[0-9][0-9]\) .*/\1/p' "$rules" | grep -v '^E[0-9]' >"$scratch/list"
 compare_codes 'docs/RULES.md, the headings' codes <"$scratch/list"
@@ -388,110 +342,6 @@ while IFS= read -r file; do
     fi
 done <"$scratch/files"
 
-# Whether the words of a row are defined where it says, and the first is that of what breaks the rule.
-try_definitions() {
-    sed -n "s/^$1 //p" "$scratch/definitions" >"$scratch/words"
-    breach=$(sed -n "s/^$1 //p" "$scratch/breaches")
-    while read -r number word file; do
-        case $file in
-            crates/*) path=$top/$file.antt ;;
-            *) path=$specs/$file.antt ;;
-        esac
-        case $breach in
-            *font.$word*) ;;
-            *) grep -q "^[a-z]* *pub $word :" "$path" || { fail "docs/RULES.md: $1: $file doesn't define $word"; return; } ;;
-        esac
-        [ "$number" -ne 1 ] || printf '%s\n' "$breach" | grep -qw -e "$word" ||
-            { fail "docs/RULES.md: $1: what breaks it isn't said by $word"; return; }
-    done <"$scratch/words"
-    if [ -s "$scratch/words" ]; then pass; else fail "docs/RULES.md: $1 has no definition"; fi
-}
-
-list_definitions >"$scratch/definitions"
-while read -r code; do
-    try_definitions "$code"
-done <"$scratch/codes"
-
-# The files whose public functions others call.
-list_public() {
-    for crate in "$top"/crates/*; do
-        if [ -f "$crate/src/main.rt" ]; then
-            ls "$crate"/src/*.rt | grep -v '/laws.rt$\|/tests.rt$'
-            continue
-        fi
-        sed -n '/::[A-Z_]*;$/d; s/^pub use \([a-z_0-9:]*\)::.*/\1/p' "$crate/src/lib.rt" | sed 's/::/\//g' | grep -v laws | sort -u | while read -r module; do
-            [ -f "$crate/src/$module.rt" ] && printf '%s\n' "$crate/src/$module.rt"
-        done
-    done
-}
-
-# The words that clauses of public functions cite, each after the file that defines it, as `t1_seal/Cipher state_after`: those that a file of
-# code brings in from definitions, but for a function's own parameters and for fields. A function that its library doesn't hand on may cite
-# words of private functions.
-list_cited() {
-    awk '
-        # What the library of a file hands on; nothing of a program.
-        function handed_on(file,    line, using, all) {
-            sub(/\/src\/.*/, "/src/lib.rt", file)
-            while ((getline line <file) > 0) {
-                if (line ~ /^pub use /) using = 1
-                if (using) all = all " " line
-                if (line ~ /;$/) using = 0
-            }
-            close(file)
-            return all
-        }
-        FNR == 1 { delete words; within = 0; handed = handed_on(FILENAME) }
-        /^ghost use / { using = ""; bringing = 1 }
-        bringing {
-            using = using " " $0
-            if ($0 !~ /;$/) next
-            bringing = 0
-            if (using !~ /use Rattle\.t1[a-z_]*\.specs\./ ||
-                using ~ /specs\.(declared|Laws|Private\.Standing)\./) next
-            file = using
-            sub(/^.*use Rattle\./, "", file)
-            sub(/\.[{].*$/, "", file)
-            sub(/\.specs\./, "/", file)
-            gsub(/\./, "/", file)
-            sub(/^.*specs\.[A-Za-z.]*[{]?/, "", using)
-            sub(/[}]?;$/, "", using)
-            count = split(using, names, /, */)
-            for (i = 1; i <= count; i++) {
-                word = names[i]
-                sub(/ as .*/, "", word)
-                sub(/^.* as /, "", names[i])
-                words[names[i]] = file " " word
-            }
-            next
-        }
-        /^pub trait / { trait = 1 }
-        /^}/ { trait = 0 }
-        /^ *pub fn / || trait && /^ *fn / {
-            within = 1
-            clause = 0
-            delete own
-            word = $3
-            sub(/[^a-z0-9_].*/, "", word)
-            inner = /^pub fn / && handed != "" && handed !~ ("[^a-z0-9_]" word "[,;} ]")
-        }
-        within && /^ *(requires|ensures)/ { clause = 1 }
-        within && (/^ *[{]$/ || !clause && /[{]$/ || /^$/) { within = 0 }
-        !within { next }
-        !clause {
-            count = split($0, names, /[^a-z0-9_:]+/)
-            for (i = 1; i <= count; i++) if (sub(/:$/, "", names[i])) own[names[i]] = 1
-            next
-        }
-        {
-            gsub(/[.][A-Za-z_]+/, "")
-            count = split($0, names, /[^A-Za-z0-9_]+/)
-            for (i = 1; i <= count; i++)
-                if (names[i] in words && !(names[i] in own) && !(inner && words[names[i]] ~ /\/Private\//)) print words[names[i]]
-        }
-    ' "$@" | sort -u
-}
-
 # Whether each definition of a file has a row of its own: those that the README's first promise rests on, but for views, which say what a
 # value of Rust holds.
 has_rows() {
@@ -502,45 +352,32 @@ has_rows() {
     return 1
 }
 
-# The words of the rows of docs/dev/DEFINITIONS.md, each after its file; and these with the words in the rows of docs/RULES.md.
-awk -F '|' '/^\| `/ {
-    file = $(NF - 1)
-    gsub(/[][ ]/, "", file)
-    count = split($2, words, "`")
-    for (i = 2; i < count; i += 2) print file, words[i]
-}' "$top/docs/dev/DEFINITIONS.md" | sort -u >"$scratch/defining"
-{
-    cat "$scratch/defining"
-    awk '{ file = $4; if (!sub(/^crates\//, "", file)) file = "t1_rules/" file; sub(/\/specs\//, "/", file); print file, $3 }' "$scratch/definitions"
-} | sort -u >"$scratch/listed"
-# The files of specs/ that docs/dev/DEFINITIONS.md links: those of rows as `[t1_seal/Cipher]: ../../crates/t1_seal/specs/Cipher.antt`, others in line.
-sed -n 's/^\[\(t1[a-z_]*\)\/\([A-Za-z\/]*\)\]: \.\.\/\.\.\/crates\/\1\/specs\/\2\.antt$/\1\/\2/p' "$top/docs/dev/DEFINITIONS.md" >"$scratch/labels"
-{
-    cat "$scratch/labels"
-    grep -o '](\.\./\.\./crates/[^)]*\.antt)' "$top/docs/dev/DEFINITIONS.md" | sed 's/^](\.\.\/\.\.\/crates\///; s/\/specs\//\//; s/\.antt)$//'
-} | grep -v '/Private/' | sort -u >"$scratch/linked"
-list_public >"$scratch/public"
-# A word of specs/Private that a public contract cites has no row, no link to its file counts, and so it is printed.
-# shellcheck disable=SC2046
-list_cited $(cat "$scratch/public") >"$scratch/cited"
-while read -r file word; do
-    has_rows "$file" || continue
-    if grep -qxF -e "$file $word" "$scratch/listed"; then
-        pass
-    else
-        fail "docs/dev/DEFINITIONS.md: no row of $file begins with $word, which a contract cites"
-    fi
-done <"$scratch/cited"
-cut -d ' ' -f 1 "$scratch/cited" | uniq >"$scratch/files"
-while read -r file; do
-    has_rows "$file" && continue
-    if grep -qxF -e "$file" "$scratch/linked"; then
-        pass
-    else
-        fail "docs/dev/DEFINITIONS.md: no link leads to $file, whose words a contract cites:" \
-            "$(sed -n "s|^$file ||p" "$scratch/cited" | tr '\n' ' ' | sed 's/ $//')"
-    fi
-done <"$scratch/files"
+# The words of the rows of docs/dev/DEFINITIONS.md, each after its file: `- [t1_seal/Cipher](..) (7)` begins a file, and `  - ` a row of it, unless
+# its only row is in the same line. A row's words are before a colon.
+awk '
+    function take_row(    end, count, words, i) {
+        end = index(row, "`: ")
+        count = split(substr(row, 1, end), words, "`")
+        for (i = 2; i <= count; i += 2) print file, words[i]
+        row = ""
+    }
+    /^- \[t1_[A-Za-z0-9_\/]*\]\(/ {
+        take_row()
+        file = path = substr($0, 4, index($0, "]") - 4)
+        sub(/\//, "/specs/", path)
+        if (index($0, "(../../crates/" path ".antt)") == 0) file = file "-linked-elsewhere"
+        sub(/^[^(]*[(][^)]*[)]/, "")
+        sub(/^ [(][^)]*[)]/, "")
+        row = $0
+        next
+    }
+    /^  - `/ { take_row(); row = $0; next }
+    /^ / { row = row $0; next }
+    { take_row(); file = "" }
+    END { take_row() }
+' "$top/docs/dev/DEFINITIONS.md" | sort -u >"$scratch/defining"
+list_row_words | cat - "$scratch/defining" | sort -u >"$scratch/listed"
+sh "$top/tests/definitions.sh" | sed 's|^[^ ]* crates/\([^/]*\)/specs/\(.*\)\.antt |\1/\2 |' | sort -u >"$scratch/cited"
 [ "$(wc -l <"$scratch/cited")" -gt 100 ] || fail "the words of contracts aren't read: $(wc -l <"$scratch/cited")"
 # Definitions, their fields and cases, each after its file.
 (cd "$top/crates" && find ./*/specs -name '*.antt' -exec awk '
@@ -551,14 +388,33 @@ done <"$scratch/files"
         print file, $0
     }' {} +) | sort -u >"$scratch/defined"
 while read -r file word; do
-    if ! grep -qxF -e "$file" "$scratch/labels"; then
-        fail "docs/dev/DEFINITIONS.md: the row of $word names $file, which isn't linked"
-    elif grep -qxF -e "$file $word" "$scratch/defined"; then
+    case $file in
+        */Private/*)
+            fail "a contract of a public function cites $word of $file"
+            continue
+            ;;
+    esac
+    if ! grep -qxF -e "$file $word" "$scratch/defined"; then
+        fail "tests/definitions.sh: nothing in $file defines $word, which a contract cites"
+    elif has_rows "$file" && ! grep -qxF -e "$file $word" "$scratch/listed"; then
+        fail "docs/dev/DEFINITIONS.md: no row of $file begins with $word, which a contract cites, nor does a rule's row cite it"
+    else
+        pass
+    fi
+done <"$scratch/cited"
+while read -r file word; do
+    if grep -qxF -e "$file $word" "$scratch/defined"; then
         pass
     else
         fail "docs/dev/DEFINITIONS.md: nothing in $file defines $word"
     fi
 done <"$scratch/defining"
+# Of rules without a row, which are L01 and U01, the page names the definition.
+sed -n 's/^\(L01\|U01\) \([a-z_]*\)$/t1_report\/Reports \2/p' "$scratch/breaches" >"$scratch/named"
+while IFS= read -r line; do
+    if grep -qxF -e "$line" "$scratch/defining"; then pass; else fail "docs/dev/DEFINITIONS.md: no row has what breaks a rule, $line"; fi
+done <"$scratch/named"
+[ "$(wc -l <"$scratch/named")" -eq 2 ] || fail "what breaks L01 and U01 isn't read"
 
 # No definition outside specs/Private rests on a word of it, and so no clause of a public function does by another word; but for the
 # relations of watchers and pens, which are in Standing, by their names and alone.

@@ -192,7 +192,8 @@ make_page() {
     mkdir -p "$scratch/parts"
     gzip -9 -n -c "$out/$crate.wasm" | base64 -w 0 >"$scratch/parts/$crate"
     { sed 's/^export //' "$here/host.mjs" && cat "$here/worker.js"; } >"$scratch/parts/worker"
-    cp "$top/docs/RULES.md" "$scratch/parts/rules"
+    { cat "$top/docs/RULES.md" && sed -n '/^## /,$p' "$top/docs/REFERENCE.md"; } |
+        sed 's/](RULES\.md#/](#/g; s/](REFERENCE\.md#/](#/g' >"$scratch/parts/rules"
     base64 -w 0 "$top/tests/draw/fonts/letter.pfb" >"$scratch/parts/example"
     version=$(sed -n 's/^pub const VERSION: &str = "\(.*\)";$/\1/p' "$top/crates/t1_forms/src/version.rt")
     printf '<meta name="generator" content="t1check %s, of sources with the checksum %s">\n' "$version" "$(sources_sum)" >"$scratch/parts/made"

@@ -60,7 +60,7 @@ function cause(where, text,    w) {
         if (text ~ /^BlueValues not defined/ && late) return "BlueValues where t1lint loses its place"
     } else if (where ~ /^subr /) {
         number = substr(where, 6)
-        if (text ~ /commands past end|does not return/ && number in ghost) return "a glyph behind a blank, taken for a Subr"
+        if (text ~ /commands past end|does not return/ && number in ghost) return "a glyph after a blank, taken for a Subr"
         if (number in called) return ""
         read_tokens(subr[number])
         if (text ~ /commands past end|does not return/ && has_28) return "byte 28 in a Subr that no glyph calls"

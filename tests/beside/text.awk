@@ -3,7 +3,7 @@
 #     late             no line begins with a whole /BlueValues, or with `currentfile eexec`
 #     glyph NAME
 #     subr N BYTES
-#     ghost N          the entry of a glyph behind a blank, which t1lint takes for Subr N
+#     ghost N          the entry of a glyph after a blank, which t1lint takes for Subr N
 
 function decrypt(byte,    high, plain) {
     high = int(state / 256)

@@ -12,6 +12,7 @@ mkdir -p "$build/crates/t1check/src" "$build/crates/t1check_all/src" "$build/cra
 mkdir -p "$build/crates/t1_x/specs/deep" "$build/crates/t1_x/proofs" "$build/docs"
 cp -R "$top/bin" "$build/"
 : >"$build/docs/RULES.md"
+: >"$build/docs/REFERENCE.md"
 : >"$build/crates.txt"
 cat >"$scratch/kit/rt" <<'END'
 #!/bin/sh
@@ -195,7 +196,7 @@ try 'a build alone' 0 env PATH="$scratch/kit:$PATH" "$build/bin/t1draw" --build
 mkdir -p "$scratch/fresh/crates/t1_forms/src" "$scratch/fresh/docs" "$scratch/fresh/web" "$scratch/no tools" "$scratch/nodes"
 cp -R "$top/bin" "$scratch/fresh/"
 cp "$top/crates/t1_forms/src/version.rt" "$scratch/fresh/crates/t1_forms/src/"
-cp "$top/docs/RULES.md" "$scratch/fresh/docs/"
+cp "$top/docs/RULES.md" "$top/docs/REFERENCE.md" "$scratch/fresh/docs/"
 : >"$scratch/fresh/crates.txt"
 for tool in sh dirname sed cat find head git grep; do
     ln -s "$(command -v "$tool")" "$scratch/no tools/"

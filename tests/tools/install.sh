@@ -18,7 +18,7 @@ for tool in t1check t1check_all t1draw; do
     cp "$top/crates/$tool/out/$tool" "$copy/crates/$tool/out/"
     : >"$copy/crates/$tool/out/built"
 done
-cp "$top/docs/RULES.md" "$copy/docs/"
+cp "$top/docs/RULES.md" "$top/docs/REFERENCE.md" "$copy/docs/"
 cat >"$scratch/shells/man" <<'END'
 #!/bin/sh
 echo "/usr/share/man:${LOOKS-}/man"

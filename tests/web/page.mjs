@@ -254,7 +254,7 @@ const tests = {
     const all = await page.js(links);
     const anchors = new Set(await page.js('[...pages.keys()]'));
     same('no link leads nowhere', all.filter(own).filter((it) => !anchors.has(it.slice(1))), []);
-    const files = all.filter(others).map((it) => path.resolve(path.dirname(file), it.split('#')[0]));
+    const files = all.filter(others).filter((it) => !it.startsWith('https:')).map((it) => path.resolve(path.dirname(file), it.split('#')[0]));
     same('beside the repository, links lead to its documents', [files.length > 0, files.filter((it) => !fs.existsSync(it))], [true, []]);
     same('no word of Markdown is left', await page.js("[...pages.keys()].filter((key) => (showPage(key), document.querySelector('#page').innerText.includes('](')))"), []);
   },

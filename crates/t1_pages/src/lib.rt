@@ -7,7 +7,7 @@ static F01: Page = Page {
     code: "F01",
     anchor: "f01-no-end-segment",
     title: "no end segment",
-    text: "Level *should*: outlines are read, but a downloader may wait, and the file may have been cut.\n\nThe file was cut, or written by a tool that leaves the mark out. Printers' downloaders wait for it.\nExample: a PFB file without its last two bytes, `80 03`.\n\n    1: font file 0 F01 no end segment\n\nCure: write the two bytes `80 03` at the end; if other bytes are missing as well, take the font from its source again.",
+    text: "Level *should* (Technical Note 5040, section 3.3): outlines are read, but a downloader may wait, and the file may have been cut.\n\nThe file was cut, or a tool omits the mark. Example: a PFB file without its last two bytes, `80 03`.\n\n    1: font file 0 F01 no end segment\n\nMended:\n\n    printf '\\200\\003' >>font.pfb\n\nCure: write the two bytes `80 03` at the end; if other bytes are missing as well, take the font from its source again.",
 };
 
 fn f01() -> &'static Page {
@@ -18,7 +18,7 @@ static F02: Page = Page {
     code: "F02",
     anchor: "f02-bytes-after-the-end-segment",
     title: "bytes after the end segment",
-    text: "Level *tidy*: nothing reads these bytes.\n\nNothing reads these bytes: two files were put together, or a transfer filled the file up. Example: one more byte `0A` after `80 03`.\n\n    1: font file 0 F02 bytes after the end segment\n\nCure: look at what is after `80 03`, then cut the file after these two bytes.",
+    text: "Level *tidy* (Technical Note 5040, section 3.3): nothing reads these bytes.\n\nTwo files were put together, or a transfer filled the file up. Example: one more byte `0A` after `80 03`.\n\n    1: font file 0 F02 bytes after the end segment\n\nMended:\n\n    truncate -s -1 font.pfb\n\nCure: look at what is after `80 03`, then cut the file after these two bytes.",
 };
 
 fn f02() -> &'static Page {
@@ -29,7 +29,7 @@ static F03: Page = Page {
     code: "F03",
     anchor: "f03-fonttype-is-not-1",
     title: "FontType is not 1",
-    text: "Level *must*: an interpreter refuses the font, or doesn't read its charstrings. Ghostscript refuses it.\n\nBy this number a PostScript interpreter decides how it reads glyphs. With another one it doesn't use the charstrings, or refuses the font.\n\n    /FontType 3 def\n    1: font FontType 0 F03 FontType is not 1\n       FontType is 3; 1 is needed\n\nCure: `/FontType 1 def` in the clear text.",
+    text: "Level *must* (Type 1 Format, chapter 2): an interpreter refuses the font, or doesn't read its charstrings. Ghostscript refuses it.\n\nBy this number an interpreter decides how it reads glyphs.\n\n    /FontType 3 def\n    1: font FontType 0 F03 FontType is not 1\n       FontType is 3; 1 is needed\n\nMended:\n\n    /FontType 1 def\n\nCure: `/FontType 1 def` in the clear text.",
 };
 
 fn f03() -> &'static Page {
@@ -40,7 +40,7 @@ static F04: Page = Page {
     code: "F04",
     anchor: "f04-painttype-is-not-0-or-2",
     title: "PaintType is not 0 or 2",
-    text: "Level *must*: interpreters paint something else, or nothing.\n\n0 means that outlines are filled, 2 that they are stroked with the width StrokeWidth. Type 1 fonts have no other way to be painted, so\ninterpreters fail, or paint something else than was meant.\n\n    /PaintType 1 def\n    1: font PaintType 0 F04 PaintType is not 0 or 2\n       PaintType is 1; 0 or 2 is needed\n\nCure: `/PaintType 0 def`.",
+    text: "Level *must* (Type 1 Format, chapter 2): interpreters paint something else, or nothing.\n\n0 means that outlines are filled, 2 that they are stroked with the width StrokeWidth. There is no other way.\n\n    /PaintType 1 def\n    1: font PaintType 0 F04 PaintType is not 0 or 2\n       PaintType is 1; 0 or 2 is needed\n\nMended:\n\n    /PaintType 0 def\n\nCure: `/PaintType 0 def`.",
 };
 
 fn f04() -> &'static Page {
@@ -51,7 +51,7 @@ static F05: Page = Page {
     code: "F05",
     anchor: "f05-uniqueid-out-of-range",
     title: "UniqueID out of range",
-    text: "Level *must*: an interpreter may refuse the font, as Ghostscript does below 0, or print another font's glyphs.\n\nA printer keeps drawn glyphs under this number, which has 24 bits. With a number past them an interpreter fails, or mixes up fonts.\nThe entry may be absent, in both dictionaries.\n\n    /UniqueID 16777216 def\n    1: font UniqueID 0 F05 UniqueID out of range\n       UniqueID is 16777216; 0 to 16777215 is needed\n\nCure: a registered number, one from 4000000 to 4999999 (which are for private use), or no UniqueID in either dictionary.",
+    text: "Level *must* (Type 1 Format, chapter 2): an interpreter may refuse the font, as Ghostscript does below 0, or print another font's glyphs.\n\nA printer keeps drawn glyphs under this number, which has 24 bits. The entry may be absent, in both dictionaries.\n\n    /UniqueID 16777216 def\n    1: font UniqueID 0 F05 UniqueID out of range\n       UniqueID is 16777216; 0 to 16777215 is needed\n\nMended:\n\n    /UniqueID 4000001 def\n\nCure: a registered number, one from 4000000 to 4999999 (which are for private use), or no UniqueID in either dictionary.",
 };
 
 fn f05() -> &'static Page {
@@ -62,7 +62,7 @@ static F06: Page = Page {
     code: "F06",
     anchor: "f06-uniqueids-differ",
     title: "UniqueIDs differ",
-    text: "Level *must*: a printer may print the glyphs of another font, which it has kept under the number.\n\nThe font's dictionary and Private have to name the same number. Where they differ the number is no mark of the font: a printer may ignore\nit, and draw each glyph anew, or print another font's glyphs that it has kept. Such a font was often made from another one. Where only one\ndictionary has a number this rule isn't violated.\n\n    /UniqueID 5000793 def     % in the clear text\n    /UniqueID 5000794 def     % in Private\n    1: font PrivateUniqueID 0 F06 UniqueIDs differ\n       5000793 in the clear text, 5000794 in Private\n\nCure: the same number in both, a new one where the glyphs aren't those of the older font. Where Private gives it twice the later one counts: leave the\nwrong one out.",
+    text: "Level *must* (Type 1 Format, chapter 5): a printer may print the glyphs of another font, which it has kept under the number.\n\nThe font's dictionary and Private have to name the same number. A font in which they differ was often made from another one. Where only one\ndictionary has a number this rule isn't violated.\n\n    /UniqueID 5000793 def     % in the clear text\n    /UniqueID 5000794 def     % in Private\n    1: font PrivateUniqueID 0 F06 UniqueIDs differ\n       5000793 in the clear text, 5000794 in Private\n\nMended:\n\n    /UniqueID 5000793 def     % in Private\n\nCure: the same number in both, a new one where the glyphs aren't those of the older font. Where Private has it twice the later one counts: remove the\nwrong one.",
 };
 
 fn f06() -> &'static Page {
@@ -73,7 +73,7 @@ static F07: Page = Page {
     code: "F07",
     anchor: "f07-password-is-not-5839",
     title: "password is not 5839",
-    text: "Level *must*: early interpreters refuse the font.\n\nThe format asks each font for this entry of Private; early interpreters fail without it.\n\n    /password 5838 def\n    1: font password 0 F07 password is not 5839\n       password is 5838; 5839 is needed\n\nCure: `/password 5839 def` in Private.",
+    text: "Level *must* (Type 1 Format, chapter 5): early interpreters refuse the font.\n\nPrivate has to have this entry; it says nothing else.\n\n    /password 5838 def\n    1: font password 0 F07 password is not 5839\n       password is 5838; 5839 is needed\n\nMended:\n\n    /password 5839 def\n\nCure: `/password 5839 def` in Private.",
 };
 
 fn f07() -> &'static Page {
@@ -84,7 +84,7 @@ static F08: Page = Page {
     code: "F08",
     anchor: "f08-minfeature-is-not-16-16",
     title: "MinFeature is not {16 16}",
-    text: "Level *tidy*: the entry has no effect on what is drawn.\n\nThis entry, too, is required so that early interpreters read the font; it has this value alone. An array, `[16 16]`, is taken as well.\n\n    /MinFeature {16} def\n    1: font MinFeature 0 F08 MinFeature is not {16 16}\n       it is a list of 1 number\n\nCure: `/MinFeature {16 16} def` in Private.",
+    text: "Level *must* (Type 1 Format, chapter 5): early interpreters refuse the font.\n\nRequired as F07's password is. An array, `[16 16]`, is accepted as well.\n\n    /MinFeature {16} def\n    1: font MinFeature 0 F08 MinFeature is not {16 16}\n       it is a list of 1 number\n\nMended:\n\n    /MinFeature {16 16} def\n\nCure: `/MinFeature {16 16} def` in Private.",
 };
 
 fn f08() -> &'static Page {
@@ -95,7 +95,7 @@ static F09: Page = Page {
     code: "F09",
     anchor: "f09-no-notdef",
     title: "no .notdef",
-    text: "Level *must*: where a code has no glyph an interpreter fails.\n\nThis glyph is shown for each code and each name that has none. Without it an interpreter refuses the font, or stops at the first such\ncharacter of a text. Example: `A` is the only glyph.\n\n    /A 9 RD … ND\n    1: font CharStrings 0 F09 no .notdef\n       the only glyph has another name\n\nCure: add a glyph `.notdef`; one with a width and no outline will do.",
+    text: "Level *must* (Type 1 Format, chapter 2): where a code has no glyph an interpreter fails.\n\nThis glyph is shown for each code and each name that has none. Without it Ghostscript refuses the font (`invalidfont`), and others stop at the\nfirst such character. Example: `A` is the only glyph.\n\n    /A 9 RD … ND\n    1: font CharStrings 0 F09 no .notdef\n       the only glyph has another name\n\nMended:\n\n    /.notdef 9 RD … ND\n    /A 9 RD … ND\n\nCure: add a glyph `.notdef`; one with a width and no outline will do.",
 };
 
 fn f09() -> &'static Page {
@@ -106,7 +106,7 @@ static F10: Page = Page {
     code: "F10",
     anchor: "f10-glyph-given-twice",
     title: "glyph given twice",
-    text: "Level *must*: some interpreters draw the first of the two, others the last.\n\nPostScript keeps the later one, as t1check does; a reader that stops at the first match shows the earlier one. So the font can look\ndifferent on screen and on paper. The line's index counts names from 0 in the order in which they first appear.\n\n    /.notdef 9 RD … ND\n    /A 9 RD … ND\n    /A 43 RD … ND\n    1: font CharStrings 1 F10 glyph given twice\n       the glyph is A\n\nCure: leave out the one that isn't wanted, and write the smaller number of glyphs before `dict`. This command prints the name at index 1 (with\n`3p` that at index 2, and so on):\n\n    t1disasm font.pfb | sed -n '/\\/CharStrings/,$ s/^\\/\\([^ ]*\\) {$/\\1/p' | awk '!seen[$0]++' | sed -n 2p",
+    text: "Level *must* (our own rule): some interpreters draw the first of the two, others the last.\n\nPostScript keeps the later one, as t1check does; a reader that stops at the first match shows the earlier one. So the font can look\ndifferent on screen and on paper.\n\n    /.notdef 9 RD … ND\n    /A 9 RD … ND\n    /A 43 RD … ND\n    1: font CharStrings 1 F10 glyph given twice\n       the glyph is A\n\nMended:\n\n    /.notdef 9 RD … ND\n    /A 43 RD … ND\n\nHow much it matters: 33 of 1,454 real fonts have 73 such glyphs. Where both charstrings are the same nothing different is drawn.\n\nCure: remove the one that isn't wanted, and write the smaller number of glyphs before `dict`.",
 };
 
 fn f10() -> &'static Page {
@@ -117,7 +117,7 @@ static F11: Page = Page {
     code: "F11",
     anchor: "f11-encoding-of-another-form",
     title: "Encoding of another form",
-    text: "Level *must*: an interpreter may refuse the font, or give codes other glyphs.\n\nInstallers and screen drivers, such as Adobe Type Manager, don't execute PostScript: they look for `/Encoding StandardEncoding def` or\nfor a custom Encoding as above (Type 1 Format, chapters 2 and 10). In other forms they find no codes.\n\n    /Encoding ISOLatin1Encoding def\n    1: font Encoding 0 F11 Encoding of another form\n       it is neither StandardEncoding nor an array of 256 names\n\nAn array written out in brackets and one of another size (`128 array`) are such forms too. Cure: write the codes as rows of `256 array`.",
+    text: "Level *must* (Type 1 Format, chapter 2): an interpreter may refuse the font, or give codes other glyphs.\n\nInstallers and screen drivers, such as Adobe Type Manager, don't execute PostScript: they look for `/Encoding StandardEncoding def` or\nfor a custom Encoding.\n\n    /Encoding ISOLatin1Encoding def\n    1: font Encoding 0 F11 Encoding of another form\n       it is neither StandardEncoding nor an array of 256 names\n\nMended:\n\n    /Encoding StandardEncoding def\n\nAn array in brackets and one of another size (`128 array`) are such forms too.\n\nCure: write the codes as rows of `256 array`.",
 };
 
 fn f11() -> &'static Page {
@@ -128,7 +128,7 @@ static F12: Page = Page {
     code: "F12",
     anchor: "f12-code-past-255",
     title: "code past 255",
-    text: "Level *must*: an interpreter refuses the font, as Ghostscript does, or the code has no glyph.\n\nThe array has the codes 0 to 255. A row with another code stops an interpreter with `rangecheck` or `typecheck`: the font isn't loaded.\nt1check skips the row. However many such rows there are, there is one line.\n\n    dup 256 /A put\n    1: font Encoding 0 F12 code past 255\n\nCure: mend the code, or leave the row out; a glyph without a code is still reached by its name.",
+    text: "Level *must* (Type 1 Format, chapter 2): an interpreter refuses the font, as Ghostscript does, or the code has no glyph.\n\nA row with another code stops an interpreter with `rangecheck` or `typecheck`. t1check skips the row. However many such rows there are, there is\none line.\n\n    dup 256 /A put\n    1: font Encoding 0 F12 code past 255\n\nMended:\n\n    dup 255 /A put\n\nCure: mend the code, or remove the row; a glyph without a code is still reached by its name.",
 };
 
 fn f12() -> &'static Page {
@@ -139,7 +139,7 @@ static F13: Page = Page {
     code: "F13",
     anchor: "f13-encoded-glyph-missing",
     title: "encoded glyph missing",
-    text: "Level *should*: `.notdef` is drawn for the code; a subset may have been cut so on purpose.\n\nThe code prints as `.notdef`. Subsets of fonts often keep the codes of the whole font; that is harmless while no text uses them. In a whole font\nit is mostly a misspelled name. Where a code is set twice its later name counts. Example: no glyph is named `Alpha`.\n\n    dup 65 /Alpha put\n    1: font Encoding 65 F13 encoded glyph missing\n       code 65 names Alpha\n\nHow much it matters: in a subset not at all, so long as its text has no such code. 43 of 1,454 real fonts have 430 such rows.\n\nCure: add the glyph, mend the name, or leave the row out.",
+    text: "Level *should* (our own rule): `.notdef` is drawn for the code; a subset may have been cut so on purpose.\n\nSubsets of fonts often keep the codes of the whole font. In a whole font it is mostly a misspelled name. Where a code is set twice its later name\ncounts. Example: no glyph is named `Alpha`.\n\n    dup 65 /Alpha put\n    1: font Encoding 65 F13 encoded glyph missing\n       code 65 names Alpha\n\nMended:\n\n    dup 65 /A put\n\nHow much it matters: in a subset not at all, while no text has such a code. 43 of 1,454 real fonts have 430 such rows.\n\nCure: add the glyph, mend the name, or remove the row.",
 };
 
 fn f13() -> &'static Page {
@@ -150,7 +150,7 @@ static F14: Page = Page {
     code: "F14",
     anchor: "f14-subr-given-twice-or-past-the-array",
     title: "Subr given twice or past the array",
-    text: "Level *must*: an interpreter refuses the font, as Ghostscript does, or calls another Subr.\n\n`/Subrs 5 array` has the numbers 0 to 4. An entry past them stops an interpreter with `rangecheck`, so that the font isn't loaded; other readers\nleave it out, and glyphs that call it break. Of two entries with one number readers take one or the other.\n\n    /Subrs 5 array\n    dup 5 7 RD … NP\n    1: font Subrs 5 F14 Subr given twice or past the array\n       Subr 5 is past the size 5\n\nCure: write the greatest number plus 1 before `array`; leave out, or number anew, the entry that is given twice.",
+    text: "Level *must* (Type 1 Format, chapter 8): an interpreter refuses the font, as Ghostscript does, or calls another Subr.\n\n`/Subrs 5 array` has the numbers 0 to 4. An entry past them stops an interpreter with `rangecheck`; other readers skip it, and glyphs that call\nit break. Of two entries with one number readers take one or the other.\n\n    /Subrs 5 array\n    dup 5 7 RD … NP\n    1: font Subrs 5 F14 Subr given twice or past the array\n       Subr 5 is past the size 5\n\nMended:\n\n    /Subrs 6 array\n\nCure: write the greatest number plus 1 before `array`; remove, or number anew, the entry that is given twice.",
 };
 
 fn f14() -> &'static Page {
@@ -161,7 +161,7 @@ static Z01: Page = Page {
     code: "Z01",
     anchor: "z01-value-of-another-kind",
     title: "value of another kind",
-    text: "Level *must*: an interpreter may refuse the font, as Ghostscript does.\n\nBlueScale, BlueShift and BlueFuzz want a number; the zone lists, StdHW, StdVW, StemSnapH and StemSnapV a list of numbers. An entry of another\nkind stops an interpreter with `typecheck`, or is ignored: the hint is lost. The other rules don't look at its value.\n\n    /StdHW 30 def\n    1: font StdHW 0 Z01 value of another kind\n       it is the number 30; a list of numbers is needed\n\n    /BlueScale 3.9e-2 def\n    1: font BlueScale 0 Z01 value of another kind\n       it is neither a number nor a list of numbers; a number is needed\n\nCure: write `[30]`; write `.039`.",
+    text: "Level *must* (Type 1 Format, chapter 5): an interpreter may refuse the font, as Ghostscript does.\n\nBlueScale, BlueShift and BlueFuzz need a number; the zone lists, StdHW, StdVW, StemSnapH and StemSnapV a list of numbers. An entry of another\nkind stops an interpreter with `typecheck`, or is ignored. The other rules don't look at its value.\n\n    /StdHW 30 def\n    1: font StdHW 0 Z01 value of another kind\n       it is the number 30; a list of numbers is needed\n\nMended:\n\n    /StdHW [30] def\n\nAn exponent isn't read; write `.039`:\n\n    /BlueScale 3.9e-2 def\n    1: font BlueScale 0 Z01 value of another kind\n       it is neither a number nor a list of numbers; a number is needed\n\nCure: write a list in brackets, or a number without them.",
 };
 
 fn z01() -> &'static Page {
@@ -172,7 +172,7 @@ static Z02: Page = Page {
     code: "Z02",
     anchor: "z02-too-many-zone-numbers",
     title: "too many zone numbers",
-    text: "Level *must*: an interpreter may refuse the font, as Ghostscript does, or leave zones out.\n\nSeven zones fit in BlueValues and FamilyBlues, five in OtherBlues and FamilyOtherBlues. Rasterisers have room for no more, and drop the\nfurther ones or the whole list. INDEX is that of the first number too many.\n\n    /BlueValues [-15 0 400 410 450 460 500 510 540 550 600 610 650 660 700 710] def\n    1: font BlueValues 14 Z02 too many zone numbers\n       16 numbers, 14 at most\n\nCure: keep the zones of the most glyphs (baseline, x-height, capitals, ascenders, figures).",
+    text: "Level *must* (Type 1 Format, chapter 5): an interpreter may refuse the font, as Ghostscript does, or leave zones out.\n\nSeven zones fit in BlueValues and FamilyBlues, five in OtherBlues and FamilyOtherBlues. Rasterisers drop further ones or the whole list. INDEX is that\nof the first number too many.\n\n    /BlueValues [-15 0 400 410 450 460 500 510 540 550 600 610 650 660 700 710] def\n    1: font BlueValues 14 Z02 too many zone numbers\n       16 numbers, 14 at most\n\nMended:\n\n    /BlueValues [-15 0 400 410 450 460 500 510 540 550 600 610 650 660] def\n\nCure: keep the zones of the most glyphs (baseline, x-height, capitals, ascenders, figures).",
 };
 
 fn z02() -> &'static Page {
@@ -183,7 +183,7 @@ static Z03: Page = Page {
     code: "Z03",
     anchor: "z03-odd-count-of-zone-numbers",
     title: "odd count of zone numbers",
-    text: "Level *must*: an interpreter may refuse the font, as Ghostscript does.\n\nA bottom or a top is missing, so that all pairs after it may be shifted. Each would then span from one zone's top to the next one's bottom.\n\n    /BlueValues [-15 0 700] def\n    1: font BlueValues 0 Z03 odd count of zone numbers\n       3 numbers\n\nCure: write the missing number; a zone without height has the same number twice.",
+    text: "Level *must* (Type 1 Format, chapter 5): an interpreter may refuse the font, as Ghostscript does.\n\nA bottom or a top is missing, so all pairs after it may be shifted.\n\n    /BlueValues [-15 0 700] def\n    1: font BlueValues 0 Z03 odd count of zone numbers\n       3 numbers\n\nMended:\n\n    /BlueValues [-15 0 700 715] def\n\nCure: write the missing number; a zone without height has the same number twice.",
 };
 
 fn z03() -> &'static Page {
@@ -194,7 +194,7 @@ static Z04: Page = Page {
     code: "Z04",
     anchor: "z04-zone-numbers-fall",
     title: "zone numbers fall",
-    text: "Level *should*: heights are rounded otherwise than meant.\n\nThe numbers have to rise, within a zone and from zone to zone (equal ones don't break this rule). A zone whose top lies below its bottom\ncatches no edge.\n\n    /BlueValues [-15 0 700 690] def\n    1: font BlueValues 3 Z04 zone numbers fall\n       690 comes after 700\n\nHow much it matters: the zone is lost. Numbers that fall are also too near, so mostly Z05 names the same place, and one cure ends both lines. In\n1,454 real fonts this was so at each of 182 places.\n\nCure: sort the pairs, each with the lower number first. A negative overshoot at the baseline is `-15 0`, not `0 -15`.",
+    text: "Level *should* (Type 1 Format, chapter 5): heights are rounded otherwise than meant.\n\nThe numbers must rise, within a zone and from zone to zone (equal ones don't break this rule). A zone whose top is below its bottom catches no edge.\n\n    /BlueValues [-15 0 700 690] def\n    1: font BlueValues 3 Z04 zone numbers fall\n       690 comes after 700\n\nMended:\n\n    /BlueValues [-15 0 690 700] def\n\nHow much it matters: the zone is lost. Mostly Z05 names the same place, and one cure ends both lines: so at each of 182 places in 1,454 real fonts.\n\nCure: sort the pairs, each with the lower number first. A negative overshoot at the baseline is `-15 0`, not `0 -15`.",
 };
 
 fn z04() -> &'static Page {
@@ -205,7 +205,7 @@ static Z05: Page = Page {
     code: "Z05",
     anchor: "z05-zones-too-near",
     title: "zones too near",
-    text: "Level *should*: edges between the two zones may jump at small sizes.\n\nBlueFuzz widens each zone by so many units below and above. Two zones of a list have to lie D = 2 × BlueFuzz + 1 units apart; else an\nedge may belong to both, and similar glyphs get different heights.\n\n    /BlueValues [-15 0 520 530 532 545] def\n    1: font BlueValues 4 Z05 zones too near\n       from 530 to 532 is 2; 3 is needed; BlueFuzz 0.5 would do\n\n532 − 530 = 2, and D is 3.\n\nHow much it matters: where Z04 names the same place, mend that one. Elsewhere edges in the gap may jump.\n\nCure: make one zone of both, move them apart, or set `/BlueFuzz 0 def`, with which D is 1.",
+    text: "Level *should* (Type 1 Format, chapter 5): edges between the two zones may jump at small sizes.\n\nBlueFuzz widens each zone by so many units below and above. Two zones of a list must be D = 2 × BlueFuzz + 1 units apart; else an edge may belong to\nboth.\n\n    /BlueValues [-15 0 520 530 532 545] def\n    1: font BlueValues 4 Z05 zones too near\n       from 530 to 532 is 2; 3 is needed; BlueFuzz 0.5 would do\n\nMended:\n\n    /BlueValues [-15 0 520 530 533 545] def\n\nHow much it matters: where Z04 names the same place, mend that one.\n\nCure: make one zone of both, move them apart, or set `/BlueFuzz 0 def`, with which D is 1.",
 };
 
 fn z05() -> &'static Page {
@@ -216,7 +216,7 @@ static Z06: Page = Page {
     code: "Z06",
     anchor: "z06-zones-of-two-lists-too-near",
     title: "zones of two lists too near",
-    text: "Level *should*: edges between the two zones may jump at small sizes.\n\nThe same between a zone of OtherBlues and one of BlueValues, and between a zone of FamilyOtherBlues and one of FamilyBlues. A zone from\na to b and one from c to d are too near where c − b < D and a − d < D, whichever lies below. The line is at the zone of OtherBlues or\nFamilyOtherBlues, once for each such zone.\n\n    /BlueValues [-8 0] def\n    /OtherBlues [-20 -10] def\n    1: font OtherBlues 0 Z06 zones of two lists too near\n       zone -20 to -10 lies 2 below zone -8 to 0; 3 is needed; BlueFuzz 0.5 would do\n\nc − b = −8 + 10 = 2, and D is 3. Cure: as for Z05; with `/BlueFuzz 0 def` this font breaks no rule. A zone that is in both lists is left out of\nOtherBlues, or FamilyOtherBlues.",
+    text: "Level *should* (Type 1 Format, chapter 5): edges between the two zones may jump at small sizes.\n\nThe same between a zone of OtherBlues and one of BlueValues, and between a zone of FamilyOtherBlues and one of FamilyBlues. A zone from\na to b and one from c to d are too near where c − b < D and a − d < D, whichever lies below. The line is at the zone of OtherBlues or\nFamilyOtherBlues, once for each such zone.\n\n    /BlueValues [-8 0] def\n    /OtherBlues [-20 -10] def\n    1: font OtherBlues 0 Z06 zones of two lists too near\n       zone -20 to -10 lies 2 below zone -8 to 0; 3 is needed; BlueFuzz 0.5 would do\n\nMended:\n\n    /OtherBlues [-21 -11] def\n\nCure: as for Z05. Remove a zone that is in both lists from OtherBlues, or FamilyOtherBlues.",
 };
 
 fn z06() -> &'static Page {
@@ -227,7 +227,7 @@ static Z07: Page = Page {
     code: "Z07",
     anchor: "z07-zone-too-high-for-bluescale",
     title: "zone too high for BlueScale",
-    text: "Level *should*: at some sizes round letters stand out where they shouldn't.\n\nBlueScale says, in pixels a unit, up to which size overshoots are suppressed: all edges of a zone are then put on one line. A zone that is a whole\npixel high at that size, or more, would lose a difference that could be shown, and heights jump where suppression ends.\n\n    /BlueValues [0 26] def\n    1: font BlueValues 1 Z07 zone too high for BlueScale\n       zone 0 to 26, height 26 times BlueScale 0.039625 is 1.03025; less than 1 is needed; BlueScale 0.038461538 would do\n\n26 × 0.039625 = 1.03025; a height of 25 gives 0.990625 and is right.\n\nHow much it matters: often only a digit was rounded. Of 147 such places in 1,454 real fonts, 109 had a height that times BlueScale gave at least 1\nand less than 1.001. There nothing is seen, and a BlueScale whose last digit is one lower ends the line.\n\nCure: make the zone lower, or BlueScale less than 1 divided by the\nheight of the highest zone, here `/BlueScale .038 def` (26 × .038 = 0.988). Digits after the ninth decimal are cut: 24 × 0.0416666667 is\n24 × 0.041666666 here, 0.999999984, and below 1.",
+    text: "Level *should* (Type 1 Format, chapter 5): at some sizes round letters are too high where they shouldn't be.\n\nBlueScale says, in pixels per unit, up to which size overshoots are suppressed: all edges of a zone are then on one line. A zone that is a pixel high\nat that size, or more, loses a difference that could be shown, and heights jump where suppression ends.\n\n    /BlueValues [0 26] def\n    1: font BlueValues 1 Z07 zone too high for BlueScale\n       zone 0 to 26, height 26 times BlueScale 0.039625 is 1.03025; less than 1 is needed; BlueScale 0.038461538 would do\n\nMended:\n\n    /BlueValues [0 25] def\n\nHow much it matters: often only a digit was rounded. At 109 of 147 such places in 1,454 real fonts the product was below 1.001. There nothing is seen,\nand a BlueScale whose last digit is one lower ends the line.\n\nCure: make the zone lower, or BlueScale less than 1 divided by the height of the highest zone, here `/BlueScale .038 def`. Digits after the ninth\ndecimal are cut: 24 × 0.0416666667 is below 1 here.",
 };
 
 fn z07() -> &'static Page {
@@ -238,7 +238,7 @@ static Z08: Page = Page {
     code: "Z08",
     anchor: "z08-not-one-standard-width",
     title: "not one standard width",
-    text: "Level *must*: an interpreter may refuse the font, as Ghostscript does where there are two.\n\nThe standard width is a list with one number. A rasteriser takes the first and ignores the rest; without any it has none to go by.\n\n    /StdVW [84 90] def\n    1: font StdVW 0 Z08 not one standard width\n       2 numbers; 1 is needed\n\nCure: keep the most frequent width here, and write the others in StemSnapV (StemSnapH).",
+    text: "Level *must* (Type 1 Format, chapter 5): an interpreter may refuse the font, as Ghostscript does where there are two.\n\nThe standard width is a list with one number.\n\n    /StdVW [84 90] def\n    1: font StdVW 0 Z08 not one standard width\n       2 numbers; 1 is needed\n\nMended:\n\n    /StdVW [84] def\n\nCure: keep the most frequent width here, and write the others in StemSnapV (StemSnapH).",
 };
 
 fn z08() -> &'static Page {
@@ -249,7 +249,7 @@ static Z09: Page = Page {
     code: "Z09",
     anchor: "z09-too-many-stem-snaps",
     title: "too many stem snaps",
-    text: "Level *should*: further widths have no effect.\n\nTwelve widths fit. Rasterisers drop the further ones or the whole list. INDEX is that of the first number too many, 12.\n\n    /StemSnapH [20 22 24 26 28 30 32 34 36 38 40 42 44] def\n    1: font StemSnapH 12 Z09 too many stem snaps\n       13 numbers, 12 at most\n\nCure: keep the twelve most frequent widths; those that differ by a unit or two are better given as one.",
+    text: "Level *must* (Type 1 Format, chapter 5): an interpreter may refuse the font, as Ghostscript does (`limitcheck`), or ignore the widths.\n\nTwelve widths fit. INDEX is that of the first number too many, 12.\n\n    /StemSnapH [20 22 24 26 28 30 32 34 36 38 40 42 44] def\n    1: font StemSnapH 12 Z09 too many stem snaps\n       13 numbers, 12 at most\n\nMended:\n\n    /StemSnapH [20 22 24 26 28 30 32 34 36 38 40 42] def\n\nCure: keep the twelve most frequent widths; those that differ by a unit or two are better given as one.",
 };
 
 fn z09() -> &'static Page {
@@ -260,7 +260,7 @@ static Z10: Page = Page {
     code: "Z10",
     anchor: "z10-stem-snaps-fall",
     title: "stem snaps fall",
-    text: "Level *should*: an interpreter may leave widths out.\n\nThe widths have to rise: a rasteriser that looks for the nearest one in order finds a wrong one else. Only the first 12 are compared.\n\n    /StemSnapV [84 80] def\n    1: font StemSnapV 1 Z10 stem snaps fall\n       80 comes after 84\n\nCure: sort them.",
+    text: "Level *should* (Type 1 Format, chapter 5): an interpreter may leave widths out.\n\nThe widths must rise: a rasteriser that searches them in order may otherwise pick a wrong one. Only the first 12 are compared.\n\n    /StemSnapV [84 80] def\n    1: font StemSnapV 1 Z10 stem snaps fall\n       80 comes after 84\n\nMended:\n\n    /StemSnapV [80 84] def\n\nCure: sort them.",
 };
 
 fn z10() -> &'static Page {
@@ -271,7 +271,7 @@ static Z11: Page = Page {
     code: "Z11",
     anchor: "z11-standard-width-not-among-the-snaps",
     title: "standard width not among the snaps",
-    text: "Level *should*: stems of the usual width may be rounded otherwise than meant.\n\nStems of the standard width would be drawn with another width, as the nearest one in the list: those stems that are most frequent get uneven.\nOnly the first 12 numbers of the list count.\n\n    /StdHW [30] def\n    /StemSnapH [20 40] def\n    1: font StemSnapH 0 Z11 standard width not among the snaps\n       30 is none of the snaps; 20 is nearest\n\nCure: add the width in its place, `[20 30 40]`; or mend StdHW where it was copied from another font.",
+    text: "Level *should* (Type 1 Format, chapter 5): stems of the usual width may be rounded otherwise than meant.\n\nThe most frequent stems would be drawn with another width, as the nearest one in the list. Only the first 12 numbers of the list count.\n\n    /StdHW [30] def\n    /StemSnapH [20 40] def\n    1: font StemSnapH 0 Z11 standard width not among the snaps\n       30 is none of the snaps; 20 is nearest\n\nMended:\n\n    /StemSnapH [20 30 40] def\n\nCure: add the width in its place, `[20 30 40]`; or mend StdHW where it was copied from another font.\n\nRules on charstrings, from here on, speak of what is executed: each glyph, token by token, with the Subrs\nthat it calls. A fault ends nothing, so it hides none after it.",
 };
 
 fn z11() -> &'static Page {
@@ -282,7 +282,7 @@ static C01: Page = Page {
     code: "C01",
     anchor: "c01-shorter-than-leniv",
     title: "shorter than lenIV",
-    text: "Level *must*: the glyph can't be decrypted.\n\nlenIV says how many random bytes come before each charstring, 4 where nothing else is said. A charstring that hasn't even these has\nno command, and some interpreters read past its end. Example: lenIV is 4, and `A` has three bytes.\n\n    /A 3 RD … ND\n    1: glyph A - 1 C01 shorter than lenIV\n       3 bytes, lenIV is 4\n    2: glyph A - 2 GE01 no endchar\n\nCure: compile the glyph again; where all glyphs have this line, mend lenIV (`/lenIV -1 def` says that charstrings aren't encrypted).",
+    text: "Level *must* (Type 1 Format, chapter 7): the glyph can't be decrypted.\n\nlenIV says how many random bytes come before each charstring, 4 where nothing else is said. A charstring without even these has no command. Some\ninterpreters read past its end.\n\n    /.notdef 9 RD … ND\n    /A 3 RD … ND\n    1: glyph A - 1 C01 shorter than lenIV\n       3 bytes, lenIV is 4\n    2: glyph A - 2 GE01 no endchar\n\nMended:\n\n    /A 9 RD … ND\n\nCure: compile the glyph again; where all glyphs have this line, mend lenIV (`/lenIV -1 def` says that charstrings aren't encrypted).\n\nTo find the step: `t1disasm FONT TEXT`, of Debian's t1utils, writes dictionaries and charstrings as text, and\n`t1asm --pfb TEXT FONT` makes the font of it; where lenIV is -1 it leaves charstrings raw. Glyph A is below `/A {`, the Subr of PATH `5>6` below\n`dup 6 {`. `t1check --trace A FONT` numbers what is executed, Subrs too, as STEP does.",
 };
 
 fn c01() -> &'static Page {
@@ -293,7 +293,7 @@ static C02: Page = Page {
     code: "C02",
     anchor: "c02-breaks-off-in-a-token",
     title: "breaks off in a token",
-    text: "Level *must*: the glyph breaks off, or isn't drawn.\n\nThe last number or command isn't whole: bytes are missing, or the length before `RD` is too small. Example: the last three bytes of `A`\nare 255, which begins a number of four more bytes, and two zeros.\n\n    A: 0 500 hsbw, and the bytes 255 0 0\n    1: glyph A - 4 C02 breaks off in a token\n    2: glyph A - 5 GE01 no endchar\n\nCure: compile the glyph again, or take the font from its source again.",
+    text: "Level *must* (Type 1 Format, chapter 6): the glyph breaks off, or isn't drawn.\n\nThe last number or command isn't whole: bytes are missing, or the length before `RD` is too small. In the example 255 begins a number of four more\nbytes.\n\n    A: 0 500 hsbw, and the bytes 255 0 0\n    1: glyph A - 4 C02 breaks off in a token\n    2: glyph A - 5 GE01 no endchar\n\nMended:\n\n    A: 0 500 hsbw endchar\n\nCure: compile the glyph again, or take the font from its source again.\n\nTo find the step: `t1disasm FONT TEXT`, of Debian's t1utils, writes dictionaries and charstrings as text, and\n`t1asm --pfb TEXT FONT` makes the font of it; where lenIV is -1 it leaves charstrings raw. Glyph A is below `/A {`, the Subr of PATH `5>6` below\n`dup 6 {`. `t1check --trace A FONT` numbers what is executed, Subrs too, as STEP does.",
 };
 
 fn c02() -> &'static Page {
@@ -304,7 +304,7 @@ static C03: Page = Page {
     code: "C03",
     anchor: "c03-unknown-command",
     title: "unknown command",
-    text: "Level *must*: interpreters stop at the command, or leave it out.\n\nThe byte is no command of Type 1 fonts. Interpreters stop at it, or draw the rest of the glyph wrongly. Commands of Type 2 charstrings, as\n`hhcurveto` (27), are unknown too, and so is each glyph's noise where lenIV is wrong.\n\n    A: 0 500 hsbw unknown 15 endchar\n    1: glyph A - 4 C03 unknown command\n       byte 15\n\nCure: write what was meant in commands of chapter 6; convert a Type 2 charstring with a tool that knows both formats.",
+    text: "Level *must* (Type 1 Format, chapter 6): interpreters stop at the command, or leave it out.\n\nThe byte is no command of Type 1 fonts. Commands of Type 2 charstrings, as `hhcurveto` (27), are unknown too, and so is each glyph's noise where lenIV\nis wrong.\n\n    A: 0 500 hsbw unknown 15 endchar\n    1: glyph A - 4 C03 unknown command\n       byte 15\n\nMended:\n\n    A: 0 500 hsbw endchar\n\nCure: write what was meant in commands of chapter 6; convert a Type 2 charstring with a tool that knows both formats.\n\nTo find the step: `t1disasm FONT TEXT`, of Debian's t1utils, writes dictionaries and charstrings as text, and\n`t1asm --pfb TEXT FONT` makes the font of it; where lenIV is -1 it leaves charstrings raw. Glyph A is below `/A {`, the Subr of PATH `5>6` below\n`dup 6 {`. `t1check --trace A FONT` numbers what is executed, Subrs too, as STEP does.",
 };
 
 fn c03() -> &'static Page {
@@ -315,7 +315,7 @@ static C04: Page = Page {
     code: "C04",
     anchor: "c04-too-few-arguments",
     title: "too few arguments",
-    text: "Level *must*: the glyph isn't drawn, or with numbers that are left from before.\n\nWhat an interpreter takes for the missing number is open: 0, or what an earlier command left in memory. So the glyph differs from one to the\nnext. Here rlineto has one number of its two.\n\n    A: 0 500 hsbw 50 hmoveto 100 rlineto closepath endchar\n    1: glyph A - 7 C04 too few arguments\n       rlineto takes 2 numbers, 1 is on the stack\n\nCure: write the missing number, or the command that was meant, here hlineto.",
+    text: "Level *must* (Type 1 Format, chapter 6): the glyph isn't drawn, or with numbers that are left from before.\n\nWhat an interpreter takes for the missing number is open: 0, or what an earlier command left in memory.\n\n    A: 0 500 hsbw 50 hmoveto 100 rlineto closepath endchar\n    1: glyph A - 7 C04 too few arguments\n       rlineto takes 2 numbers, 1 is on the stack\n\nMended:\n\n    A: 0 500 hsbw 50 hmoveto 100 hlineto closepath endchar\n\nCure: write the missing number, or the command that was meant, here hlineto.\n\nTo find the step: `t1disasm FONT TEXT`, of Debian's t1utils, writes dictionaries and charstrings as text, and\n`t1asm --pfb TEXT FONT` makes the font of it; where lenIV is -1 it leaves charstrings raw. Glyph A is below `/A {`, the Subr of PATH `5>6` below\n`dup 6 {`. `t1check --trace A FONT` numbers what is executed, Subrs too, as STEP does.",
 };
 
 fn c04() -> &'static Page {
@@ -326,7 +326,7 @@ static C05: Page = Page {
     code: "C05",
     anchor: "c05-too-many-arguments",
     title: "too many arguments",
-    text: "Level *must*: some interpreters take the lowest numbers, others the topmost.\n\nNumbers are left over, so a number or a command was lost, or the wrong command is there. Interpreters disagree on which numbers they\ntake. Here hmoveto takes one.\n\n    A: 0 500 hsbw 50 20 hmoveto 100 hlineto closepath endchar\n    1: glyph A - 6 C05 too many arguments\n       hmoveto takes 1 number, 2 are on the stack\n\nCure: write the command that was meant, here rmoveto, or leave the number out. Numbers before the end of a Subr may be meant for its\ncaller and break no rule there.",
+    text: "Level *must* (Type 1 Format, chapter 6): some interpreters take the lowest numbers, others the topmost.\n\nNumbers are left over, so a command was lost, or the wrong one is there.\n\n    A: 0 500 hsbw 50 20 hmoveto 100 hlineto closepath endchar\n    1: glyph A - 6 C05 too many arguments\n       hmoveto takes 1 number, 2 are on the stack\n\nMended:\n\n    A: 0 500 hsbw 50 20 rmoveto 100 hlineto closepath endchar\n\nCure: write the command that was meant, here rmoveto, or remove the number. Numbers before the end of a Subr may be meant for its caller and break no\nrule there.\n\nTo find the step: `t1disasm FONT TEXT`, of Debian's t1utils, writes dictionaries and charstrings as text, and\n`t1asm --pfb TEXT FONT` makes the font of it; where lenIV is -1 it leaves charstrings raw. Glyph A is below `/A {`, the Subr of PATH `5>6` below\n`dup 6 {`. `t1check --trace A FONT` numbers what is executed, Subrs too, as STEP does.",
 };
 
 fn c05() -> &'static Page {
@@ -337,7 +337,7 @@ static C06: Page = Page {
     code: "C06",
     anchor: "c06-more-than-24-numbers",
     title: "more than 24 numbers",
-    text: "Level *must*: an interpreter's stack overflows, and the glyph isn't drawn.\n\nAn interpreter's stack has 24 places. A further number stops it or is lost, or overwrites memory where the interpreter doesn't guard it.\nEach number past the 24th has its line. Here rlineto is given thirteen pairs of `10 20`, as a Type 2 charstring may have them.\n\n    A: 0 500 hsbw 0 hmoveto 10 20 … 10 20 rlineto closepath endchar\n    1: glyph A - 30 C06 more than 24 numbers\n       the number 10 after 24 numbers, 24 at most\n    2: glyph A - 31 C06 more than 24 numbers\n       the number 20 after 24 numbers, 24 at most\n    3: glyph A - 32 C05 too many arguments\n       rlineto takes 2 numbers, 24 are on the stack\n\nCure: give each command its own numbers, here thirteen times `10 20 rlineto`.",
+    text: "Level *must* (Type 1 Format, chapter 6): an interpreter's stack overflows, and the glyph isn't drawn.\n\nA further number stops an interpreter or is lost, or overwrites memory. Each number past the 24th has its line. Here rlineto is given thirteen pairs,\nas a Type 2 charstring may have them.\n\n    A: 0 500 hsbw 0 hmoveto\n       10 20 … (thirteen times) rlineto closepath endchar\n    1: glyph A - 30 C06 more than 24 numbers\n       the number 10 after 24 numbers, 24 at most\n    2: glyph A - 31 C06 more than 24 numbers\n       the number 20 after 24 numbers, 24 at most\n    3: glyph A - 32 C05 too many arguments\n       rlineto takes 2 numbers, 24 are on the stack\n\nMended:\n\n    A: 0 500 hsbw 0 hmoveto\n       10 20 rlineto … (thirteen times) closepath endchar\n\nCure: give each command its own numbers.\n\nTo find the step: `t1disasm FONT TEXT`, of Debian's t1utils, writes dictionaries and charstrings as text, and\n`t1asm --pfb TEXT FONT` makes the font of it; where lenIV is -1 it leaves charstrings raw. Glyph A is below `/A {`, the Subr of PATH `5>6` below\n`dup 6 {`. `t1check --trace A FONT` numbers what is executed, Subrs too, as STEP does.",
 };
 
 fn c06() -> &'static Page {
@@ -348,7 +348,7 @@ static C07: Page = Page {
     code: "C07",
     anchor: "c07-number-out-of-range",
     title: "number out of range",
-    text: "Level *must*: interpreters refuse the number, or cut it.\n\nThe arguments of a command, as the way of a move or the width of a stem, may be up to 32000 either way. Greater numbers, which the format\nwrites in five bytes, are for div. Interpreters that keep 16 bits for a number draw something else.\n\n    A: 0 500 hsbw 32001 hmoveto endchar\n    1: glyph A - 5 C07 number out of range\n       argument 1 is 32001, 32000 at most\n\nCure: mend the number. A fraction is written by div, as `5 2 div` for 2.5.",
+    text: "Level *must* (Type 1 Format, chapter 6): interpreters refuse the number, or cut it.\n\nThe arguments of a command may be up to 32000 either way. Greater numbers are for div alone. Interpreters that keep 16 bits for a number draw something\nelse.\n\n    A: 0 500 hsbw 32001 hmoveto endchar\n    1: glyph A - 5 C07 number out of range\n       argument 1 is 32001, 32000 at most\n\nMended:\n\n    A: 0 500 hsbw 32000 hmoveto endchar\n\nCure: mend the number. A fraction is written by div, as `5 2 div` for 2.5.\n\nTo find the step: `t1disasm FONT TEXT`, of Debian's t1utils, writes dictionaries and charstrings as text, and\n`t1asm --pfb TEXT FONT` makes the font of it; where lenIV is -1 it leaves charstrings raw. Glyph A is below `/A {`, the Subr of PATH `5>6` below\n`dup 6 {`. `t1check --trace A FONT` numbers what is executed, Subrs too, as STEP does.",
 };
 
 fn c07() -> &'static Page {
@@ -359,7 +359,7 @@ static C08: Page = Page {
     code: "C08",
     anchor: "c08-quotient-out-of-range",
     title: "quotient out of range",
-    text: "Level *must*: interpreters refuse the quotient, or cut it.\n\ndiv is there to write fractions, and what it gives has to be in the range of C07.\n\n    A: 0 500 hsbw 64002 2 div hmoveto endchar\n    1: glyph A - 6 C08 quotient out of range\n       64002 divided by 2\n\nCure: mend the numbers. The quotient is first cut to 1/65536: one that is less than 1/65536 past 32000 is 32000 then, and in range.",
+    text: "Level *must* (Type 1 Format, chapter 6): interpreters refuse the quotient, or cut it.\n\nWhat div gives has to be in the range of C07.\n\n    A: 0 500 hsbw 64002 2 div hmoveto endchar\n    1: glyph A - 6 C08 quotient out of range\n       64002 divided by 2\n\nMended:\n\n    A: 0 500 hsbw 64000 2 div hmoveto endchar\n\nCure: mend the numbers. The quotient is first cut to 1/65536: one that is less than 1/65536 past 32000 is 32000 then, and in range.\n\nTo find the step: `t1disasm FONT TEXT`, of Debian's t1utils, writes dictionaries and charstrings as text, and\n`t1asm --pfb TEXT FONT` makes the font of it; where lenIV is -1 it leaves charstrings raw. Glyph A is below `/A {`, the Subr of PATH `5>6` below\n`dup 6 {`. `t1check --trace A FONT` numbers what is executed, Subrs too, as STEP does.",
 };
 
 fn c08() -> &'static Page {
@@ -370,7 +370,7 @@ static C09: Page = Page {
     code: "C09",
     anchor: "c09-division-by-zero",
     title: "division by zero",
-    text: "Level *must*: interpreters stop there, or go on with any number.\n\nAn interpreter stops with an error, or goes on with any number.\n\n    A: 0 500 hsbw 5 0 div hmoveto endchar\n    1: glyph A - 6 C09 division by zero\n       5 divided by 0\n\nCure: mend the divisor; mostly a number was lost, or a fraction was rounded to 0.",
+    text: "Level *must* (our own rule): interpreters stop there, or go on with any number.\n\n    A: 0 500 hsbw 5 0 div hmoveto endchar\n    1: glyph A - 6 C09 division by zero\n       5 divided by 0\n\nMended:\n\n    A: 0 500 hsbw 5 2 div hmoveto endchar\n\nCure: mend the divisor; mostly a number was lost, or a fraction was rounded to 0.\n\nTo find the step: `t1disasm FONT TEXT`, of Debian's t1utils, writes dictionaries and charstrings as text, and\n`t1asm --pfb TEXT FONT` makes the font of it; where lenIV is -1 it leaves charstrings raw. Glyph A is below `/A {`, the Subr of PATH `5>6` below\n`dup 6 {`. `t1check --trace A FONT` numbers what is executed, Subrs too, as STEP does.",
 };
 
 fn c09() -> &'static Page {
@@ -381,7 +381,7 @@ static S01: Page = Page {
     code: "S01",
     anchor: "s01-no-such-subr",
     title: "no such Subr",
-    text: "Level *must*: interpreters stop at the call.\n\nThe glyph lacks what the Subr was to draw or to set, and many interpreters drop the whole glyph. Subsets of fonts that leave out a Subr too\nmany have this. A Subr past the array (F14) is there, and is called. Here the font has no Subr 4.\n\n    A: 0 500 hsbw 4 callsubr endchar\n    1: glyph A - 5 S01 no such Subr\n       there is no Subr 4\n\nCure: add the Subr, or mend the number. A number that isn't whole, as by `11 2 div`, names none.",
+    text: "Level *must* (Type 1 Format, chapter 6): interpreters stop at the call.\n\nMany interpreters drop the whole glyph. Subsets of fonts that lack a Subr too many have this. A Subr past the array (F14) is there, and is called.\n\n    A: 0 500 hsbw 4 callsubr endchar\n    1: glyph A - 5 S01 no such Subr\n       there is no Subr 4\n\nMended:\n\n    Subr 5: return\n    A: 0 500 hsbw 5 callsubr endchar\n\nCure: add the Subr, or mend the number. A number that isn't whole, as by `11 2 div`, names none.\n\nTo find the step: `t1disasm FONT TEXT`, of Debian's t1utils, writes dictionaries and charstrings as text, and\n`t1asm --pfb TEXT FONT` makes the font of it; where lenIV is -1 it leaves charstrings raw. Glyph A is below `/A {`, the Subr of PATH `5>6` below\n`dup 6 {`. `t1check --trace A FONT` numbers what is executed, Subrs too, as STEP does.",
 };
 
 fn s01() -> &'static Page {
@@ -392,7 +392,7 @@ static S02: Page = Page {
     code: "S02",
     anchor: "s02-calls-nested-too-deep",
     title: "calls nested too deep",
-    text: "Level *must*: interpreters stop at the call.\n\nTen calls may be inside one another, and interpreters have room for no more. Mostly a Subr calls itself, straight or by way of others,\nwhich no glyph can want.\n\n    Subr 5: 5 callsubr return\n    A: 0 500 hsbw 5 callsubr endchar\n    1: glyph A 5>5>5>5>5>5>5>5>5>5 25 S02 calls nested too deep\n       10 Subrs are being executed\n\nCure: mend the Subr's number; where chains of Subrs are really so long, put what the innermost ones do in their place.",
+    text: "Level *must* (Type 1 Format, chapter 6): interpreters stop at the call.\n\nTen calls may be inside one another. Mostly a Subr calls itself, straight or by way of others.\n\n    Subr 5: 5 callsubr return\n    A: 0 500 hsbw 5 callsubr endchar\n    1: glyph A 5>5>5>5>5>5>5>5>5>5 25 S02 calls nested too deep\n       10 Subrs are being executed\n\nMended:\n\n    Subr 5: return\n\nCure: mend the Subr's number; or put what the innermost Subrs do in their place.\n\nTo find the step: `t1disasm FONT TEXT`, of Debian's t1utils, writes dictionaries and charstrings as text, and\n`t1asm --pfb TEXT FONT` makes the font of it; where lenIV is -1 it leaves charstrings raw. Glyph A is below `/A {`, the Subr of PATH `5>6` below\n`dup 6 {`. `t1check --trace A FONT` numbers what is executed, Subrs too, as STEP does.",
 };
 
 fn s02() -> &'static Page {
@@ -403,7 +403,7 @@ static S03: Page = Page {
     code: "S03",
     anchor: "s03-return-outside-a-subr",
     title: "return outside a Subr",
-    text: "Level *must*: interpreters stop at the command, or leave it out.\n\n`return` goes back to the charstring that called. In a glyph there is none: interpreters stop with an error, or end the glyph there.\n\n    A: 0 500 hsbw return endchar\n    1: glyph A - 4 S03 return outside a Subr\n       no Subr is being executed\n\nCure: leave it out; where the glyph was to end there, write endchar.",
+    text: "Level *must* (Type 1 Format, chapter 6): interpreters stop at the command, or leave it out.\n\n`return` goes back to the charstring that called. In a glyph there is none.\n\n    A: 0 500 hsbw return endchar\n    1: glyph A - 4 S03 return outside a Subr\n       no Subr is being executed\n\nMended:\n\n    A: 0 500 hsbw endchar\n\nCure: remove it; where the glyph was to end there, write endchar.\n\nTo find the step: `t1disasm FONT TEXT`, of Debian's t1utils, writes dictionaries and charstrings as text, and\n`t1asm --pfb TEXT FONT` makes the font of it; where lenIV is -1 it leaves charstrings raw. Glyph A is below `/A {`, the Subr of PATH `5>6` below\n`dup 6 {`. `t1check --trace A FONT` numbers what is executed, Subrs too, as STEP does.",
 };
 
 fn s03() -> &'static Page {
@@ -414,7 +414,7 @@ static S04: Page = Page {
     code: "S04",
     anchor: "s04-subr-without-return",
     title: "Subr without return",
-    text: "Level *must*: interpreters stop at its end, or go on in the glyph.\n\nA Subr has to end with `return`, or end the glyph by endchar or seac. Without it an interpreter reads on after the Subr's bytes. The line\nis at the end of the bytes, which a trace writes as `end`; there is one for each call.\n\n    Subr 5: 100 hlineto\n    A: 0 500 hsbw 50 hmoveto 5 callsubr closepath endchar\n    1: glyph A 5 10 S04 Subr without return\n       Subr 5 ends\n\nCure: write `return` at the Subr's end; where its bytes were cut, take it from its source again.",
+    text: "Level *must* (Type 1 Format, chapter 6): interpreters stop at its end, or go on in the glyph.\n\nA Subr has to end with `return`, or end the glyph by endchar or seac. The line is at the end of the bytes, which a trace writes as `end`; there is one\nfor each call.\n\n    Subr 5: 100 hlineto\n    A: 0 500 hsbw 50 hmoveto 5 callsubr closepath endchar\n    1: glyph A 5 10 S04 Subr without return\n       Subr 5 ends\n\nMended:\n\n    Subr 5: 100 hlineto return\n\nCure: write `return` at the Subr's end; where its bytes were cut, take it from its source again.\n\nTo find the step: `t1disasm FONT TEXT`, of Debian's t1utils, writes dictionaries and charstrings as text, and\n`t1asm --pfb TEXT FONT` makes the font of it; where lenIV is -1 it leaves charstrings raw. Glyph A is below `/A {`, the Subr of PATH `5>6` below\n`dup 6 {`. `t1check --trace A FONT` numbers what is executed, Subrs too, as STEP does.",
 };
 
 fn s04() -> &'static Page {
@@ -425,7 +425,7 @@ static GE01: Page = Page {
     code: "GE01",
     anchor: "ge01-no-endchar",
     title: "no endchar",
-    text: "Level *must*: interpreters refuse the glyph, or draw what they have.\n\nA glyph has to end with endchar, or with seac. Without it an interpreter reads on after the glyph's bytes, or doesn't fill the outline. An\nempty charstring breaks this rule too.\n\n    A: 0 500 hsbw 50 hmoveto 100 hlineto closepath\n    1: glyph A - 9 GE01 no endchar\n\nCure: write endchar at the end; where the charstring was cut, take the font from its source again.",
+    text: "Level *must* (Type 1 Format, chapter 6): interpreters refuse the glyph, or draw what they have.\n\nA glyph has to end with endchar, or with seac. An empty charstring breaks this rule too.\n\n    A: 0 500 hsbw 50 hmoveto 100 hlineto closepath\n    1: glyph A - 9 GE01 no endchar\n\nMended:\n\n    A: 0 500 hsbw 50 hmoveto 100 hlineto closepath endchar\n\nCure: write endchar at the end; where the charstring was cut, take the font from its source again.\n\nTo find the step: `t1disasm FONT TEXT`, of Debian's t1utils, writes dictionaries and charstrings as text, and\n`t1asm --pfb TEXT FONT` makes the font of it; where lenIV is -1 it leaves charstrings raw. Glyph A is below `/A {`, the Subr of PATH `5>6` below\n`dup 6 {`. `t1check --trace A FONT` numbers what is executed, Subrs too, as STEP does.",
 };
 
 fn ge01() -> &'static Page {
@@ -436,7 +436,7 @@ static GE02: Page = Page {
     code: "GE02",
     anchor: "ge02-tokens-after-the-end",
     title: "tokens after the end",
-    text: "Level *tidy*: an interpreter has ended the glyph before.\n\nWhat follows endchar or seac is never executed. Either it is left over, or endchar comes too early and the rest of the outline is\nmissing. In a Subr one `return` may follow, since some tools end each Subr so.\n\n    A: 0 500 hsbw endchar 50 hmoveto 100 hlineto closepath endchar\n    1: glyph A - 4 GE02 tokens after the end\n       the number 50 comes next\n\nHow much it matters: what is left over does no harm, and 19 of 1,454 real fonts have it in 690 places. An endchar that comes too early loses a part\nof the glyph: look at it once.\n\nCure: leave out what follows, as an endchar after seac; or the endchar that comes too early.",
+    text: "Level *tidy* (Type 1 Format, chapter 6): an interpreter has ended the glyph before.\n\nWhat follows endchar or seac is never executed. Either it is left over, or endchar comes too early. In a Subr one `return` may follow, since some tools\nend each Subr so.\n\n    A: 0 500 hsbw endchar 50 hmoveto 100 hlineto closepath endchar\n    1: glyph A - 4 GE02 tokens after the end\n       the number 50 comes next\n\nMended:\n\n    A: 0 500 hsbw 50 hmoveto 100 hlineto closepath endchar\n\nHow much it matters: what is left over does no harm, and 19 of 1,454 real fonts have it in 690 places. An endchar that comes too early loses a part\nof the glyph: look at it once.\n\nCure: remove what follows, as an endchar after seac; or the endchar that comes too early.\n\nTo find the step: `t1disasm FONT TEXT`, of Debian's t1utils, writes dictionaries and charstrings as text, and\n`t1asm --pfb TEXT FONT` makes the font of it; where lenIV is -1 it leaves charstrings raw. Glyph A is below `/A {`, the Subr of PATH `5>6` below\n`dup 6 {`. `t1check --trace A FONT` numbers what is executed, Subrs too, as STEP does.",
 };
 
 fn ge02() -> &'static Page {
@@ -447,7 +447,7 @@ static W01: Page = Page {
     code: "W01",
     anchor: "w01-hsbw-or-sbw-not-first",
     title: "hsbw or sbw not first",
-    text: "Level *must*: interpreters refuse the glyph, or place it elsewhere.\n\nWithout a width in front an interpreter can't place the glyph: it stops with an error, or sets the glyph over the next one. Numbers, a call\nof a Subr and div may come before hsbw; the first clearing command has to be hsbw or sbw.\n\n    A: 50 hmoveto 100 hlineto closepath endchar\n    1: glyph A - 2 W01 hsbw or sbw not first\n       hmoveto is there\n\nCure: write the sidebearing and the width in front, as `0 500 hsbw`; where they come later, move them there.",
+    text: "Level *must* (Type 1 Format, chapter 6): interpreters refuse the glyph, or place it elsewhere.\n\nNumbers, calls of Subrs and div may come before; the first clearing command has to be hsbw or sbw.\n\n    A: 50 hmoveto 100 hlineto closepath endchar\n    1: glyph A - 2 W01 hsbw or sbw not first\n       hmoveto is there\n\nMended:\n\n    A: 0 500 hsbw 50 hmoveto 100 hlineto closepath endchar\n\nCure: write the sidebearing and the width first; where they come later, move them there.\n\nTo find the step: `t1disasm FONT TEXT`, of Debian's t1utils, writes dictionaries and charstrings as text, and\n`t1asm --pfb TEXT FONT` makes the font of it; where lenIV is -1 it leaves charstrings raw. Glyph A is below `/A {`, the Subr of PATH `5>6` below\n`dup 6 {`. `t1check --trace A FONT` numbers what is executed, Subrs too, as STEP does.",
 };
 
 fn w01() -> &'static Page {
@@ -458,7 +458,7 @@ static W02: Page = Page {
     code: "W02",
     anchor: "w02-hsbw-or-sbw-again",
     title: "hsbw or sbw again",
-    text: "Level *must*: interpreters draw the rest elsewhere, or refuse the glyph.\n\nA glyph has one width. A second hsbw sets the current point back as well, so that what is drawn after it moves. Where another clearing\ncommand comes before the only hsbw, there are two lines: W01 at that command, and W02 at hsbw.\n\n    A: 0 500 hsbw 0 600 hsbw endchar\n    1: glyph A - 6 W02 hsbw or sbw again\n       step 3 set the width\n\nCure: keep the one that is right; a Subr that is called twice, or for several glyphs, shouldn't have it.",
+    text: "Level *must* (Type 1 Format, chapter 6): interpreters draw the rest elsewhere, or refuse the glyph.\n\nA second hsbw sets the current point back as well. Where another clearing command comes before the only hsbw, there are two lines: W01 at that command,\nand W02 at hsbw.\n\n    A: 0 500 hsbw 0 600 hsbw endchar\n    1: glyph A - 6 W02 hsbw or sbw again\n       step 3 set the width\n\nMended:\n\n    A: 0 600 hsbw endchar\n\nCure: keep the one that is right; a Subr that is called twice, or for several glyphs, shouldn't have it.\n\nTo find the step: `t1disasm FONT TEXT`, of Debian's t1utils, writes dictionaries and charstrings as text, and\n`t1asm --pfb TEXT FONT` makes the font of it; where lenIV is -1 it leaves charstrings raw. Glyph A is below `/A {`, the Subr of PATH `5>6` below\n`dup 6 {`. `t1check --trace A FONT` numbers what is executed, Subrs too, as STEP does.",
 };
 
 fn w02() -> &'static Page {
@@ -469,7 +469,7 @@ static P01: Page = Page {
     code: "P01",
     anchor: "p01-drawing-without-a-move",
     title: "drawing without a move",
-    text: "Level *must*: interpreters begin the path at different points, or refuse the glyph.\n\nEach path begins with a move (rmoveto, hmoveto, vmoveto), the one after a closepath as well. Without it interpreters stop with an error, or\njoin this path to the one before. Each line and curve of such a path has its line in the report.\n\n    A: 0 500 hsbw 100 hlineto closepath endchar\n    1: glyph A - 5 P01 drawing without a move\n       no move so far\n\nCure: write a move in front; it may be `0 hmoveto`, which stays where it is. Flex counts as one curve: its seven moves begin no path.",
+    text: "Level *must* (Type 1 Format, chapter 6): interpreters begin the path at different points, or refuse the glyph.\n\nEach path begins with a move (rmoveto, hmoveto, vmoveto), the one after a closepath as well. Each line and curve of a path without one has its line in\nthe report.\n\n    A: 0 500 hsbw 100 hlineto closepath endchar\n    1: glyph A - 5 P01 drawing without a move\n       no move so far\n\nMended:\n\n    A: 0 500 hsbw 0 hmoveto 100 hlineto closepath endchar\n\nCure: write a move before it; it may be `0 hmoveto`, which stays where it is. Flex counts as one curve: its seven moves begin no path.\n\nTo find the step: `t1disasm FONT TEXT`, of Debian's t1utils, writes dictionaries and charstrings as text, and\n`t1asm --pfb TEXT FONT` makes the font of it; where lenIV is -1 it leaves charstrings raw. Glyph A is below `/A {`, the Subr of PATH `5>6` below\n`dup 6 {`. `t1check --trace A FONT` numbers what is executed, Subrs too, as STEP does.",
 };
 
 fn p01() -> &'static Page {
@@ -480,7 +480,7 @@ static P02: Page = Page {
     code: "P02",
     anchor: "p02-path-not-closed",
     title: "path not closed",
-    text: "Level *should*: a filled path looks the same, and one that is stroked stays open.\n\nclosepath is missing. A path that is filled is closed all the same, but where outlines are stroked (PaintType 2) the corner at its beginning\nstays open. After the last path it has to be there as well, before endchar. The reason says where the path's first line or curve begins, and where\nits last one ends.\n\n    A: 0 500 hsbw 50 hmoveto 100 hlineto endchar\n    1: glyph A - 8 P02 path not closed\n       from 50 0 to 150 0\n\nCure: write closepath before the command that the line names.",
+    text: "Level *should* (Type 1 Format, chapter 6): a filled path looks the same, and one that is stroked stays open.\n\nclosepath is missing, also before endchar. The reason says where the path's first line or curve begins, and where its last one ends.\n\n    A: 0 500 hsbw 50 hmoveto 100 hlineto endchar\n    1: glyph A - 8 P02 path not closed\n       from 50 0 to 150 0\n\nMended:\n\n    A: 0 500 hsbw 50 hmoveto 100 hlineto closepath endchar\n\nCure: write closepath before the command that the line names.\n\nTo find the step: `t1disasm FONT TEXT`, of Debian's t1utils, writes dictionaries and charstrings as text, and\n`t1asm --pfb TEXT FONT` makes the font of it; where lenIV is -1 it leaves charstrings raw. Glyph A is below `/A {`, the Subr of PATH `5>6` below\n`dup 6 {`. `t1check --trace A FONT` numbers what is executed, Subrs too, as STEP does.",
 };
 
 fn p02() -> &'static Page {
@@ -491,7 +491,7 @@ static P03: Page = Page {
     code: "P03",
     anchor: "p03-closepath-without-a-path",
     title: "closepath without a path",
-    text: "Level *tidy*: no interpreter draws anything for it.\n\nThere is nothing to close: a closepath occurs twice, or the lines and curves of the path are missing.\n\n    A: 0 500 hsbw 50 hmoveto closepath endchar\n    1: glyph A - 6 P03 closepath without a path\n       nothing is drawn so far\n\nHow much it matters: nothing different is drawn, unless lines are missing. No rule is broken more often: 13,842 times in 135 of 1,454 real fonts, and\n99 of these break no other rule, since some tools write each closepath twice.\n\nCure: leave the closepath out; or write what is missing. A move from which nothing is drawn can go as well, but the next one has to move as far as\nboth did: `50 hmoveto closepath 10 20 rmoveto` becomes `60 20 rmoveto`.",
+    text: "Level *tidy* (Type 1 Format, chapter 6): no interpreter draws anything for it.\n\nA closepath occurs twice, or the lines and curves of the path are missing.\n\n    A: 0 500 hsbw 50 hmoveto closepath endchar\n    1: glyph A - 6 P03 closepath without a path\n       nothing is drawn so far\n\nMended:\n\n    A: 0 500 hsbw 50 hmoveto 100 hlineto closepath endchar\n\nHow much it matters: nothing different is drawn, unless lines are missing. No rule is broken more often: 13,842 times in 135 of 1,454 real fonts, and\n99 of these break no other rule, since some tools write each closepath twice.\n\nCure: remove the closepath; or write what is missing. A move from which nothing is drawn can go as well, but the next one has to move as far as\nboth did: `50 hmoveto closepath 10 20 rmoveto` becomes `60 20 rmoveto`.\n\nTo find the step: `t1disasm FONT TEXT`, of Debian's t1utils, writes dictionaries and charstrings as text, and\n`t1asm --pfb TEXT FONT` makes the font of it; where lenIV is -1 it leaves charstrings raw. Glyph A is below `/A {`, the Subr of PATH `5>6` below\n`dup 6 {`. `t1check --trace A FONT` numbers what is executed, Subrs too, as STEP does.",
 };
 
 fn p03() -> &'static Page {
@@ -502,7 +502,7 @@ static H01: Page = Page {
     code: "H01",
     anchor: "h01-stem-after-drawing",
     title: "stem after drawing",
-    text: "Level *should*: hints have no effect on what was drawn before.\n\nA stem holds for what is drawn after it. Stems come before the first path. What was drawn before they came has other hints than what\nfollows, and rasterisers either ignore such a stem or distort the outline. Here the stem comes after the path that it was meant for.\n\n    A: 0 500 hsbw 50 hmoveto 100 hlineto closepath 0 20 hstem endchar\n    1: glyph A - 11 H01 stem after drawing\n       drawn at step 7\n\nCure: move the stem before the first path. Where it is meant for later paths alone, put it in a Subr, and replace the hints by that.",
+    text: "Level *should* (Type 1 Format, chapter 6): hints have no effect on what was drawn before.\n\nA stem holds for what is drawn after it. Rasterisers either ignore a later one or distort the outline.\n\n    A: 0 500 hsbw 50 hmoveto 100 hlineto closepath 0 20 hstem endchar\n    1: glyph A - 11 H01 stem after drawing\n       drawn at step 7\n\nMended:\n\n    A: 0 500 hsbw 0 20 hstem 50 hmoveto 100 hlineto closepath endchar\n\nCure: move the stem before the first path. Where it is meant for later paths alone, put it in a Subr, and replace the hints by that.\n\nTo find the step: `t1disasm FONT TEXT`, of Debian's t1utils, writes dictionaries and charstrings as text, and\n`t1asm --pfb TEXT FONT` makes the font of it; where lenIV is -1 it leaves charstrings raw. Glyph A is below `/A {`, the Subr of PATH `5>6` below\n`dup 6 {`. `t1check --trace A FONT` numbers what is executed, Subrs too, as STEP does.",
 };
 
 fn h01() -> &'static Page {
@@ -513,7 +513,7 @@ static H02: Page = Page {
     code: "H02",
     anchor: "h02-stems-overlap",
     title: "stems overlap",
-    text: "Level *should*: one of the stems has no effect, or both are moved against one another.\n\nOf two stems that overlap a rasteriser can't say which one an edge belongs to: it drops one, or moves an edge twice. Stems that only touch\ndon't overlap. A stem is compared with those of its own command, and with the first 96 of its direction since the glyph's beginning or the last\nhint replacement. The reason has the earliest of these that overlaps, and the step that set it, which may be the same. Here the first stem covers\n0 to 20, the second 15 to 35.\n\n    A: 0 500 hsbw 0 20 hstem 15 20 hstem endchar\n    1: glyph A - 9 H02 stems overlap\n       15 to 35 and 0 to 20, set at step 6, share 5\n\nA stem whose width is exactly -20 or -21 is compared by these numbers in edition 1, and overlaps nothing in the others. With\n`10 -20 hstem` for the second stem, which covers -10 to 10, the line is there in edition 1 alone.\n\nCure: put stems that overlap into hint sets of their own, by hint replacement; or leave one out. A Subr of stems that is called without a\nhint replacement adds them to those that hold. Where stems of one edge are meant, check by edition 2 or 3.",
+    text: "Level *should* (Type 1 Format, chapter 6): one of the stems has no effect, or both are moved against one another.\n\nOf two stems that overlap a rasteriser can't say which one an edge belongs to. Stems that only touch don't overlap. A stem is compared with those of its\nown command, and with the first 96 of its direction since the glyph's beginning or the last hint replacement. The reason names the first stem that\noverlaps and the step that set it. Both stems may be of one command.\n\n    A: 0 500 hsbw 0 20 hstem 15 20 hstem endchar\n    1: glyph A - 9 H02 stems overlap\n       15 to 35 and 0 to 20, set at step 6, share 5\n\nMended:\n\n    Subr 5: 15 20 hstem return\n    A: 0 500 hsbw 0 20 hstem 5 1 3 callothersubr pop callsubr endchar\n\nA *ghost hint*, whose width is exactly -20 or -21, is compared by these numbers in edition 1, and overlaps nothing in the others.\n\nHow much it matters: hints act at small sizes and low resolutions. 190 of 1,454 real fonts have 2,701 such lines, 1,903 of these in lmodern. Edition 2\nremoves only 24.\n\nCure: put the stems into hint sets of their own, by hint replacement, as in the mended example; or remove the one that no stroke has. A Subr of stems that is called\nwithout a hint replacement adds them to those that hold.\n\nTo find the step: `t1disasm FONT TEXT`, of Debian's t1utils, writes dictionaries and charstrings as text, and\n`t1asm --pfb TEXT FONT` makes the font of it; where lenIV is -1 it leaves charstrings raw. Glyph A is below `/A {`, the Subr of PATH `5>6` below\n`dup 6 {`. `t1check --trace A FONT` numbers what is executed, Subrs too, as STEP does.",
 };
 
 fn h02() -> &'static Page {
@@ -524,7 +524,7 @@ static H03: Page = Page {
     code: "H03",
     anchor: "h03-stem-of-zero-width",
     title: "stem of zero width",
-    text: "Level *should*: the hint has no effect.\n\nSuch a stem has no stroke. Mostly a width was rounded to 0, or a number was lost: the width of `20 hstem` is 0 as well, with C04 beside it.\n\n    A: 0 500 hsbw 100 0 vstem endchar\n    1: glyph A - 6 H03 stem of zero width\n       the stem is at 100\n\nCure: write the stroke's width, or leave the stem out. Where one edge alone is to be held, give the stem a small width.",
+    text: "Level *should* (Type 1 Format, chapter 6): the hint has no effect.\n\nMostly a width was rounded to 0, or a number was lost: the width of `20 hstem` is 0 as well, with C04 beside it.\n\n    A: 0 500 hsbw 100 0 vstem endchar\n    1: glyph A - 6 H03 stem of zero width\n       the stem is at 100\n\nMended:\n\n    A: 0 500 hsbw 100 20 vstem endchar\n\nHow much it matters: the edge gets no hint. 19 of 1,454 real fonts have 62 such stems.\n\nCure: write the stroke's width, or remove the stem. Where one edge alone is to be held, write a ghost hint, of width -20 or -21, and check by edition 2\nor 3.\n\nTo find the step: `t1disasm FONT TEXT`, of Debian's t1utils, writes dictionaries and charstrings as text, and\n`t1asm --pfb TEXT FONT` makes the font of it; where lenIV is -1 it leaves charstrings raw. Glyph A is below `/A {`, the Subr of PATH `5>6` below\n`dup 6 {`. `t1check --trace A FONT` numbers what is executed, Subrs too, as STEP does.",
 };
 
 fn h03() -> &'static Page {
@@ -535,7 +535,7 @@ static H04: Page = Page {
     code: "H04",
     anchor: "h04-unequal-stem3",
     title: "unequal stem3",
-    text: "Level *should*: the strokes may be drawn unequal at small sizes.\n\nhstem3 and vstem3 are for three strokes that a rasteriser keeps evenly apart, as those of `m` or of the sign `≡`: the outer two have to be\nequally wide, and the middle of the second has to be half-way between their middles. Otherwise it evens out what isn't even. The three are taken\nin the order in which they are written. Here the widths are 30, 30 and 40, and the middles 65, 165 and 270.\n\n    A: 0 500 hsbw 50 30 150 30 250 40 vstem3 endchar\n    1: glyph A - 10 H04 unequal stem3\n       widths 30 30 40, middles 65 165 270\n\nHow much it matters: often a middle was rounded. Of 195 such places in 1,454 real fonts, 169 had outer strokes of equal width and a middle at most\nhalf a unit off.\n\nCure: mend the numbers where the strokes are even, here `250 30` for the third; otherwise write three stems, each by a command of its own.",
+    text: "Level *should* (Type 1 Format, chapter 6): the strokes may be drawn unequal at small sizes.\n\nhstem3 and vstem3 are for three strokes that a rasteriser keeps evenly apart, as those of `m` or of the sign `≡`: the outer two have to be\nequally wide, and the middle of the second has to be half-way between their middles. The three are taken in the order in which they are written.\n\n    A: 0 500 hsbw 50 30 150 30 250 40 vstem3 endchar\n    1: glyph A - 10 H04 unequal stem3\n       widths 30 30 40, middles 65 165 270\n\nMended:\n\n    A: 0 500 hsbw 50 30 150 30 250 30 vstem3 endchar\n\nHow much it matters: often a middle was rounded. Of 195 such places in 1,454 real fonts, 169 had outer strokes of equal width and a middle at most\nhalf a unit off.\n\nCure: mend the numbers where the strokes are even; otherwise write three stems, each by a command of its own.\n\nTo find the step: `t1disasm FONT TEXT`, of Debian's t1utils, writes dictionaries and charstrings as text, and\n`t1asm --pfb TEXT FONT` makes the font of it; where lenIV is -1 it leaves charstrings raw. Glyph A is below `/A {`, the Subr of PATH `5>6` below\n`dup 6 {`. `t1check --trace A FONT` numbers what is executed, Subrs too, as STEP does.",
 };
 
 fn h04() -> &'static Page {
@@ -546,7 +546,7 @@ static R01: Page = Page {
     code: "R01",
     anchor: "r01-no-pop-after-hint-replacement",
     title: "no pop after hint replacement",
-    text: "Level *must*: a number is left over, which a later command takes.\n\nOtherSubr 3 takes a Subr's number and gives back the number to be called: that one, or 3, a Subr that does nothing, where an interpreter\ncan't replace hints. Without pop the answer isn't looked at. The line is at the step after callothersubr, whatever it is.\n\n    A: 0 500 hsbw 5 1 3 callothersubr endchar\n    1: glyph A - 8 R01 no pop after hint replacement\n       endchar is there\n\nCure: write `5 1 3 callothersubr pop callsubr`, with a Subr 5 that sets the stems.",
+    text: "Level *must* (Type 1 Format, chapter 8): a number is left over, which a later command takes.\n\nOtherSubr 3 takes a Subr's number and returns the number to be called: that one, or 3, a Subr that does nothing, where an interpreter can't replace\nhints. The line is at the step after callothersubr, whatever it is.\n\n    A: 0 500 hsbw 5 1 3 callothersubr endchar\n    1: glyph A - 8 R01 no pop after hint replacement\n       endchar is there\n\nMended:\n\n    Subr 5: 0 20 hstem return\n    A: 0 500 hsbw 5 1 3 callothersubr pop callsubr endchar\n\nCure: write the whole row of commands, with a Subr that sets the stems.\n\nTo find the step: `t1disasm FONT TEXT`, of Debian's t1utils, writes dictionaries and charstrings as text, and\n`t1asm --pfb TEXT FONT` makes the font of it; where lenIV is -1 it leaves charstrings raw. Glyph A is below `/A {`, the Subr of PATH `5>6` below\n`dup 6 {`. `t1check --trace A FONT` numbers what is executed, Subrs too, as STEP does.",
 };
 
 fn r01() -> &'static Page {
@@ -557,7 +557,7 @@ static R02: Page = Page {
     code: "R02",
     anchor: "r02-no-callsubr-after-hint-replacement",
     title: "no callsubr after hint replacement",
-    text: "Level *must*: hints of both parts apply at once, or a number is left over.\n\npop has put the number of the Subr on the stack, and callsubr has to follow at once: some interpreters know a hint replacement by this row of\ncommands. Each step counts, so a `return` in between breaks this rule as well. Here a move takes the number.\n\n    A: 0 500 hsbw 5 1 3 callothersubr pop hmoveto endchar\n    1: glyph A - 9 R02 no callsubr after hint replacement\n       hmoveto is there\n\nCure: write callsubr right after pop. Subr 4, which many fonts have for it, is `1 3 callothersubr pop callsubr return`.",
+    text: "Level *must* (Type 1 Format, chapter 8): hints of both parts apply at once, or a number is left over.\n\ncallsubr has to follow pop at once: some interpreters know a hint replacement by this row of commands. A `return` in between breaks this rule as well.\n\n    A: 0 500 hsbw 5 1 3 callothersubr pop hmoveto endchar\n    1: glyph A - 9 R02 no callsubr after hint replacement\n       hmoveto is there\n\nMended:\n\n    Subr 5: 0 20 hstem return\n    A: 0 500 hsbw 5 1 3 callothersubr pop callsubr endchar\n\nCure: write callsubr right after pop. Subr 4, which many fonts have for it, is `1 3 callothersubr pop callsubr return`.\n\nTo find the step: `t1disasm FONT TEXT`, of Debian's t1utils, writes dictionaries and charstrings as text, and\n`t1asm --pfb TEXT FONT` makes the font of it; where lenIV is -1 it leaves charstrings raw. Glyph A is below `/A {`, the Subr of PATH `5>6` below\n`dup 6 {`. `t1check --trace A FONT` numbers what is executed, Subrs too, as STEP does.",
 };
 
 fn r02() -> &'static Page {
@@ -568,7 +568,7 @@ static X01: Page = Page {
     code: "X01",
     anchor: "x01-flex-inside-flex",
     title: "flex inside flex",
-    text: "Level *must*: interpreters lose points of the curves.\n\nA flex can't hold another one. Interpreters count its points anew, or from the first start on, or stop with an error. Here the start occurs\ntwice.\n\n    A: 0 500 hsbw 0 hmoveto 0 1 callothersubr 0 1 callothersubr\n       1 hmoveto 0 2 callothersubr … (seven times) 50 7 0 3 0 callothersubr pop pop setcurrentpoint closepath endchar\n    1: glyph A - 11 X01 flex inside flex\n       the flex began at step 8\n\nCure: leave one start out; where the end of the flex before it is missing, write that.",
+    text: "Level *must* (Type 1 Format, chapter 8): interpreters lose points of the curves.\n\nA flex can't hold another one. Interpreters count its points anew, or from the first start on.\n\n    A: 0 500 hsbw 0 hmoveto 0 1 callothersubr 0 1 callothersubr\n       1 hmoveto 0 2 callothersubr … (seven times) 50 7 0 3 0 callothersubr pop pop setcurrentpoint closepath endchar\n    1: glyph A - 11 X01 flex inside flex\n       the flex began at step 8\n\nMended:\n\n    A: 0 500 hsbw 0 hmoveto 0 1 callothersubr\n       1 hmoveto 0 2 callothersubr … (seven times) 50 7 0 3 0 callothersubr pop pop setcurrentpoint closepath endchar\n\nCure: remove one start; where the end of the flex before it is missing, write that.\n\nTo find the step: `t1disasm FONT TEXT`, of Debian's t1utils, writes dictionaries and charstrings as text, and\n`t1asm --pfb TEXT FONT` makes the font of it; where lenIV is -1 it leaves charstrings raw. Glyph A is below `/A {`, the Subr of PATH `5>6` below\n`dup 6 {`. `t1check --trace A FONT` numbers what is executed, Subrs too, as STEP does.",
 };
 
 fn x01() -> &'static Page {
@@ -579,7 +579,7 @@ static X02: Page = Page {
     code: "X02",
     anchor: "x02-flex-call-outside-flex",
     title: "flex call outside flex",
-    text: "Level *must*: interpreters refuse the glyph, or move the point.\n\nA point or an end belongs to no flex: the start is missing, or the end occurs twice. Interpreters take points that were left in memory, or\nstop with an error.\n\n    A: 0 500 hsbw 0 2 callothersubr endchar\n    1: glyph A - 6 X02 flex call outside flex\n       OtherSubr 2 with no arguments, a point of a flex\n\nCure: write the start before the first of the seven moves; or leave the call out.",
+    text: "Level *must* (Type 1 Format, chapter 8): interpreters refuse the glyph, or move the point.\n\nA point or an end belongs to no flex: the start is missing, or the end occurs twice.\n\n    A: 0 500 hsbw 0 2 callothersubr endchar\n    1: glyph A - 6 X02 flex call outside flex\n       OtherSubr 2 with no arguments, a point of a flex\n\nMended:\n\n    A: 0 500 hsbw endchar\n\nCure: write the start before the first of the seven moves; or remove the call.\n\nTo find the step: `t1disasm FONT TEXT`, of Debian's t1utils, writes dictionaries and charstrings as text, and\n`t1asm --pfb TEXT FONT` makes the font of it; where lenIV is -1 it leaves charstrings raw. Glyph A is below `/A {`, the Subr of PATH `5>6` below\n`dup 6 {`. `t1check --trace A FONT` numbers what is executed, Subrs too, as STEP does.",
 };
 
 fn x02() -> &'static Page {
@@ -590,7 +590,7 @@ static X03: Page = Page {
     code: "X03",
     anchor: "x03-command-inside-flex",
     title: "command inside flex",
-    text: "Level *must*: interpreters lose points of the curves, or draw lines between them.\n\nBetween start and end only moves are allowed, with their points. What is drawn there is drawn before the flex, from wherever its moves have\nled, and a stem there is ignored or stops an interpreter. After a start whose end is missing each further clearing command but\na move has this line, endchar too. Here a line comes before the first move.\n\n    A: 0 500 hsbw 0 hmoveto 0 1 callothersubr 5 vlineto\n       1 hmoveto 0 2 callothersubr … (seven times) 50 7 5 3 0 callothersubr pop pop setcurrentpoint closepath endchar\n    1: glyph A - 10 X03 command inside flex\n       the flex began at step 8\n\nCure: move the command before the start or after the end; what belongs to the flex is written as moves.",
+    text: "Level *must* (Type 1 Format, chapter 8): interpreters lose points of the curves, or draw lines between them.\n\nBetween start and end only moves are allowed, with their points. After a start whose end is missing each further clearing command but a move has this\nline, endchar too.\n\n    A: 0 500 hsbw 0 hmoveto 0 1 callothersubr 5 vlineto\n       1 hmoveto 0 2 callothersubr … (seven times) 50 7 5 3 0 callothersubr pop pop setcurrentpoint closepath endchar\n    1: glyph A - 10 X03 command inside flex\n       the flex began at step 8\n\nMended:\n\n    A: 0 500 hsbw 0 hmoveto 5 vlineto 0 1 callothersubr\n       1 hmoveto 0 2 callothersubr … (seven times) 50 7 5 3 0 callothersubr pop pop setcurrentpoint closepath endchar\n\nCure: move the command before the start or after the end; what belongs to the flex is written as moves.\n\nTo find the step: `t1disasm FONT TEXT`, of Debian's t1utils, writes dictionaries and charstrings as text, and\n`t1asm --pfb TEXT FONT` makes the font of it; where lenIV is -1 it leaves charstrings raw. Glyph A is below `/A {`, the Subr of PATH `5>6` below\n`dup 6 {`. `t1check --trace A FONT` numbers what is executed, Subrs too, as STEP does.",
 };
 
 fn x03() -> &'static Page {
@@ -601,7 +601,7 @@ static X04: Page = Page {
     code: "X04",
     anchor: "x04-flex-points-are-not-seven-pairs",
     title: "flex points are not seven pairs",
-    text: "Level *must*: interpreters draw other curves, or refuse the glyph.\n\nEach point comes after one move, and there are seven of both: a reference point, and six points of two curves. Interpreters draw from what\nthey have counted, so one too many or too few spoils the rest of the glyph. A move without its point has a line at each later point and at\nthe end. Here there are six of both.\n\n    A: 0 500 hsbw 0 hmoveto 0 1 callothersubr\n       1 hmoveto 0 2 callothersubr … (six times) 50 6 0 3 0 callothersubr pop pop setcurrentpoint closepath endchar\n    1: glyph A - 44 X04 flex points are not seven pairs\n       6 moves and 6 points; 7 of each are needed\n\nCure: write a point after each move, and seven of both; a move that leads nowhere is `0 hmoveto`.",
+    text: "Level *must* (Type 1 Format, chapter 8): interpreters draw other curves, or refuse the glyph.\n\nEach point comes after one move, and there are seven of both. A move without its point has a line at each later point and at the end.\n\n    A: 0 500 hsbw 0 hmoveto 0 1 callothersubr\n       1 hmoveto 0 2 callothersubr … (six times) 50 6 0 3 0 callothersubr pop pop setcurrentpoint closepath endchar\n    1: glyph A - 44 X04 flex points are not seven pairs\n       6 moves and 6 points; 7 of each are needed\n\nMended:\n\n    A: 0 500 hsbw 0 hmoveto 0 1 callothersubr\n       1 hmoveto 0 2 callothersubr … (seven times) 50 7 0 3 0 callothersubr pop pop setcurrentpoint closepath endchar\n\nCure: write a point after each move, and seven of both; a move that leads nowhere is `0 hmoveto`.\n\nTo find the step: `t1disasm FONT TEXT`, of Debian's t1utils, writes dictionaries and charstrings as text, and\n`t1asm --pfb TEXT FONT` makes the font of it; where lenIV is -1 it leaves charstrings raw. Glyph A is below `/A {`, the Subr of PATH `5>6` below\n`dup 6 {`. `t1check --trace A FONT` numbers what is executed, Subrs too, as STEP does.",
 };
 
 fn x04() -> &'static Page {
@@ -612,7 +612,7 @@ static X05: Page = Page {
     code: "X05",
     anchor: "x05-flex-ends-elsewhere",
     title: "flex ends elsewhere",
-    text: "Level *must*: what comes after the curves is drawn elsewhere by some interpreters.\n\nThe end names the point where the flex ends, in the glyph's own coordinates, as hsbw and all moves, lines and curves before have led there.\nAn interpreter that draws the flex as a line takes this point, another one adds up the moves: if they differ, what follows is shifted, on one\ndevice and not on another. Here the seven moves lead to 7 0, and the end says 8 0.\n\n    A: 0 500 hsbw 0 hmoveto 0 1 callothersubr\n       1 hmoveto 0 2 callothersubr … (seven times) 50 8 0 3 0 callothersubr pop pop setcurrentpoint closepath endchar\n    1: glyph A - 49 X05 flex ends elsewhere\n       the pen is at 7 0, the end names 8 0\n\nCure: write the point where the reason says that the pen is, here `50 7 0`. The picture of the glyph, `t1draw A font.pfb`, says so too. Later flexes\nof the glyph were mostly counted on from the wrong point: their ends have this line then, and are mended in the same way. If with the new points the\npath no longer ends where it began, the old point was right: mend a move of the flex.\n\nhsbw begins at the sidebearing and 0, and closepath leaves the current point where it is. Where moves have fractions, by div, the point has to be\ntheir exact sum. To find the point by hand, begin with hsbw's first number and 0 (sbw's first two), and go through the glyph's trace,\n`t1check --trace A font.pfb`: rmoveto and rlineto add both numbers, hmoveto and hlineto the first to x, vmoveto and vlineto the first to y, rrcurveto\nits three pairs; vhcurveto adds its second and fourth number to x and its first and third to y, hvcurveto its first and second to x and its third and\nfourth to y. After the end of a flex count on from the point that it names, which setcurrentpoint sets.",
+    text: "Level *must* (Type 1 Format, chapter 8): what comes after the curves is drawn elsewhere by some interpreters.\n\nThe end names the point where the flex ends, in the glyph's own coordinates, as hsbw and all moves, lines and curves before have led there.\nAn interpreter that draws the flex as a line takes this point, another one adds up the moves: if they differ, what follows is shifted.\n\n    A: 0 500 hsbw 0 hmoveto 0 1 callothersubr\n       1 hmoveto 0 2 callothersubr … (seven times) 50 8 0 3 0 callothersubr pop pop setcurrentpoint closepath endchar\n    1: glyph A - 49 X05 flex ends elsewhere\n       the pen is at 7 0, the end names 8 0\n\nMended:\n\n    A: 0 500 hsbw 0 hmoveto 0 1 callothersubr\n       1 hmoveto 0 2 callothersubr … (seven times) 50 7 0 3 0 callothersubr pop pop setcurrentpoint closepath endchar\n\nCure: write the point where the reason says that the pen is. Later flexes of the glyph were mostly counted on from the wrong point: their ends have this\nline then, and are mended in the same way. If with the new points the path no longer ends where it began, the old point was right: mend a move of the\nflex.\n\nhsbw begins at the sidebearing and 0, and closepath leaves the current point where it is. Where moves have fractions, by div, the point has to be\ntheir exact sum.\n\nTo find the step: `t1disasm FONT TEXT`, of Debian's t1utils, writes dictionaries and charstrings as text, and\n`t1asm --pfb TEXT FONT` makes the font of it; where lenIV is -1 it leaves charstrings raw. Glyph A is below `/A {`, the Subr of PATH `5>6` below\n`dup 6 {`. `t1check --trace A FONT` numbers what is executed, Subrs too, as STEP does.",
 };
 
 fn x05() -> &'static Page {
@@ -623,7 +623,7 @@ static X06: Page = Page {
     code: "X06",
     anchor: "x06-setcurrentpoint-outside-flex",
     title: "setcurrentpoint outside flex",
-    text: "Level *must*: what comes after the curves is drawn elsewhere.\n\nsetcurrentpoint says where an OtherSubr has led to; it moves nothing by itself. It has its place after the end of a flex and\nthe two pops that fetch the point, and nowhere else.\n\n    A: 0 500 hsbw 50 0 setcurrentpoint endchar\n    1: glyph A - 6 X06 setcurrentpoint outside flex\n\nCure: write a move where one is meant. After the end of a flex write `pop pop setcurrentpoint`, with nothing between.",
+    text: "Level *must* (Type 1 Format, chapter 6): what comes after the curves is drawn elsewhere.\n\nsetcurrentpoint moves nothing by itself. Its one place is after the end of a flex and the two pops that fetch the point.\n\n    A: 0 500 hsbw 50 0 setcurrentpoint endchar\n    1: glyph A - 6 X06 setcurrentpoint outside flex\n\nMended:\n\n    A: 0 500 hsbw 50 hmoveto endchar\n\nCure: write a move where one is meant. After the end of a flex write `pop pop setcurrentpoint`, with nothing between.\n\nTo find the step: `t1disasm FONT TEXT`, of Debian's t1utils, writes dictionaries and charstrings as text, and\n`t1asm --pfb TEXT FONT` makes the font of it; where lenIV is -1 it leaves charstrings raw. Glyph A is below `/A {`, the Subr of PATH `5>6` below\n`dup 6 {`. `t1check --trace A FONT` numbers what is executed, Subrs too, as STEP does.",
 };
 
 fn x06() -> &'static Page {
@@ -634,7 +634,7 @@ static O01: Page = Page {
     code: "O01",
     anchor: "o01-unknown-othersubr",
     title: "unknown OtherSubr",
-    text: "Level *must*: interpreters do different things with the call.\n\nAn interpreter without PostScript doesn't know what the number means. It leaves the arguments for pop, or stops with an error, and the glyph\ndiffers between screen and paper. OtherSubrs 14 to 18, of multiple master fonts, are unknown here too.\n\n    A: 0 500 hsbw 0 4 callothersubr endchar\n    1: glyph A - 6 O01 unknown OtherSubr\n       OtherSubr 4 with no arguments\n\nCure: write what the OtherSubr does in commands of chapter 6; or mend the number.",
+    text: "Level *must* (Type 1 Format, chapter 8): interpreters do different things with the call.\n\nAn interpreter without PostScript doesn't know what the number means. OtherSubrs 14 to 18, of multiple master fonts, are unknown here too.\n\n    A: 0 500 hsbw 0 4 callothersubr endchar\n    1: glyph A - 6 O01 unknown OtherSubr\n       OtherSubr 4 with no arguments\n\nMended:\n\n    A: 0 500 hsbw endchar\n\nCure: write what the OtherSubr does in commands of chapter 6; or mend the number.\n\nTo find the step: `t1disasm FONT TEXT`, of Debian's t1utils, writes dictionaries and charstrings as text, and\n`t1asm --pfb TEXT FONT` makes the font of it; where lenIV is -1 it leaves charstrings raw. Glyph A is below `/A {`, the Subr of PATH `5>6` below\n`dup 6 {`. `t1check --trace A FONT` numbers what is executed, Subrs too, as STEP does.",
 };
 
 fn o01() -> &'static Page {
@@ -645,7 +645,7 @@ static O02: Page = Page {
     code: "O02",
     anchor: "o02-bad-othersubr-count",
     title: "bad OtherSubr count",
-    text: "Level *must*: interpreters stop at the call.\n\nThe number below the OtherSubr's says how many arguments it takes. If there aren't so many, an interpreter takes what an earlier command left\nin memory, or fails. Here the Subr's number is missing before a hint replacement.\n\n    A: 0 500 hsbw 1 3 callothersubr endchar\n    1: glyph A - 6 O02 bad OtherSubr count\n       the count is 1, none is there\n\nCure: write the arguments, then their count, then the number of the OtherSubr.",
+    text: "Level *must* (Type 1 Format, chapter 6): interpreters stop at the call.\n\nThe number below the OtherSubr's says how many arguments it takes. Here the Subr's number is missing before a hint replacement.\n\n    A: 0 500 hsbw 1 3 callothersubr endchar\n    1: glyph A - 6 O02 bad OtherSubr count\n       the count is 1, none is there\n\nMended:\n\n    Subr 5: return\n    A: 0 500 hsbw 5 1 3 callothersubr pop callsubr endchar\n\nCure: write the arguments, then their count, then the number of the OtherSubr.\n\nTo find the step: `t1disasm FONT TEXT`, of Debian's t1utils, writes dictionaries and charstrings as text, and\n`t1asm --pfb TEXT FONT` makes the font of it; where lenIV is -1 it leaves charstrings raw. Glyph A is below `/A {`, the Subr of PATH `5>6` below\n`dup 6 {`. `t1check --trace A FONT` numbers what is executed, Subrs too, as STEP does.",
 };
 
 fn o02() -> &'static Page {
@@ -656,7 +656,7 @@ static O03: Page = Page {
     code: "O03",
     anchor: "o03-wrong-count-for-this-othersubr",
     title: "wrong count for this OtherSubr",
-    text: "Level *must*: interpreters take other numbers, or stop at the call.\n\nOtherSubr 0 takes three arguments, 1 and 2 take none, and 3 takes one. With another count it isn't executed as what it is: here it ends no\nflex.\n\n    A: 0 500 hsbw 0 0 callothersubr endchar\n    1: glyph A - 6 O03 wrong count for this OtherSubr\n       OtherSubr 0 with no arguments; it takes 3\n\nCure: write the count that belongs to the OtherSubr, and so many arguments.",
+    text: "Level *must* (Type 1 Format, chapter 8): interpreters take other numbers, or stop at the call.\n\nOtherSubr 0 takes three arguments, 1 and 2 take none, and 3 takes one. With another count it isn't executed as what it is.\n\n    A: 0 500 hsbw 0 0 callothersubr endchar\n    1: glyph A - 6 O03 wrong count for this OtherSubr\n       OtherSubr 0 with no arguments; it takes 3\n\nMended:\n\n    A: 0 500 hsbw endchar\n\nCure: write the count that belongs to the OtherSubr, and so many arguments.\n\nTo find the step: `t1disasm FONT TEXT`, of Debian's t1utils, writes dictionaries and charstrings as text, and\n`t1asm --pfb TEXT FONT` makes the font of it; where lenIV is -1 it leaves charstrings raw. Glyph A is below `/A {`, the Subr of PATH `5>6` below\n`dup 6 {`. `t1check --trace A FONT` numbers what is executed, Subrs too, as STEP does.",
 };
 
 fn o03() -> &'static Page {
@@ -667,7 +667,7 @@ static O04: Page = Page {
     code: "O04",
     anchor: "o04-pop-of-nothing",
     title: "pop of nothing",
-    text: "Level *must*: interpreters stop there, or go on with any number.\n\npop fetches a result of an OtherSubr. Where none waits, an interpreter fetches what was left there before, or fails. The end of a flex leaves\ntwo results, a hint replacement one, the start and the points none.\n\n    A: 0 500 hsbw pop endchar\n    1: glyph A - 4 O04 pop of nothing\n\nCure: leave the pop out, or write the callothersubr before it.",
+    text: "Level *must* (Type 1 Format, chapter 6): interpreters stop there, or go on with any number.\n\npop fetches a result of an OtherSubr. The end of a flex leaves two results, a hint replacement one, the start and the points none.\n\n    A: 0 500 hsbw pop endchar\n    1: glyph A - 4 O04 pop of nothing\n\nMended:\n\n    A: 0 500 hsbw endchar\n\nCure: remove the pop, or write the callothersubr before it.\n\nTo find the step: `t1disasm FONT TEXT`, of Debian's t1utils, writes dictionaries and charstrings as text, and\n`t1asm --pfb TEXT FONT` makes the font of it; where lenIV is -1 it leaves charstrings raw. Glyph A is below `/A {`, the Subr of PATH `5>6` below\n`dup 6 {`. `t1check --trace A FONT` numbers what is executed, Subrs too, as STEP does.",
 };
 
 fn o04() -> &'static Page {
@@ -678,7 +678,7 @@ static K01: Page = Page {
     code: "K01",
     anchor: "k01-seac-code-is-not-0-to-255",
     title: "seac code is not 0 to 255",
-    text: "Level *must*: interpreters refuse the glyph.\n\nAn interpreter looks a code up in a table of 256 names. Past its end it finds nothing, or whatever is in memory. The code of a fraction is\nnone.\n\n    C: 0 500 hsbw 7 0 0 65 256 seac\n    1: glyph C - 9 K01 seac code is not 0 to 255\n       the accent's code is 256\n\nCure: write the code that the component's name has in StandardEncoding.",
+    text: "Level *must* (Type 1 Format, chapter 6): interpreters refuse the glyph.\n\nAn interpreter looks a code up in a table of 256 names. A fraction is no code.\n\n    C: 0 500 hsbw 7 0 0 65 256 seac\n    1: glyph C - 9 K01 seac code is not 0 to 255\n       the accent's code is 256\n\nMended:\n\n    C: 0 500 hsbw 7 0 0 65 66 seac\n\nCure: write the code that the component's name has in StandardEncoding.\n\nTo find the step: `t1disasm FONT TEXT`, of Debian's t1utils, writes dictionaries and charstrings as text, and\n`t1asm --pfb TEXT FONT` makes the font of it; where lenIV is -1 it leaves charstrings raw. Glyph A is below `/A {`, the Subr of PATH `5>6` below\n`dup 6 {`. `t1check --trace A FONT` numbers what is executed, Subrs too, as STEP does.",
 };
 
 fn k01() -> &'static Page {
@@ -689,7 +689,7 @@ static K02: Page = Page {
     code: "K02",
     anchor: "k02-seac-code-not-in-standardencoding",
     title: "seac code not in StandardEncoding",
-    text: "Level *must*: a part of the glyph is missing.\n\nThere is no component: the accent is left out, or the interpreter stops with an error. Mostly the code is of another table, as the font's own\nEncoding. Here 146 is acute in ISOLatin1Encoding; in StandardEncoding that is 194. A code that is missing counts as 0, which has no name.\n\n    C: 0 500 hsbw 7 0 0 65 146 seac\n    1: glyph C - 9 K02 seac code not in StandardEncoding\n       the accent's code 146 has no name\n\nCure: write the code of StandardEncoding. A character whose parts aren't both there can't be made by seac: draw it as one outline.",
+    text: "Level *must* (Type 1 Format, chapter 6): a part of the glyph is missing.\n\nMostly the code is of another table, as the font's own Encoding. Here 146 is acute in ISOLatin1Encoding; in StandardEncoding that is 194. A code that is\nmissing counts as 0, which has no name.\n\n    C: 0 500 hsbw 7 0 0 65 146 seac\n    1: glyph C - 9 K02 seac code not in StandardEncoding\n       the accent's code 146 has no name\n\nMended:\n\n    acute: 7 500 hsbw endchar\n    C: 0 500 hsbw 7 0 0 65 194 seac\n\nCure: write the code of StandardEncoding. A character whose parts aren't both there can't be made by seac: draw it as one outline.\n\nTo find the step: `t1disasm FONT TEXT`, of Debian's t1utils, writes dictionaries and charstrings as text, and\n`t1asm --pfb TEXT FONT` makes the font of it; where lenIV is -1 it leaves charstrings raw. Glyph A is below `/A {`, the Subr of PATH `5>6` below\n`dup 6 {`. `t1check --trace A FONT` numbers what is executed, Subrs too, as STEP does.",
 };
 
 fn k02() -> &'static Page {
@@ -700,7 +700,7 @@ static K03: Page = Page {
     code: "K03",
     anchor: "k03-seac-component-missing",
     title: "seac component missing",
-    text: "Level *must*: a part of the glyph is missing, or interpreters refuse it.\n\nStandardEncoding names the component, but the font has no glyph of that name: the character is drawn without it, or not at all. Mostly a tool\nthat took glyphs out of the font looked at the characters in use, and not at their parts. Here acute isn't in the font.\n\n    C: 0 500 hsbw 7 0 0 65 194 seac\n    1: glyph C - 9 K03 seac component missing\n       the accent's code 194 is acute, which is no glyph\n\nCure: put the glyph back; or draw the character as one outline.",
+    text: "Level *must* (Type 1 Format, chapter 6): a part of the glyph is missing, or interpreters refuse it.\n\nMostly a tool that took glyphs out of the font looked at the characters in use, and not at their parts. Here acute isn't in the font.\n\n    C: 0 500 hsbw 7 0 0 65 194 seac\n    1: glyph C - 9 K03 seac component missing\n       the accent's code 194 is acute, which is no glyph\n\nMended:\n\n    acute: 7 500 hsbw endchar\n\nCure: put the glyph back; or draw the character as one outline.\n\nTo find the step: `t1disasm FONT TEXT`, of Debian's t1utils, writes dictionaries and charstrings as text, and\n`t1asm --pfb TEXT FONT` makes the font of it; where lenIV is -1 it leaves charstrings raw. Glyph A is below `/A {`, the Subr of PATH `5>6` below\n`dup 6 {`. `t1check --trace A FONT` numbers what is executed, Subrs too, as STEP does.",
 };
 
 fn k03() -> &'static Page {
@@ -711,7 +711,7 @@ static K04: Page = Page {
     code: "K04",
     anchor: "k04-seac-of-a-seac",
     title: "seac of a seac",
-    text: "Level *must*: interpreters refuse the glyph, or draw a part of it.\n\nA component must be drawn by commands of its own. Many interpreters can't execute a seac inside of another, and stop, or draw the wrong part.\nA glyph that names itself has this line too. A seac after the step limit of the edition counts as none. Here the accent is an accented character\nitself.\n\n    C: 0 500 hsbw 7 0 0 65 66 seac\n    D: 0 500 hsbw 0 0 0 65 67 seac\n    1: glyph D - 9 K04 seac of a seac\n       the base's code 65 is A and the accent's code 67 is C\n\nCure: name the parts that have an outline; if there are three, draw the character as one outline.",
+    text: "Level *must* (Type 1 Format, chapter 6): interpreters refuse the glyph, or draw a part of it.\n\nA component must be drawn by commands of its own. A glyph that names itself has this line too. A seac after the step limit of the edition counts as\nnone.\n\n    C: 0 500 hsbw 7 0 0 65 66 seac\n    D: 0 500 hsbw 0 0 0 65 67 seac\n    1: glyph D - 9 K04 seac of a seac\n       the base's code 65 is A and the accent's code 67 is C\n\nMended:\n\n    D: 0 500 hsbw 7 0 0 65 66 seac\n\nCure: name the parts that have an outline; if there are three, draw the character as one outline.\n\nTo find the step: `t1disasm FONT TEXT`, of Debian's t1utils, writes dictionaries and charstrings as text, and\n`t1asm --pfb TEXT FONT` makes the font of it; where lenIV is -1 it leaves charstrings raw. Glyph A is below `/A {`, the Subr of PATH `5>6` below\n`dup 6 {`. `t1check --trace A FONT` numbers what is executed, Subrs too, as STEP does.",
 };
 
 fn k04() -> &'static Page {
@@ -722,7 +722,7 @@ static K05: Page = Page {
     code: "K05",
     anchor: "k05-accent-sidebearing-differs",
     title: "accent sidebearing differs",
-    text: "Level *must*: interpreters put the accent at different places.\n\nThe standard wants ASB to be the sidebearing that the accent's own hsbw or sbw says. Some interpreters place the accent by ASB and others by the\naccent's own. If they differ, the accent is further left or right on one device than on another. The base's sidebearing is nothing to this rule, nor\nis one that the accent sets after the step limit of the edition.\n\n    C: 0 500 hsbw 9 0 0 65 66 seac\n    1: glyph C - 9 K05 accent sidebearing differs\n       seac says 9, the accent's sidebearing is 7\n\nCure: write the accent's sidebearing for ASB, here 7. If it was changed by editing the accent, mend each seac that names it, and ADX with it\nwhere the accent should stay in its place.",
+    text: "Level *must* (Type 1 Format, chapter 6): interpreters put the accent at different places.\n\nASB has to be the sidebearing of the accent's own hsbw or sbw: some interpreters place the accent by the one, others by the other. Only the accent's\nsidebearing counts, and only if it is set within the step limit.\n\n    C: 0 500 hsbw 9 0 0 65 66 seac\n    1: glyph C - 9 K05 accent sidebearing differs\n       seac says 9, the accent's sidebearing is 7\n\nMended:\n\n    C: 0 500 hsbw 7 0 0 65 66 seac\n\nCure: write the accent's sidebearing for ASB. If it was changed by editing the accent, mend each seac that names it, and ADX with it where the accent\nshould stay in its place.\n\nTo find the step: `t1disasm FONT TEXT`, of Debian's t1utils, writes dictionaries and charstrings as text, and\n`t1asm --pfb TEXT FONT` makes the font of it; where lenIV is -1 it leaves charstrings raw. Glyph A is below `/A {`, the Subr of PATH `5>6` below\n`dup 6 {`. `t1check --trace A FONT` numbers what is executed, Subrs too, as STEP does.",
 };
 
 fn k05() -> &'static Page {
@@ -733,7 +733,7 @@ static K06: Page = Page {
     code: "K06",
     anchor: "k06-seac-beside-other-commands",
     title: "seac beside other commands",
-    text: "Level *must*: interpreters draw the other commands, or leave them out.\n\nseac is the whole of its glyph: only the width comes before it, by hsbw or sbw. Outlines and stems come from the components; what the\nglyph draws besides is drawn or dropped, and a stem of it is a hint for an outline that isn't its own. A move counts, in a flex too.\n\n    C: 0 500 hsbw 10 20 hstem 7 0 0 65 66 seac\n    1: glyph C - 12 K06 seac beside other commands\n       an outline or a stem at step 6\n\nCure: leave the other commands out; or draw the character as one outline.",
+    text: "Level *must* (Type 1 Format, chapter 6): interpreters draw the other commands, or leave them out.\n\nseac is the whole of its glyph: only the width comes before it, by hsbw or sbw. Outlines and stems come from the components. A move counts, in a flex\ntoo.\n\n    C: 0 500 hsbw 10 20 hstem 7 0 0 65 66 seac\n    1: glyph C - 12 K06 seac beside other commands\n       an outline or a stem at step 6\n\nMended:\n\n    C: 0 500 hsbw 7 0 0 65 66 seac\n\nCure: remove the other commands; or draw the character as one outline.\n\nTo find the step: `t1disasm FONT TEXT`, of Debian's t1utils, writes dictionaries and charstrings as text, and\n`t1asm --pfb TEXT FONT` makes the font of it; where lenIV is -1 it leaves charstrings raw. Glyph A is below `/A {`, the Subr of PATH `5>6` below\n`dup 6 {`. `t1check --trace A FONT` numbers what is executed, Subrs too, as STEP does.",
 };
 
 fn k06() -> &'static Page {
@@ -744,7 +744,7 @@ static K07: Page = Page {
     code: "K07",
     anchor: "k07-seac-component-without-sidebearing",
     title: "seac component without sidebearing",
-    text: "Level *must*: interpreters put the part at different places, or refuse the glyph.\n\nA component wants its hsbw or sbw like every glyph: seac places the accent by its sidebearing, and where none is set the place is open. The\ncomponent has a line as well, mostly W01. hsbw or sbw after the step limit of the edition counts as none. Here `B` is `endchar` alone.\n\n    C: 0 500 hsbw 7 0 0 65 66 seac\n    1: glyph B - 1 W01 hsbw or sbw not first\n       endchar is there\n    2: glyph C - 9 K07 seac component without sidebearing\n       the base's code 65 is A and the accent's code 66 is B\n\nCure: write hsbw or sbw first in the component.",
+    text: "Level *must* (Type 1 Format, chapter 6): interpreters put the part at different places, or refuse the glyph.\n\nseac places the accent by its sidebearing. The component has a line as well, mostly W01. hsbw or sbw after the step limit of the edition counts as none.\n\n    B: endchar\n    C: 0 500 hsbw 7 0 0 65 66 seac\n    1: glyph B - 1 W01 hsbw or sbw not first\n       endchar is there\n    2: glyph C - 9 K07 seac component without sidebearing\n       the base's code 65 is A and the accent's code 66 is B\n\nMended:\n\n    B: 7 500 hsbw endchar\n\nCure: write hsbw or sbw first in the component.\n\nTo find the step: `t1disasm FONT TEXT`, of Debian's t1utils, writes dictionaries and charstrings as text, and\n`t1asm --pfb TEXT FONT` makes the font of it; where lenIV is -1 it leaves charstrings raw. Glyph A is below `/A {`, the Subr of PATH `5>6` below\n`dup 6 {`. `t1check --trace A FONT` numbers what is executed, Subrs too, as STEP does.",
 };
 
 fn k07() -> &'static Page {
@@ -755,7 +755,7 @@ static L01: Page = Page {
     code: "L01",
     anchor: "l01-step-limit",
     title: "step limit",
-    text: "Level *must*: the glyph isn't checked further, and an interpreter may take as long.\n\nThe first 100,000 steps of a glyph are checked, or 1,000,000 in editions 2 and 3, and then it is left: what comes after\nthem isn't known. Real glyphs have some hundreds; but a few Subrs that call one another make a charstring that keeps a printer busy for a long\ntime. STEP and PATH are those of the first step that isn't checked. Here Subr 1 is ten times dotsection, and return; Subr 2 is ten times\n`1 callsubr`, and return; Subr 3 calls Subr 2 in this way, Subr 4 calls Subr 3, and Subr 5 calls Subr 4.\n\n    Subr 5: 4 callsubr … 4 callsubr return\n    A: 0 500 hsbw 5 callsubr endchar\n    1: glyph A 5>4>3>2>1 100001 L01 step limit\n       more than 100000 steps\n\n`A` has 133,337 steps. In edition 2 the font is clean; there the line of a glyph of more than 1,000,000 has the step 1000001.\n\nCure: `--trace A` shows which Subrs are executed again and again; mend their numbers. Where so many steps are meant, check by edition 2 or 3, or waive\nthe rule for this glyph.",
+    text: "Level *must* (our own rule): the glyph isn't checked further, and an interpreter may take as long.\n\nThe first 100,000 steps of a glyph are checked, or 1,000,000 in editions 2 and 3. Real glyphs have some hundreds; but a few Subrs\nthat call one another keep a printer busy for a long time. STEP and PATH are those of the first step that isn't checked.\n\n    Subr 1: dotsection … (ten times) return\n    Subr 2: 1 callsubr … (ten times) return\n    Subr 3: 2 callsubr … (ten times) return\n    Subr 4: 3 callsubr … (ten times) return\n    Subr 5: 4 callsubr … (ten times) return\n    A: 0 500 hsbw 5 callsubr endchar\n    1: glyph A 5>4>3>2>1 100001 L01 step limit\n       more than 100000 steps\n\nMended:\n\n    A: 0 500 hsbw 4 callsubr endchar\n\n`A` has 133,337 steps. In edition 2 the font is clean.\n\nCure: `--trace A` shows which Subrs are executed again and again; mend their numbers. Where so many steps are meant, check by edition 2 or 3, or waive\nthe rule for this glyph.\n\nTo find the step: `t1disasm FONT TEXT`, of Debian's t1utils, writes dictionaries and charstrings as text, and\n`t1asm --pfb TEXT FONT` makes the font of it; where lenIV is -1 it leaves charstrings raw. Glyph A is below `/A {`, the Subr of PATH `5>6` below\n`dup 6 {`. `t1check --trace A FONT` numbers what is executed, Subrs too, as STEP does.",
 };
 
 fn l01() -> &'static Page {
@@ -766,7 +766,7 @@ static U01: Page = Page {
     code: "U01",
     anchor: "u01-waiver-not-used",
     title: "waiver not used",
-    text: "Level *should*: a waiver says more than the font needs, so a fault that comes back is hidden.\n\nThe waiver matches nothing: the font has no glyph of that name, or the glyph doesn't break that rule. The fault was mended, or the glyph was\nrenamed or taken out. Or the name or the code is misspelled, also by a byte order mark before the first name, which isn't\nseen. Or the edition is another one. So no waiver stays in the file that might later hide a fault that nobody means. The whole font decides, also\nwhere `--after` and `--max` leave lines out. A waiver that occurs twice in the file has one line, by its first place. Here the file has the two lines\n`A GE01` and `A C05`.\n\n    A: 0 500 hsbw\n    1: waiver A C05 U01 waiver not used\n       no step of the glyph breaks this rule\n\nCure: take the line out of the file, each time that it occurs there, or mend its name or its code.",
+    text: "Level *should* (our own rule): a waiver says more than the font needs, so a fault that comes back is hidden.\n\nThe waiver matches nothing: the fault was mended, or the glyph was renamed or removed. Or the name or the code is misspelled, also by a byte order mark\nbefore the first name, which isn't seen. Or the edition is another one. So a waiver goes when its fault goes, and can't hide a new one. The whole font\ndecides, also where `--after` and `--max` omit lines. A waiver that occurs twice in the file has one line, by its first place. Here the file has the two\nlines `A GE01` and `A C05`.\n\n    A: 0 500 hsbw\n    1: waiver A C05 U01 waiver not used\n       no step of the glyph breaks this rule\n\nMended:\n\n    sed -i '/^A C05$/d' font.pfb.waivers\n\nCure: remove the line, each time that it occurs there, or mend its name or its code.",
 };
 
 fn u01() -> &'static Page {
@@ -777,7 +777,7 @@ static F15: Page = Page {
     code: "F15",
     anchor: "f15-fontmatrix-is-not-six-numbers",
     title: "FontMatrix is not six numbers",
-    text: "Level *should*: without the entry an interpreter refuses the font; one that t1check can't read may be right.\n\nFontMatrix says how units of glyph space become units of the page; nearly every font has 1,000 units to the em. A rasteriser multiplies each\ncoordinate by it. With another count of numbers it stops with an error, or draws nothing. Here the last number is missing.\n\n    /FontMatrix [0.001 0 0 0.001 0] def\n    1: font FontMatrix 0 F15 FontMatrix is not six numbers\n       FontMatrix has 5 numbers; 6 are needed\n\nA number with an exponent is right in PostScript, but it is a word here, and so the list is none of numbers:\n\n    /FontMatrix [1e-3 0 0 1e-3 0 0] def\n    1: font FontMatrix 0 F15 FontMatrix is not six numbers\n       FontMatrix is no list of numbers\n\nCure: `/FontMatrix [0.001 0 0 0.001 0 0] def` in the clear text, or your font's own six numbers, without exponents.",
+    text: "Level *should* (Type 1 Format, chapter 2): without the entry an interpreter refuses the font; one that t1check can't read may be right.\n\nFontMatrix says how units of glyph space become units of the page; nearly every font has 1,000 units to the em. A rasteriser multiplies each\ncoordinate by it. With another count of numbers it stops with an error, or draws nothing. Here the last number is missing.\n\n    /FontMatrix [0.001 0 0 0.001 0] def\n    1: font FontMatrix 0 F15 FontMatrix is not six numbers\n       FontMatrix has 5 numbers; 6 are needed\n\nMended:\n\n    /FontMatrix [0.001 0 0 0.001 0 0] def\n\nA number with an exponent is right in PostScript, but it is a word here, and so the list is none of numbers:\n\n    /FontMatrix [1e-3 0 0 1e-3 0 0] def\n    1: font FontMatrix 0 F15 FontMatrix is not six numbers\n       FontMatrix is no list of numbers\n\nCure: `/FontMatrix [0.001 0 0 0.001 0 0] def` in the clear text, or your font's own six numbers, without exponents.",
 };
 
 fn f15() -> &'static Page {
@@ -788,7 +788,7 @@ static F16: Page = Page {
     code: "F16",
     anchor: "f16-fontbbox-is-not-four-numbers",
     title: "FontBBox is not four numbers",
-    text: "Level *must*: an interpreter refuses the font, or cuts glyphs off.\n\nFontBBox is the box that encloses all glyphs: left, bottom, right and top. A rasteriser reserves room for a glyph by it. Without the entry an\ninterpreter fails, or guesses. Here the top is missing.\n\n    /FontBBox {0 0 1000} def\n    1: font FontBBox 0 F16 FontBBox is not four numbers\n       FontBBox has 3 numbers; 4 are needed\n\nCure: write four numbers, in the clear text. `{0 0 0 0}` says that the box isn't known.",
+    text: "Level *must* (Type 1 Format, chapter 2): an interpreter refuses the font, or cuts glyphs off.\n\nFontBBox is the box that encloses all glyphs: left, bottom, right and top. A rasteriser reserves room for a glyph by it. Without the entry an\ninterpreter fails, or guesses. Here the top is missing.\n\n    /FontBBox {0 0 1000} def\n    1: font FontBBox 0 F16 FontBBox is not four numbers\n       FontBBox has 3 numbers; 4 are needed\n\nMended:\n\n    /FontBBox {0 0 1000 1000} def\n\nCure: write four numbers, in the clear text. `{0 0 0 0}` says that the box isn't known.",
 };
 
 fn f16() -> &'static Page {
@@ -799,7 +799,7 @@ static F17: Page = Page {
     code: "F17",
     anchor: "f17-fontbbox-has-its-corners-exchanged",
     title: "FontBBox has its corners exchanged",
-    text: "Level *should*: glyphs may be cut off, or not be drawn.\n\nThe lower left corner comes first. If its x is greater than that of the other corner the line has the index 0, and if its y is greater the index 1.\nSuch a box encloses nothing, so a rasteriser that trusts it reserves no room. Here left is 10 and right is 5.\n\n    /FontBBox {10 0 5 1000} def\n    1: font FontBBox 0 F17 FontBBox has its corners exchanged\n       10 is above 5\n\nCure: write the lesser x and the lesser y first, here `{5 0 10 1000}`.",
+    text: "Level *should* (Type 1 Format, chapter 2): glyphs may be cut off, or not be drawn.\n\nThe lower left corner comes first. If its x is greater than that of the other corner the line has the index 0, and if its y is greater the index 1.\nSuch a box encloses nothing, so a rasteriser that trusts it reserves no room. Here left is 10 and right is 5.\n\n    /FontBBox {10 0 5 1000} def\n    1: font FontBBox 0 F17 FontBBox has its corners exchanged\n       10 is above 5\n\nMended:\n\n    /FontBBox {5 0 10 1000} def\n\nCure: write the lesser x and the lesser y first, here `{5 0 10 1000}`.",
 };
 
 fn f17() -> &'static Page {
@@ -810,7 +810,7 @@ static F18: Page = Page {
     code: "F18",
     anchor: "f18-xuid-malformed",
     title: "XUID malformed",
-    text: "Level *tidy*: glyphs are drawn, but a printer can't keep them under this number.\n\nXUID is a list of numbers that stands for the font, as UniqueID does. An interpreter that keeps drawn glyphs looks for them by it. It has to be a list\nwith at least one number. A number of ten digits or more isn't read here, so the list is none of numbers.\n\n    /XUID [] def\n    1: font XUID 0 F18 XUID malformed\n       XUID has no numbers\n\nCure: leave the entry out; or write the list that is registered for the font.",
+    text: "Level *tidy* (our own rule): glyphs are drawn, but a printer can't keep them under this number.\n\nXUID is a list of numbers that identifies the font, as UniqueID does. An interpreter that keeps drawn glyphs looks for them by it. It has to be a list\nwith at least one number. A number of ten digits or more isn't read here, so the list is none of numbers.\n\n    /XUID [] def\n    1: font XUID 0 F18 XUID malformed\n       XUID has no numbers\n\nMended:\n\n    /XUID [1000] def\n\nCure: leave the entry out; or write the list that is registered for the font.",
 };
 
 fn f18() -> &'static Page {
@@ -821,7 +821,7 @@ static F19: Page = Page {
     code: "F19",
     anchor: "f19-xuid-number-out-of-range",
     title: "XUID number out of range",
-    text: "Level *tidy*: glyphs are drawn, but may be kept under a wrong number, or not be kept.\n\nEach number has 24 bits, as a UniqueID has. A rasteriser that stores it so mixes up fonts whose numbers differ elsewhere. The first 16 numbers are\nlooked at. INDEX is the number's place.\n\n    /XUID [1000 -1 2.5 16777216] def\n    1: font XUID 1 F19 XUID number out of range\n       -1; a whole number from 0 to 16777215 is needed\n    2: font XUID 2 F19 XUID number out of range\n       2.5; a whole number from 0 to 16777215 is needed\n    3: font XUID 3 F19 XUID number out of range\n       16777216; a whole number from 0 to 16777215 is needed\n\nCure: mend the number, or leave the entry out.",
+    text: "Level *tidy* (our own rule): glyphs are drawn, but may be kept under a wrong number, or not be kept.\n\nEach number has 24 bits, as a UniqueID has. A rasteriser that stores it so mixes up fonts whose numbers differ elsewhere. The first 16 numbers are\nlooked at. INDEX is the number's place.\n\n    /XUID [1000 -1 2.5 16777216] def\n    1: font XUID 1 F19 XUID number out of range\n       -1; a whole number from 0 to 16777215 is needed\n    2: font XUID 2 F19 XUID number out of range\n       2.5; a whole number from 0 to 16777215 is needed\n    3: font XUID 3 F19 XUID number out of range\n       16777216; a whole number from 0 to 16777215 is needed\n\nMended:\n\n    /XUID [1000 1 2 3] def\n\nCure: mend the number, or leave the entry out.",
 };
 
 fn f19() -> &'static Page {
@@ -832,7 +832,7 @@ static F20: Page = Page {
     code: "F20",
     anchor: "f20-languagegroup-is-not-0-or-1",
     title: "LanguageGroup is not 0 or 1",
-    text: "Level *should*: hints may be applied by the wrong method.\n\nBy this entry a rasteriser chooses how it evens out strokes: 0 is for Latin and similar scripts, 1 for ideographs as those of Chinese and\nJapanese. Other numbers mean nothing. Without the entry it is 0.\n\n    /LanguageGroup 2 def\n    1: font LanguageGroup 0 F20 LanguageGroup is not 0 or 1\n       LanguageGroup is 2; 0 or 1 is needed\n\nHow much it matters: 14 of 1,906 real fonts have another number, each about 4,000,000, which none can have meant.\n\nCure: `/LanguageGroup 1 def` in Private for ideographs; for other fonts leave the entry out.",
+    text: "Level *should* (Type 1 Format, chapter 5): hints may be applied by the wrong method.\n\nBy this entry a rasteriser chooses how it evens out strokes: 0 is for Latin and similar scripts, 1 for ideographs as those of Chinese and\nJapanese. Other numbers mean nothing. Without the entry it is 0.\n\n    /LanguageGroup 2 def\n    1: font LanguageGroup 0 F20 LanguageGroup is not 0 or 1\n       LanguageGroup is 2; 0 or 1 is needed\n\nMended:\n\n    /LanguageGroup 1 def\n\nHow much it matters: 14 of 1,906 real fonts have another number, each about 4,000,000, which none can have meant.\n\nCure: `/LanguageGroup 1 def` in Private for ideographs; for other fonts leave the entry out.",
 };
 
 fn f20() -> &'static Page {
@@ -843,7 +843,7 @@ static F21: Page = Page {
     code: "F21",
     anchor: "f21-subr-has-no-return",
     title: "Subr has no return",
-    text: "Level *should*: where no glyph calls the Subr, nothing different is drawn.\n\nA Subr goes back to its caller by `return`. This rule looks at the bytes of each Subr, decrypted, whether a glyph calls it or not; it executes none. A\n`return` counts wherever it is, also after endchar. A rasteriser that reads all Subrs beforehand may refuse the font, or read on after the last byte.\nA Subr that is shorter than lenIV has this line too. Here Subr 5 is the one command endchar, and no glyph calls it.\n\n    /Subrs 6 array\n    dup 5 1 RD … NP\n    1: font Subrs 5 F21 Subr has no return\n       it ends with endchar\n\nIf a glyph calls such a Subr and its end is reached, S04 says so at that step.\n\nCure: write `return` at the Subr's end, also after an endchar; or leave a Subr out that nothing calls.",
+    text: "Level *should* (Type 1 Format, chapter 6): where no glyph calls the Subr, nothing different is drawn.\n\nA Subr goes back to its caller by `return`. This rule looks at the bytes of each Subr, decrypted, whether a glyph calls it or not; it executes none. A\n`return` counts wherever it is, also after endchar. A rasteriser that reads all Subrs beforehand may refuse the font, or read on after the last byte.\nA Subr that is shorter than lenIV has this line too. Here no glyph calls Subr 5.\n\n    Subr 5: endchar\n    1: font Subrs 5 F21 Subr has no return\n       it ends with endchar\n\nMended:\n\n    Subr 5: endchar return\n\nIf a glyph calls such a Subr and its end is reached, S04 says so at that step.\n\nCure: write `return` at the Subr's end, also after an endchar; or leave a Subr out that nothing calls.",
 };
 
 fn f21() -> &'static Page {
@@ -854,7 +854,7 @@ static Z12: Page = Page {
     code: "Z12",
     anchor: "z12-no-bluevalues",
     title: "no BlueValues",
-    text: "Level *must*: an interpreter may refuse the font.\n\nBlueValues is required in Private, also where the font has no zones: then it is an empty list. A rasteriser that looks for it and finds nothing fails,\nor applies no hints. Here Private has no such entry.\n\n    1: font BlueValues 0 Z12 no BlueValues\n       BlueValues is not there; [] would do\n\nHow much it matters: 41 of 1,906 real fonts have no such entry, most of them for Arabic and Persian.\n\nCure: `/BlueValues [] def` in Private; or better the font's zones, as `[-15 0 450 460 700 715]`, each a bottom and a top.",
+    text: "Level *must* (Type 1 Format, chapter 5): an interpreter may refuse the font.\n\nBlueValues is required in Private, also where the font has no zones: then it is an empty list. A rasteriser that looks for it and finds nothing fails,\nor applies no hints.\n\n    % Private without /BlueValues\n    1: font BlueValues 0 Z12 no BlueValues\n       BlueValues is not there; [] would do\n\nMended:\n\n    /BlueValues [] def\n\nHow much it matters: 41 of 1,906 real fonts have no such entry, most of them for Arabic and Persian.\n\nCure: `/BlueValues [] def` in Private; or better the font's zones, as `[-15 0 450 460 700 715]`, each a bottom and a top.",
 };
 
 fn z12() -> &'static Page {
@@ -865,7 +865,7 @@ static Z13: Page = Page {
     code: "Z13",
     anchor: "z13-standard-width-is-not-above-0",
     title: "standard width is not above 0",
-    text: "Level *should*: stems of the usual width are drawn too thin or uneven.\n\nA rasteriser draws stems that are nearly as wide as StdHW or StdVW just so wide. A width of 0 or less is that of no stroke. The first number alone is\nlooked at.\n\n    /StdHW [0] def\n    1: font StdHW 0 Z13 standard width is not above 0\n       the width is 0; more than 0 is needed\n\nHow much it matters: 4 of 1,906 real fonts have 8 such widths: they are fonts of symbols.\n\nCure: write the most frequent width of horizontal (StdVW: vertical) stems; or leave the entry out.",
+    text: "Level *should* (our own rule): stems of the usual width are drawn too thin or uneven.\n\nA rasteriser draws stems that are nearly as wide as StdHW or StdVW just so wide. A width of 0 or less is that of no stroke. The first number alone is\nlooked at.\n\n    /StdHW [0] def\n    1: font StdHW 0 Z13 standard width is not above 0\n       the width is 0; more than 0 is needed\n\nMended:\n\n    /StdHW [30] def\n\nHow much it matters: 4 of 1,906 real fonts have 8 such widths: they are fonts of symbols.\n\nCure: write the most frequent width of horizontal (StdVW: vertical) stems; or leave the entry out.",
 };
 
 fn z13() -> &'static Page {
@@ -876,7 +876,7 @@ static Z14: Page = Page {
     code: "Z14",
     anchor: "z14-zone-number-is-not-whole",
     title: "zone number is not whole",
-    text: "Level *should*: a rasteriser may cut the fraction, and so move the zone's edge.\n\nThe numbers of BlueValues, OtherBlues, FamilyBlues and FamilyOtherBlues are whole units of glyph space. A rasteriser that reads whole numbers stops at\na fraction, or drops it, and edges are no longer in the zone. INDEX is the number's place, of those that\nzone rules look at.\n\n    /BlueValues [-10.5 0] def\n    1: font BlueValues 0 Z14 zone number is not whole\n       -10.5 is not whole\n\nHow much it matters: 4 of 1,906 real fonts have 10 such numbers.\n\nCure: round the number away from the zone, here `-11`, so that it still holds the same edges.",
+    text: "Level *should* (Type 1 Format, chapter 5): a rasteriser may cut the fraction, and so move the zone's edge.\n\nThe numbers of BlueValues, OtherBlues, FamilyBlues and FamilyOtherBlues are whole units of glyph space. A rasteriser that reads whole numbers stops at\na fraction, or drops it, and edges are no longer in the zone. INDEX is the number's place, of those that\nzone rules look at.\n\n    /BlueValues [-10.5 0] def\n    1: font BlueValues 0 Z14 zone number is not whole\n       -10.5 is not whole\n\nMended:\n\n    /BlueValues [-11 0] def\n\nHow much it matters: 4 of 1,906 real fonts have 10 such numbers.\n\nCure: round the number away from the zone, here `-11`, so that it still holds the same edges.",
 };
 
 fn z14() -> &'static Page {
@@ -887,7 +887,7 @@ static Z15: Page = Page {
     code: "Z15",
     anchor: "z15-stem-snaps-equal",
     title: "stem snaps equal",
-    text: "Level *should*: a place of the list is wasted, and a search in it may go wrong.\n\nThe widths have to rise from number to number. Z10 is about those that fall; this is about one that is there twice. A\nrasteriser that looks for the nearest width takes one of them. Only the first 12 are compared. Here the number at place 1 is that at place 0.\n\n    /StemSnapV [20 20 30] def\n    1: font StemSnapV 1 Z15 stem snaps equal\n       20 comes twice\n\nCure: leave one of the two out.",
+    text: "Level *should* (Type 1 Format, chapter 5): a place of the list is wasted, and a search in it may go wrong.\n\nThe widths have to rise from number to number. Z10 is about those that fall; this is about one that is there twice. A\nrasteriser that looks for the nearest width takes one of them. Only the first 12 are compared. Here the number at place 1 is that at place 0.\n\n    /StemSnapV [20 20 30] def\n    1: font StemSnapV 1 Z15 stem snaps equal\n       20 comes twice\n\nMended:\n\n    /StemSnapV [20 30] def\n\nCure: leave one of the two out.",
 };
 
 fn z15() -> &'static Page {
@@ -898,7 +898,7 @@ static Z16: Page = Page {
     code: "Z16",
     anchor: "z16-no-stem-snap-beside-a-standard-width",
     title: "no stem snap beside a standard width",
-    text: "Level *tidy*: an empty list has no effect.\n\nStemSnapH and StemSnapV have the standard width and other frequent ones. An empty list says that there is none, though StdHW or StdVW names one. A\nrasteriser goes by the standard width alone.\n\n    /StdVW [20] def\n    /StemSnapV [] def\n    1: font StemSnapV 0 Z16 no stem snap beside a standard width\n       the standard width is 20; [20] would do\n\nHow much it matters: 107 of 1,906 real fonts have 111 such lists. 103 of these fonts are slanted, and it is their StemSnapV.\n\nCure: leave the list out, or write the standard width into it, here `[20]`.",
+    text: "Level *tidy* (our own rule): an empty list has no effect.\n\nStemSnapH and StemSnapV have the standard width and other frequent ones. An empty list says that there is none, though StdHW or StdVW names one. A\nrasteriser goes by the standard width alone.\n\n    /StdVW [20] def\n    /StemSnapV [] def\n    1: font StemSnapV 0 Z16 no stem snap beside a standard width\n       the standard width is 20; [20] would do\n\nMended:\n\n    /StemSnapV [20] def\n\nHow much it matters: 107 of 1,906 real fonts have 111 such lists. 103 of these fonts are slanted, and it is their StemSnapV.\n\nCure: leave the list out, or write the standard width into it, here `[20]`.",
 };
 
 fn z16() -> &'static Page {
@@ -909,7 +909,7 @@ static Z17: Page = Page {
     code: "Z17",
     anchor: "z17-bluescale-out-of-range",
     title: "BlueScale out of range",
-    text: "Level *should*: overshoots are suppressed at all sizes, or at none.\n\nBlueScale says, in pixels a unit, up to which size overshoots are suppressed. At 0.5 that is a size of 500 pixels for an em of 1,000 units, where\nevery overshoot is seen. At 0 or less nothing is suppressed at any size. Z07 compares it with the font's zones.\n\n    /BlueScale 0.6 def\n    1: font BlueScale 0 Z17 BlueScale out of range\n       BlueScale is 0.6; more than 0 and at most 0.5 is needed\n\nCure: leave the entry out, which means 0.039625; or write the value for your size.",
+    text: "Level *should* (our own rule): overshoots are suppressed at all sizes, or at none.\n\nBlueScale says, in pixels a unit, up to which size overshoots are suppressed. At 0.5 that is a size of 500 pixels for an em of 1,000 units, where\nevery overshoot is seen. At 0 or less nothing is suppressed at any size. Z07 compares it with the font's zones.\n\n    /BlueScale 0.6 def\n    1: font BlueScale 0 Z17 BlueScale out of range\n       BlueScale is 0.6; more than 0 and at most 0.5 is needed\n\nMended:\n\n    /BlueScale 0.039625 def\n\nCure: leave the entry out, which means 0.039625; or write the value for your size.",
 };
 
 fn z17() -> &'static Page {
@@ -920,7 +920,7 @@ static Z18: Page = Page {
     code: "Z18",
     anchor: "z18-blueshift-out-of-range",
     title: "BlueShift out of range",
-    text: "Level *should*: small overshoots are drawn at sizes where they shouldn't be, or the reverse.\n\nBlueShift says how many units an overshoot needs to be drawn at small sizes too. It is a whole number, and not negative. A rasteriser that reads\nanother one may take any value for it.\n\n    /BlueShift -1 def\n    1: font BlueShift 0 Z18 BlueShift out of range\n       BlueShift is -1; a whole number from 0 on is needed\n\nCure: leave the entry out, which means 7; or write a whole number. `7.0` is whole here.",
+    text: "Level *should* (Type 1 Format, chapter 5): small overshoots are drawn at sizes where they shouldn't be, or the reverse.\n\nBlueShift says how many units an overshoot needs to be drawn at small sizes too. It is a whole number, and not negative. A rasteriser that reads\nanother one may take any value for it.\n\n    /BlueShift -1 def\n    1: font BlueShift 0 Z18 BlueShift out of range\n       BlueShift is -1; a whole number from 0 on is needed\n\nMended:\n\n    /BlueShift 7 def\n\nCure: leave the entry out, which means 7; or write a whole number. `7.0` is whole here.",
 };
 
 fn z18() -> &'static Page {
@@ -931,7 +931,7 @@ static Z19: Page = Page {
     code: "Z19",
     anchor: "z19-bluefuzz-out-of-range",
     title: "BlueFuzz out of range",
-    text: "Level *should*: edges outside a zone are set on its line, or edges inside it aren't.\n\nBlueFuzz widens each zone by so many units below and above. So many as 11 reach into strokes nearby, and a negative number makes zones narrower.\nt1check takes whole numbers from 0 to 10. Z05 and Z06 go by the number as it is, also where\nthis rule is broken.\n\n    /BlueFuzz 11 def\n    1: font BlueFuzz 0 Z19 BlueFuzz out of range\n       BlueFuzz is 11; a whole number from 0 to 10 is needed\n\nCure: `/BlueFuzz 0 def`, with zones that hold their edges; or leave the entry out, which means 1.",
+    text: "Level *should* (Type 1 Format, chapter 5): edges outside a zone are set on its line, or edges inside it aren't.\n\nBlueFuzz widens each zone by so many units below and above. So many as 11 reach into strokes nearby, and a negative number makes zones narrower.\nt1check takes whole numbers from 0 to 10. Z05 and Z06 go by the number as it is, also where\nthis rule is broken.\n\n    /BlueFuzz 11 def\n    1: font BlueFuzz 0 Z19 BlueFuzz out of range\n       BlueFuzz is 11; a whole number from 0 to 10 is needed\n\nMended:\n\n    /BlueFuzz 0 def\n\nCure: `/BlueFuzz 0 def`, with zones that hold their edges; or leave the entry out, which means 1.",
 };
 
 fn z19() -> &'static Page {
@@ -942,7 +942,7 @@ static H05: Page = Page {
     code: "H05",
     anchor: "h05-stem-below-half-a-unit",
     title: "stem below half a unit",
-    text: "Level *should*: the hint has no effect, or makes a line of no stroke.\n\nNo stroke is so thin. Mostly the width is a quotient whose divisor is wrong, or one that was meant for the position. A rasteriser rounds it to 0, or\ndraws a stroke of one pixel. A width of exactly 0 is H03. Here the width is a third of a unit.\n\n    A: 0 500 hsbw 0 1 3 div hstem endchar\n    1: glyph A - 8 H05 stem below half a unit\n       the stem from 0 to 0.3333282470703125 is 0.3333282470703125 wide\n\nCure: write the stroke's width, or leave the stem out.",
+    text: "Level *should* (our own rule): the hint has no effect, or makes a line of no stroke.\n\nNo stroke is so thin. Mostly the width is a quotient whose divisor is wrong, or one that was meant for the position. A rasteriser rounds it to 0, or\ndraws a stroke of one pixel. A width of exactly 0 is H03. Here the width is a third of a unit.\n\n    A: 0 500 hsbw 0 1 3 div hstem endchar\n    1: glyph A - 8 H05 stem below half a unit\n       the stem from 0 to 0.3333282470703125 is 0.3333282470703125 wide\n\nMended:\n\n    A: 0 500 hsbw 0 20 hstem endchar\n\nCure: write the stroke's width, or leave the stem out.\n\nTo find the step: `t1disasm FONT TEXT`, of Debian's t1utils, writes dictionaries and charstrings as text, and\n`t1asm --pfb TEXT FONT` makes the font of it; where lenIV is -1 it leaves charstrings raw. Glyph A is below `/A {`, the Subr of PATH `5>6` below\n`dup 6 {`. `t1check --trace A FONT` numbers what is executed, Subrs too, as STEP does.",
 };
 
 fn h05() -> &'static Page {
@@ -953,7 +953,7 @@ static H06: Page = Page {
     code: "H06",
     anchor: "h06-stem-beside-stem3",
     title: "stem beside stem3",
-    text: "Level *must*: interpreters keep one kind of stems or the other.\n\nA glyph that has hstem3 must not have hstem, and one that has vstem3 must not have vstem, not even in another hint set. A rasteriser may even\nout the three strokes for the whole glyph and drop the other stem, or drop the three. A glyph has at most one such line for each direction: at the\nfirst command of that kind which comes later. Here hstem comes first.\n\n    A: 0 500 hsbw 0 20 hstem 100 20 150 20 200 20 hstem3 endchar\n    1: glyph A - 13 H06 stem beside stem3\n       100 to 120 beside 0 to 20, set at step 6\n\nHow much it matters: 61 of 1,906 real fonts have such glyphs, with 153 lines in all.\n\nCure: write three stems, each by a command of its own, in place of the hstem3; or leave the other stem out.",
+    text: "Level *must* (Type 1 Format, chapter 6): interpreters keep one kind of stems or the other.\n\nA glyph that has hstem3 must not have hstem, and one that has vstem3 must not have vstem, not even in another hint set. A rasteriser may even\nout the three strokes for the whole glyph and drop the other stem, or drop the three. A glyph has at most one such line for each direction: at the\nfirst command of that kind which comes later. Here hstem comes first.\n\n    A: 0 500 hsbw 0 20 hstem 100 20 150 20 200 20 hstem3 endchar\n    1: glyph A - 13 H06 stem beside stem3\n       100 to 120 beside 0 to 20, set at step 6\n\nMended:\n\n    A: 0 500 hsbw 0 20 hstem 100 20 hstem 150 20 hstem 200 20 hstem endchar\n\nHow much it matters: 61 of 1,906 real fonts have such glyphs, with 153 lines in all.\n\nCure: write three stems, each by a command of its own, in place of the hstem3; or leave the other stem out.\n\nTo find the step: `t1disasm FONT TEXT`, of Debian's t1utils, writes dictionaries and charstrings as text, and\n`t1asm --pfb TEXT FONT` makes the font of it; where lenIV is -1 it leaves charstrings raw. Glyph A is below `/A {`, the Subr of PATH `5>6` below\n`dup 6 {`. `t1check --trace A FONT` numbers what is executed, Subrs too, as STEP does.",
 };
 
 fn h06() -> &'static Page {
@@ -964,7 +964,7 @@ static H07: Page = Page {
     code: "H07",
     anchor: "h07-another-stem3",
     title: "another stem3",
-    text: "Level *must*: interpreters even out the strokes by one of the two commands.\n\nWhere a glyph has several hint sets, each that has hstem3 (vstem3) has to have the same three stems. A rasteriser may take the first for the whole\nglyph, or the last. The command is compared with the one before it in the glyph, by the lower and upper edge of each stem, in their order. So `0 20 …`\nand `20 -20 …` are the same. Here Subr 5 is `return`, and the second stem is moved by 10.\n\n    A: 0 500 hsbw 0 20 50 20 100 20 hstem3 5 1 3 callothersubr pop callsubr 0 20 60 20 120 20 hstem3 endchar\n    1: glyph A - 24 H07 another stem3\n       60 to 80 in place of 50 to 70, set at step 10\n\nCure: write the same three stems in each hint set; or use hstem (vstem) throughout.",
+    text: "Level *must* (Type 1 Format, chapter 6): interpreters even out the strokes by one of the two commands.\n\nWhere a glyph has several hint sets, each that has hstem3 (vstem3) has to have the same three stems. A rasteriser may take the first for the whole\nglyph, or the last. The command is compared with the one before it in the glyph, by the lower and upper edge of each stem, in their order. So `0 20 …`\nand `20 -20 …` are the same. Here the second stem is moved by 10.\n\n    Subr 5: return\n    A: 0 500 hsbw 0 20 50 20 100 20 hstem3 5 1 3 callothersubr pop callsubr 0 20 60 20 120 20 hstem3 endchar\n    1: glyph A - 24 H07 another stem3\n       60 to 80 in place of 50 to 70, set at step 10\n\nMended:\n\n    A: 0 500 hsbw 0 20 50 20 100 20 hstem3 5 1 3 callothersubr pop callsubr 0 20 50 20 100 20 hstem3 endchar\n\nCure: write the same three stems in each hint set; or use hstem (vstem) throughout.\n\nTo find the step: `t1disasm FONT TEXT`, of Debian's t1utils, writes dictionaries and charstrings as text, and\n`t1asm --pfb TEXT FONT` makes the font of it; where lenIV is -1 it leaves charstrings raw. Glyph A is below `/A {`, the Subr of PATH `5>6` below\n`dup 6 {`. `t1check --trace A FONT` numbers what is executed, Subrs too, as STEP does.",
 };
 
 fn h07() -> &'static Page {
@@ -975,7 +975,7 @@ static O05: Page = Page {
     code: "O05",
     anchor: "o05-counter-control-not-at-the-start",
     title: "counter control not at the start",
-    text: "Level *must*: interpreters ignore the counter control, or refuse the glyph.\n\nA rasteriser decides how it evens out a glyph before it reads stems and paths. So counter control comes right after hsbw or sbw, or after more of\ncounter control. What comes later, or before the width, has no effect, or stops an interpreter. Here a move comes first.\n\n    A: 0 500 hsbw 0 hmoveto 5 1 13 callothersubr endchar\n    1: glyph A - 9 O05 counter control not at the start\n       step 5 comes before it\n\nCure: move the calls right after hsbw or sbw.",
+    text: "Level *must* (Technical Note 5015): interpreters ignore the counter control, or refuse the glyph.\n\nA rasteriser decides how it evens out a glyph before it reads stems and paths. So counter control comes right after hsbw or sbw, or after more of\ncounter control. What comes later, or before the width, has no effect, or stops an interpreter. Here a move comes first.\n\n    A: 0 500 hsbw 0 hmoveto 5 1 13 callothersubr endchar\n    1: glyph A - 9 O05 counter control not at the start\n       step 5 comes before it\n\nMended:\n\n    A: 0 500 hsbw 5 1 13 callothersubr 0 hmoveto endchar\n\nCure: move the calls right after hsbw or sbw.\n\nTo find the step: `t1disasm FONT TEXT`, of Debian's t1utils, writes dictionaries and charstrings as text, and\n`t1asm --pfb TEXT FONT` makes the font of it; where lenIV is -1 it leaves charstrings raw. Glyph A is below `/A {`, the Subr of PATH `5>6` below\n`dup 6 {`. `t1check --trace A FONT` numbers what is executed, Subrs too, as STEP does.",
 };
 
 fn o05() -> &'static Page {
@@ -986,7 +986,7 @@ static O06: Page = Page {
     code: "O06",
     anchor: "o06-counter-control-again",
     title: "counter control again",
-    text: "Level *must*: interpreters take the first numbers or the last.\n\nOtherSubr 13 ends the counter control of a glyph, and a glyph has one. What a rasteriser does with more of it is open. Each further call has this\nline.\n\n    A: 0 500 hsbw 5 1 13 callothersubr 5 1 13 callothersubr endchar\n    1: glyph A - 11 O06 counter control again\n       step 7 ended counter control\n\nCure: write OtherSubr 12 for each part but the last; or leave the second one out.",
+    text: "Level *must* (Technical Note 5015): interpreters take the first numbers or the last.\n\nOtherSubr 13 ends the counter control of a glyph, and a glyph has one. What a rasteriser does with more of it is open. Each further call has this\nline.\n\n    A: 0 500 hsbw 5 1 13 callothersubr 5 1 13 callothersubr endchar\n    1: glyph A - 11 O06 counter control again\n       step 7 ended counter control\n\nMended:\n\n    A: 0 500 hsbw 5 1 12 callothersubr 5 1 13 callothersubr endchar\n\nCure: write OtherSubr 12 for each part but the last; or leave the second one out.\n\nTo find the step: `t1disasm FONT TEXT`, of Debian's t1utils, writes dictionaries and charstrings as text, and\n`t1asm --pfb TEXT FONT` makes the font of it; where lenIV is -1 it leaves charstrings raw. Glyph A is below `/A {`, the Subr of PATH `5>6` below\n`dup 6 {`. `t1check --trace A FONT` numbers what is executed, Subrs too, as STEP does.",
 };
 
 fn o06() -> &'static Page {
@@ -997,7 +997,7 @@ static O07: Page = Page {
     code: "O07",
     anchor: "o07-counter-control-leaves-numbers",
     title: "counter control leaves numbers",
-    text: "Level *must*: a number is left over, which a later command takes.\n\nThe count has to be that of all numbers on the stack. A rasteriser takes so many from the top, and the others stay below for the next command. Here\nthere are two numbers, and the count is 1.\n\n    A: 0 500 hsbw 7 5 1 13 callothersubr endchar\n    1: glyph A - 8 O07 counter control leaves numbers\n       the count is 1, 2 are there\n    2: glyph A - 9 C05 too many arguments\n       endchar takes no numbers, 1 is on the stack\n\nCure: write the count of all numbers, here 2; or leave out the number that is too many.",
+    text: "Level *must* (Technical Note 5015): a number is left over, which a later command takes.\n\nThe count has to be that of all numbers on the stack. A rasteriser takes so many from the top, and the others stay below for the next command. Here\nthere are two numbers, and the count is 1.\n\n    A: 0 500 hsbw 7 5 1 13 callothersubr endchar\n    1: glyph A - 8 O07 counter control leaves numbers\n       the count is 1, 2 are there\n    2: glyph A - 9 C05 too many arguments\n       endchar takes no numbers, 1 is on the stack\n\nMended:\n\n    A: 0 500 hsbw 7 5 2 13 callothersubr endchar\n\nCure: write the count of all numbers, here 2; or leave out the number that is too many.\n\nTo find the step: `t1disasm FONT TEXT`, of Debian's t1utils, writes dictionaries and charstrings as text, and\n`t1asm --pfb TEXT FONT` makes the font of it; where lenIV is -1 it leaves charstrings raw. Glyph A is below `/A {`, the Subr of PATH `5>6` below\n`dup 6 {`. `t1check --trace A FONT` numbers what is executed, Subrs too, as STEP does.",
 };
 
 fn o07() -> &'static Page {
@@ -1008,7 +1008,7 @@ static O08: Page = Page {
     code: "O08",
     anchor: "o08-counter-control-has-no-end",
     title: "counter control has no end",
-    text: "Level *must*: interpreters ignore the counter control, or take what follows for a part of it.\n\nAfter OtherSubr 12 more numbers come, up to a call of OtherSubr 13. A rasteriser that waits for that doesn't know what it has. The line is at the\ncommand, or the other OtherSubr, that comes in its place.\n\n    A: 0 500 hsbw 5 1 12 callothersubr endchar\n    1: glyph A - 8 O08 counter control has no end\n       OtherSubr 12 at step 7, not ended by a 13\n\nCure: write 13 for 12 in the last call.",
+    text: "Level *must* (Technical Note 5015): interpreters ignore the counter control, or take what follows for a part of it.\n\nAfter OtherSubr 12 more numbers come, up to a call of OtherSubr 13. A rasteriser that waits for that doesn't know what it has. The line is at the\ncommand, or the other OtherSubr, that comes in its place.\n\n    A: 0 500 hsbw 5 1 12 callothersubr endchar\n    1: glyph A - 8 O08 counter control has no end\n       OtherSubr 12 at step 7, not ended by a 13\n\nMended:\n\n    A: 0 500 hsbw 5 1 13 callothersubr endchar\n\nCure: write 13 for 12 in the last call.\n\nTo find the step: `t1disasm FONT TEXT`, of Debian's t1utils, writes dictionaries and charstrings as text, and\n`t1asm --pfb TEXT FONT` makes the font of it; where lenIV is -1 it leaves charstrings raw. Glyph A is below `/A {`, the Subr of PATH `5>6` below\n`dup 6 {`. `t1check --trace A FONT` numbers what is executed, Subrs too, as STEP does.",
 };
 
 fn o08() -> &'static Page {
@@ -1019,7 +1019,7 @@ static W03: Page = Page {
     code: "W03",
     anchor: "w03-othersubr-before-hsbw-or-sbw",
     title: "OtherSubr before hsbw or sbw",
-    text: "Level *must*: interpreters refuse the glyph, or lose what the call was to do.\n\nhsbw or sbw comes first in a glyph. An OtherSubr before it, as a hint replacement or a flex, speaks of a glyph that has no point yet: a rasteriser\nstops with an error, or forgets the call at hsbw. Numbers, div and calls of Subrs may come before. A call with a bad count (O02) has this line too; a\ncounter control has O05. Here Subr 5 is `return`.\n\n    A: 5 1 3 callothersubr pop callsubr 0 500 hsbw endchar\n    1: glyph A - 4 W03 OtherSubr before hsbw or sbw\n       no hsbw or sbw so far\n\nCure: move the call after hsbw or sbw.",
+    text: "Level *must* (Type 1 Format, chapter 6): interpreters refuse the glyph, or lose what the call was to do.\n\nhsbw or sbw comes first in a glyph. An OtherSubr before it, as a hint replacement or a flex, speaks of a glyph that has no point yet: a rasteriser\nstops with an error, or forgets the call at hsbw. Numbers, div and calls of Subrs may come before. A call with a bad count (O02) has this line too; a\ncounter control has O05.\n\n    Subr 5: return\n    A: 5 1 3 callothersubr pop callsubr 0 500 hsbw endchar\n    1: glyph A - 4 W03 OtherSubr before hsbw or sbw\n       no hsbw or sbw so far\n\nMended:\n\n    A: 0 500 hsbw 5 1 3 callothersubr pop callsubr endchar\n\nCure: move the call after hsbw or sbw.\n\nTo find the step: `t1disasm FONT TEXT`, of Debian's t1utils, writes dictionaries and charstrings as text, and\n`t1asm --pfb TEXT FONT` makes the font of it; where lenIV is -1 it leaves charstrings raw. Glyph A is below `/A {`, the Subr of PATH `5>6` below\n`dup 6 {`. `t1check --trace A FONT` numbers what is executed, Subrs too, as STEP does.",
 };
 
 fn w03() -> &'static Page {
@@ -1052,7 +1052,7 @@ static E03: Page = Page {
     code: "E03",
     anchor: "e03-segment-cut-short",
     title: "segment cut short",
-    text: "The file ends after a 128, inside a segment's length, or before the end of its bytes.\n\nThe file is damaged, often by a transfer that changed line ends, or it was cut.\n\nExample: `80 01 05 00 00 00 25 21 0A 0A`.\n\nCure: take it from its source again, by a binary transfer.",
+    text: "The file ends after a 128, inside a segment's length, or before the end of its bytes.\n\nMostly the file was cut.\n\nExample: `80 01 05 00 00 00 25 21 0A 0A`.\n\nCure: take it from its source again, by a binary transfer.",
 };
 
 fn e03() -> &'static Page {
@@ -1085,7 +1085,7 @@ static E06: Page = Page {
     code: "E06",
     anchor: "e06-encrypted-part-too-short",
     title: "encrypted part too short",
-    text: "Fewer than four encrypted bytes stand behind `eexec`.\n\nThe file was cut, or an editor changed the encrypted bytes.\n\nExample: a file that ends behind `currentfile eexec`.\n\nCure: take it from its source again.",
+    text: "Fewer than four encrypted bytes come after `eexec`.\n\nThe file was cut, or an editor changed the encrypted bytes.\n\nExample: a file that ends after `currentfile eexec`.\n\nCure: take it from its source again.",
 };
 
 fn e06() -> &'static Page {
@@ -1173,7 +1173,7 @@ static E14: Page = Page {
     code: "E14",
     anchor: "e14-waivers-malformed",
     title: "waivers malformed",
-    text: "A line of the file of waivers isn't what a waiver has to be. It has to be a name, one blank (byte 32) and a code, and nothing else. The\nname has the bytes that a name in a font can have: all but zero, tab, line feed, form feed, carriage return, the blank, and `( ) < > [ ] { } / %`.\nThe code is that of a rule from C01 to L01, in capital letters, or in edition 3 of one from H05 to W03. Each of these lines is malformed:\n\n    A                    no code\n    A C05 H02            two codes\n    A  C05               two blanks; so is a blank at the end, or a tab\n    /A C05               a slash\n    A F01                a rule on the font\n    A U01                the rule on waivers\n    A C10                no rule\n    % meant so           a comment\n\nThe one line on standard error is `refused: E14 waivers malformed`. This command prints the malformed lines of the file `font.waivers`, and nothing\nelse:\n\n    LC_ALL=C awk '{ line = $0; sub(/\\r$/, \"\", line) }\n        line != \"\" && line !~ (\"^[\\001-\\010\\013\\016-\\037!-$&-\\047*-.0-;=?-Z\\\\\\\\^-z|~-\\377]* \" \\\n            \"(C0[1-9]|GE0[12]|[RW]0[12]|P0[1-3]|[HOS]0[1-4]|X0[1-6]|K0[1-7]|L01)$\")' <font.waivers\n\nFor edition 3 write `|H0[5-7]|O0[5-8]|W03` behind `L01`. With `{ print NR \": \" $0 }` before the last `'` it prints their numbers as well. Some awks, as\nbusybox's, end a line at a zero byte. For these write `LC_ALL=C tr '\\000' '(' <font.waivers |` at the beginning and nothing after the last `'`; then such\na byte is shown as `(`.\n\nOne such line is enough, since it can't be said what it was to waive.\n\nCure: mend these lines, or take them out.",
+    text: "A line of the file of waivers isn't what a waiver has to be. It has to be a name, one blank (byte 32) and a code, and nothing else. The\nname has the bytes that a name in a font can have: all but zero, tab, line feed, form feed, carriage return, the blank, and `( ) < > [ ] { } / %`.\nThe code is that of a rule from C01 to L01, in capital letters, or in edition 3 of one from H05 to W03. Each of these lines is malformed:\n\n    A                    no code\n    A C05 H02            two codes\n    A  C05               two blanks; so is a blank at the end, or a tab\n    /A C05               a slash\n    A F01                a rule on the font\n    A U01                the rule on waivers\n    A C10                no rule\n    % meant so           a comment\n\nOne such line is enough, since it can't be said what it was to waive.\n\nCure: mend these lines, or remove them.",
 };
 
 fn e14() -> &'static Page {
@@ -1184,7 +1184,7 @@ static E15: Page = Page {
     code: "E15",
     anchor: "e15-waivers-past-their-limit",
     title: "waivers past their limit",
-    text: "The file of waivers has more than 1,048,576 bytes, so no line of it is looked at. No font needs so many waivers; mostly another file was\nnamed. The one line on standard error is `refused: E15 waivers past their limit`. Example: a file of 1,048,577 line feeds; with 1,048,576 of them it\nis read, and waives nothing.\n\nCure: name the right file. A waiver that occurs more than once can be left out but for one; `LC_ALL=C sort -u` does that.",
+    text: "The file of waivers has more than 1,048,576 bytes, so no line of it is looked at. No font needs so many waivers; mostly another file was\nnamed. Example: a file of 1,048,577 line feeds; with 1,048,576 of them it is read, and waives nothing.\n\nCure: name the right file. `LC_ALL=C sort -u` removes waivers that occur more than once.",
 };
 
 fn e15() -> &'static Page {

@@ -1,0 +1,196 @@
+# Writes a font, a PFA: a sound one with the changes of standard input, a line each.
+#
+#   clear TEXT, private TEXT   a line more in that dictionary; `private no BlueValues` takes its entry away
+#   5 TOKENS, A TOKENS         Subr 5, glyph A; blank-B is a glyph whose name has a blank before its slash
+#   3*0, #0C63                 tokens: three times 0, two bytes
+#
+# The changes may also be an example of docs/RULES.md:
+#
+#   /StdHW [20] def            an entry in the place of that of its name, or one more; `% in Private` may say in which dictionary
+#   % Private without /KEY     takes an entry away
+#   Subr 5: TOKENS, A: TOKENS  Subr 5, glyph A
+#   /A 9 RD … ND               the font has these glyphs alone; with fewer bytes than lenIV says the charstring has zeros
+#   /Subrs 5 array             how many Subrs the array has room for; `dup 5 7 RD … NP` is a Subr
+#   dup 65 /A put              a row of a custom Encoding
+#   10 20 … (thirteen times)   tokens that occur so often, from the line's beginning; a line that begins with three blanks goes on with the tokens
+#   unknown 15                 a token: that byte; `, and the bytes 255 0` are bytes at the end
+
+# Writes a byte of the encrypted section, in hexadecimal.
+function put(byte) {
+    byte = mix(byte, int(key / 256))
+    key = stirred(key, byte)
+    printf "%02x%s", byte, ++bytes % 32 ? "" : "\n"
+}
+
+# One of two bytes exclusively or'ed with the other; the cipher's next state.
+function mix(byte, other) {
+    return 16 * mixed[int(byte / 16), int(other / 16)] + mixed[byte % 16, other % 16]
+}
+
+function stirred(state, byte) {
+    return ((byte + state) * 52845 % 65536 + 22719) % 65536
+}
+
+function put_text(text,    i) {
+    for (i = 1; i <= length(text); i++) put(code[substr(text, i, 1)])
+}
+
+# Puts a token's bytes at the end of the charstring `out`.
+function add(token,    i) {
+    if (token in commands) {
+        if (commands[token] >= 256) out[size++] = 12
+        out[size++] = commands[token] % 256
+    } else if (token ~ /^#/)
+        for (i = 2; i < length(token); i += 2)
+            out[size++] = 16 * (index(digits, substr(token, i, 1)) - 1) + index(digits, substr(token, i + 1, 1)) - 1
+    else if (token >= -107 && token <= 107) out[size++] = token + 139
+    else if (token >= -1131 && token <= 1131) {
+        out[size++] = (token < 0 ? 251 : 247) + int(((token < 0 ? -token : token) - 108) / 256)
+        out[size++] = ((token < 0 ? -token : token) - 108) % 256
+    } else {
+        out[size++] = 255
+        if (token < 0) token += 4294967296
+        for (i = 16777216; i >= 1; i /= 256) out[size++] = int(token / i) % 256
+    }
+}
+
+# Writes an entry: what is before its length, its tokens, the word behind it. `N bytes` is a charstring of N zeros.
+function put_charstring(head, tokens, tail,    count, words, i, state, byte) {
+    count = split(tokens, words, " ")
+    size = 0
+    if (words[2] == "bytes") {
+        put_text(head " " words[1] " RD ")
+        for (i = 0; i < words[1]; i++) put(0)
+    } else {
+        for (i = 0; i < 4; i++) out[size++] = 0
+        for (i = 1; i <= count; i++) {
+            if (words[i] == "unknown") out[size++] = words[++i]
+            else if (words[i] == "bytes") while (i < count) out[size++] = words[++i]
+            else add(words[i])
+        }
+        put_text(head " " size " RD ")
+        state = 4330
+        for (i = 0; i < size; i++) {
+            byte = mix(out[i], int(state / 256))
+            state = stirred(state, byte)
+            put(byte)
+        }
+    }
+    put_text(tail "\n")
+}
+
+# `3*0` and `0 … (three times)` written out.
+function spread(text,    at, end, n, group, all, count, words, i, parts) {
+    while ((at = index(text, " … (")) > 0) {
+        end = index(text, " times)")
+        n = times[substr(text, at + length(" … ("), end - at - length(" … ("))]
+        group = substr(text, 1, at - 1)
+        all = ""
+        while (n-- > 0) all = all " " group
+        text = substr(all, 2) substr(text, end + length(" times)"))
+    }
+    all = ""
+    count = split(text, words, " ")
+    for (i = 1; i <= count; i++)
+        if (words[i] ~ /^\[?[0-9]+\*/) {
+            split(words[i], parts, "*")
+            if (sub(/^\[/, "", parts[1])) all = all " ["
+            for (n = 0; n < parts[1] + 0; n++) all = all " " parts[2]
+        } else all = all " " words[i]
+    return substr(all, 2)
+}
+
+function set_glyph(name, tokens) {
+    sub(/, and the bytes /, " bytes ", tokens)
+    if (!(name in glyph)) names[++glyphs] = name
+    glyph[name] = tokens
+}
+
+function set_subr(number, tokens) {
+    subr[number] = tokens
+    if (number > most) most = number
+}
+
+# An entry of the clear text or of Private, in the place of that of its name.
+function set_entry(where, line,    name) {
+    name = line
+    sub(/ .*/, "", name)
+    if (!((where, name) in place)) place[where, name] = ++entries[where]
+    entry[where, place[where, name]] = line "\n"
+}
+
+# All entries of a dictionary, in their order.
+function written(where,    i, text) {
+    for (i = 1; i <= entries[where]; i++) text = text entry[where, i]
+    return text
+}
+
+BEGIN {
+    digits = "0123456789ABCDEF"
+    for (a = 0; a < 16; a++) for (b = 0; b < 16; b++) for (bit = 1; bit < 16; bit *= 2)
+        mixed[a, b] += int(a / bit) % 2 == int(b / bit) % 2 ? 0 : bit
+    for (byte = 1; byte < 256; byte++) code[sprintf("%c", byte)] = byte
+    key = 55665
+    # A command of two bytes is 256 and its second one.
+    count = split("hstem 1 vstem 3 vmoveto 4 rlineto 5 hlineto 6 vlineto 7 rrcurveto 8 closepath 9 callsubr 10 return 11 hsbw 13 endchar 14 " \
+        "rmoveto 21 hmoveto 22 vhcurveto 30 hvcurveto 31 dotsection 256 vstem3 257 hstem3 258 seac 262 sbw 263 div 268 callothersubr 272 " \
+        "pop 273 setcurrentpoint 289", words, " ")
+    for (i = 1; i < count; i += 2) commands[words[i]] = words[i + 1]
+    count = split("six 6 seven 7 ten 10 thirteen 13", words, " ")
+    for (i = 1; i < count; i += 2) times[words[i]] = words[i + 1]
+    set_entry("clear", "/FontType 1 def")
+    set_entry("clear", "/PaintType 0 def")
+    set_entry("clear", "/FontMatrix [0.001 0 0 0.001 0 0] def")
+    set_entry("clear", "/FontBBox {0 0 1000 1000} def")
+    set_entry("clear", "/Encoding StandardEncoding def")
+    set_entry("private", "/password 5839 def")
+    set_entry("private", "/MinFeature {16 16} def")
+    set_entry("private", "/BlueValues [] def")
+    sound = "0 500 hsbw endchar"
+    set_glyph(".notdef", sound)
+    set_glyph("A", sound)
+    size_of_subrs = 6
+}
+/^   / { text = spread(substr($0, 4)); if (label ~ /^Subr /) subr[substr(label, 6)] = subr[substr(label, 6)] " " text; else glyph[label] = glyph[label] " " text; next }
+/^clear / { set_entry("clear", spread(substr($0, 7))); next }
+/^private no / { entry["private", place["private", "/" $3]] = ""; next }
+/^private / { set_entry("private", spread(substr($0, 9))); next }
+/^% .* without \// { entry["private", place["private", $NF]] = ""; next }
+/^[0-9]+ / { set_subr($1, spread(substr($0, length($1) + 2))); next }
+/^blank-/ { set_glyph(" " substr($1, 7), spread(substr($0, length($1) + 2))); next }
+/^Subr [0-9]+: / { label = "Subr " $2 + 0; set_subr($2 + 0, spread(substr($0, length($1 $2) + 3))); next }
+/^[^\/ ]+: / { label = substr($1, 1, length($1) - 1); set_glyph(label, spread(substr($0, length($1) + 2))); next }
+/^\/[^ ]+ [0-9]+ RD … ND$/ {
+    if (!listed) { glyphs = 0; split("", glyph) }
+    listed = 1
+    # A name that comes twice is another glyph here.
+    names[++glyphs] = substr($1, 2)
+    glyph[names[glyphs]] = $2 < 4 ? $2 " bytes" : sound
+    next
+}
+/^\/Subrs [0-9]+ array$/ { size_of_subrs = $2; next }
+/^dup [0-9]+ [0-9]+ RD … NP$/ { set_subr($2, "return"); next }
+/^dup [0-9]+ \/[^ ]+ put$/ { rows = rows $0 "\n"; next }
+/^\// {
+    where = /% in the clear text$/ || (!/% in Private$/ && $1 ~ /^\/(FontType|PaintType|UniqueID|Encoding|FontMatrix|FontBBox|XUID)$/) ? "clear" : "private"
+    sub(/ +%.*/, "")
+    set_entry(where, $0)
+    next
+}
+# What is neither is a glyph and its tokens.
+NF { set_glyph($1, spread(substr($0, length($1) + 2))) }
+END {
+    if (rows != "") set_entry("clear", "/Encoding 256 array\n" rows "readonly def")
+    printf "%s%s%s", "%!PS-AdobeFont-1.0: T\n", written("clear"), "currentfile eexec\n"
+    for (i = 0; i < 4; i++) put(0)
+    put_text("dup /Private 8 dict dup begin\n/RD {string currentfile exch readstring pop} executeonly def\n")
+    put_text(written("private"))
+    put_text("/Subrs " size_of_subrs " array\n")
+    for (i = 0; i <= most; i++) if (i in subr) put_charstring("dup " i, subr[i], " NP")
+    put_text("ND\n2 index /CharStrings " glyphs " dict dup begin\n")
+    for (i = 1; i <= glyphs; i++) put_charstring((names[i] ~ /^ / ? " /" substr(names[i], 2) : "/" names[i]), glyph[names[i]], " ND")
+    put_text("end\nmark currentfile closefile\n")
+    printf "\n"
+    for (i = 0; i < 8; i++) print "0000000000000000000000000000000000000000000000000000000000000000"
+    print "cleartomark"
+}
