@@ -433,7 +433,7 @@ done <"$scratch/relations"
 [ "$(wc -l <"$scratch/relations")" -eq 12 ] || fail "the relations of watchers and pens aren't read"
 
 # The README's lines for an editor are in the example.
-sed -n '/^## In an editor$/,/^## /s/^    //p' "$top/README.md" >"$scratch/editor"
+sed -n '/^## As a library$/,/^## /s/^    //p' "$top/README.md" >"$scratch/editor"
 while IFS= read -r line; do
     if grep -qF -e "$line" "$top/crates/example/src/main.rt"; then
         pass

@@ -84,7 +84,7 @@ if node -e 'new WebAssembly.Module(fs.readFileSync(process.argv[1]))' "$made/t1_
 elif has wasm-opt; then
     fail "node can't compile the module"
 else
-    echo "tests/web.sh: this node has no 64-bit memory, so the module is not compared with the programs"
+    echo "skipped: the module beside the programs, since this node has no 64-bit memory and wasm-opt isn't here (Debian: binaryen)"
 fi
 
 # The page of the repository is the one that is made here, or its module answers as the programs do.

@@ -10,8 +10,8 @@
 //! - For rooms that hold each line of the report, the pieces joined are the report ([`pieces_are_the_report`]). For those
 //!   that hold each part of a document, they are the document ([`pieces_are_the_document`]).
 //! - A room that doesn't hold the next line or part leaves the mark, or the place, as it was.
-//! - Of the same bytes t1check, asked for a whole report with waivers, writes the same lines; and a font or waivers are refused exactly where
-//!   t1check refuses them, by the same code and text ([`t1check_writes_the_same`]).
+//! - Of the same bytes t1check, asked for a whole report with waivers, writes the same lines, or refuses the font or the waivers by the same
+//!   code and text ([`t1check_writes_the_same`]).
 //! - A picture is the one that t1draw makes, of a whole glyph, up to a step, or of a fault by its number in the report. For a
 //!   room that doesn't hold it the size is returned.
 //! - Memory doesn't grow with the number of lines.

@@ -1,7 +1,7 @@
 //! The exports of a WebAssembly module by which a page checks fonts, from bytes to bytes.
 //!
 //! Each export takes the bytes of a font and of waivers, and room for what it hands over. It returns a status, of which
-//! `specs/Numbers.antt` has the numbers, and says how many bytes it handed over. Any edition but 2 is the first.
+//! `specs/Numbers.antt` has the numbers, and says how many bytes it handed over. A number that no edition has is the first one.
 //!
 //! What is promised: what [`t1_pieces`] promises of its calls. A host that isn't Rattle is checked by nothing: it has to pass
 //! addresses of memory that is its own, with their lengths, and none twice.
