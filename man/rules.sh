@@ -1,7 +1,7 @@
 #!/bin/sh
 # Writes docs/RULES.md, and docs/REFERENCE.md after it, as the manual page t1check-rules(7).
 #
-# Of a table each row becomes an item: its first cell, then the others, the further ones each behind its column's heading.
+# Of a table each row becomes an item: its first cell, then the others, the further ones each after its column's heading.
 # Links become their texts. Lists of contents and pictures are omitted.
 set -u
 LC_ALL=C
@@ -103,7 +103,7 @@ END
             for (i = 1; i <= count; i++) heading[i] = cell[i]
             return
         }
-        # What stands behind .TP as one line is the head of the item.
+        # What comes after .TP as one line is the head of the item.
         print ".TP"
         fill(cell[1], " \\")
         for (i = 2; i <= count; i++) {

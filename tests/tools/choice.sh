@@ -121,7 +121,7 @@ limited "$all" "$fonts" >whole 2>sums.0
 for part in 1 2 3 4 5; do
     limited "$all" --shard "$part/5" "$fonts" >>joined 2>"sums.$part"
 done
-sed -n '/`sums.awk`/,/awk -f/ s/^    //p' "$top/docs/RECIPES.md" | sed '/^awk/d' >sums.awk
+cp "$top/docs/recipes/sums.awk" sums.awk
 wanted <<'END'
 --
 END

@@ -1,19 +1,51 @@
 #!/bin/sh
-# Tries the hook of pre-commit: its entry is there, and its files are fonts.
+# Tries the hooks of pre-commit that this repository offers: their entries are there, and their files are fonts and what decides over their lines.
+# tests/tools/recipes.sh runs them.
 
 # shellcheck source=tests/tools/common.sh
 . "$(dirname "$0")/common.sh"
 
 hooks=$top/.pre-commit-hooks.yaml
-entry=$(sed -n 's/^  entry: \([^ ]*\).*/\1/p' <"$hooks")
-[ -x "$top/$entry" ] || fail ".pre-commit-hooks.yaml: no entry '$entry'"
+# What a hook has for a key: ID KEY.
+of_hook() {
+    awk -v id="$1" -v key="  $2: " '
+        /^- id: / { within = $3 == id }
+        within && index($0, key) == 1 { value = substr($0, length(key) + 1); gsub(/^\047|\047$/, "", value); print value }
+    ' "$hooks"
+}
+
+printf '%s\n' a.pfb a.pfb.waivers a.afm b/c.PFA 'd e.t1' f/d.t1.waivers pfb at1 .t1check.toml f/.t1check.toml x.t1check.toml known.txt unknown.txt \
+    waivers a.pfb.txt >names
+for id in t1check t1check-node; do
+    entry=$(of_hook "$id" entry)
+    if [ -x "$top/${entry%% *}" ]; then pass; else fail ".pre-commit-hooks.yaml: no entry '$entry' of $id"; fi
+done
 wanted <<'END'
 a.pfb
+a.pfb.waivers
 b/c.PFA
 d e.t1
+f/d.t1.waivers
+.t1check.toml
+f/.t1check.toml
+known.txt
 --
 END
-printf '%s\n' a.pfb a.pfb.waivers a.afm b/c.PFA 'd e.t1' pfb at1 >names
-try 'files of the hook' 0 grep -E "$(sed -n "s/^  files: '\(.*\)'/\1/p" <"$hooks")" names
+try 'files of the hook t1check' 0 grep -E "$(of_hook t1check files)" names
+wanted <<'END'
+a.pfb
+a.pfb.waivers
+b/c.PFA
+d e.t1
+f/d.t1.waivers
+--
+END
+try 'files of the hook t1check-node' 0 grep -E "$(of_hook t1check-node files)" names
+# The hook of an installed program has the same files.
+wanted <<END
+        files: '$(of_hook t1check files)'
+--
+END
+try 'files of docs/recipes/pre-commit-config.yaml' 0 grep '^ *files:' "$top/docs/recipes/pre-commit-config.yaml"
 
 finish
