@@ -78,8 +78,9 @@ make_font() {
             [ ! -s "$scratch/waivers" ] || printf '%b' "$(cat "$scratch/waivers")" >"$scratch/run/font.pfb.waivers"
             return
             ;;
-        K*) echo 'B: 7 500 hsbw endchar' ;;
-    esac | cat - "$2" | awk -f "$top/tests/make.awk" >"$scratch/run/font.pfb"
+    esac
+    # The pages on accented characters say which other glyph their fonts have.
+    { [ "${1#K}" = "$1" ] || echo 'B: 7 500 hsbw endchar'; cat "$2"; } | awk -f "$top/tests/make.awk" >"$scratch/run/font.pfb"
 }
 
 # The lines of the report on that font with their reasons, by the edition that first has the rule.
