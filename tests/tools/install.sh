@@ -121,11 +121,11 @@ try 'an installed t1draw' 0 "$prefix/bin/t1draw" A "$top/tests/draw/fonts/square
 wanted <<'END'
 E06 encrypted part too short
 
-Fewer than four encrypted bytes stand behind `eexec`.
+Fewer than four encrypted bytes come after `eexec`.
 
 The file was cut, or an editor changed the encrypted bytes.
 
-Example: a file that ends behind `currentfile eexec`.
+Example: a file that ends after `currentfile eexec`.
 
 Cure: take it from its source again.
 --
