@@ -31,11 +31,11 @@ END
     wanted <<'END'
 E06 encrypted part too short
 
-Fewer than four encrypted bytes stand behind `eexec`.
+Fewer than four encrypted bytes come after `eexec`.
 
 The file was cut, or an editor changed the encrypted bytes.
 
-Example: a file that ends behind `currentfile eexec`.
+Example: a file that ends after `currentfile eexec`.
 
 Cure: take it from its source again.
 --
