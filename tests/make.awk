@@ -154,7 +154,12 @@ BEGIN {
 /^   / { text = spread(substr($0, 4)); if (label ~ /^Subr /) subr[substr(label, 6)] = subr[substr(label, 6)] " " text; else glyph[label] = glyph[label] " " text; next }
 /^clear / { set_entry("clear", spread(substr($0, 7))); next }
 /^private no / { entry["private", place["private", "/" $3]] = ""; next }
-/^private / { set_entry("private", spread(substr($0, 9))); next }
+/^private / {
+    # One that is later in a line takes the place of the empty one, too.
+    if (/\/BlueValues/) entry["private", place["private", "/BlueValues"]] = ""
+    set_entry("private", spread(substr($0, 9)))
+    next
+}
 /^% .* without \// { entry["private", place["private", $NF]] = ""; next }
 /^[0-9]+ / { set_subr($1, spread(substr($0, length($1) + 2))); next }
 /^blank-/ { set_glyph(" " substr($1, 7), spread(substr($0, length($1) + 2))); next }
