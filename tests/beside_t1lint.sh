@@ -122,7 +122,7 @@ number_lines() {
 # Tries a row of tests/beside/made: NAME CHANGES MESSAGE WANTED.
 try_made() {
     font=$scratch/made.pfa
-    printf '%s\n' "$2" | sed 's/ ; /\n/g' | awk -f "$top/tests/make.awk" >"$font"
+    printf '%s\n' "$2" | sed 's/ ; /\n/g' | awk -f "$top/tests/eexec.awk" -f "$top/tests/make.awk" >"$font"
     printf '%s\n' "$4" | sed 's/ ; /\n/g' >"$scratch/row"
     number_lines <"$scratch/row" >"$scratch/wanted"
     timeout 60 "$program" --edition 3 "$font" >"$scratch/report" 2>&1 </dev/null

@@ -80,7 +80,7 @@ make_font() {
             ;;
     esac
     # The pages on accented characters say which other glyph their fonts have.
-    { [ "${1#K}" = "$1" ] || echo 'B: 7 500 hsbw endchar'; cat "$2"; } | awk -f "$top/tests/make.awk" >"$scratch/run/font.pfb"
+    { [ "${1#K}" = "$1" ] || echo 'B: 7 500 hsbw endchar'; cat "$2"; } | awk -f "$top/tests/eexec.awk" -f "$top/tests/make.awk" >"$scratch/run/font.pfb"
 }
 
 # The lines of the report on that font with their reasons, by the edition that first has the rule.
@@ -134,16 +134,6 @@ try_example() {
 sed -n '/^static BOOK/,/^];$/p' "$top/crates/t1_rules/src/book.rt" | tr '\n' ' ' | sed 's/,* *),/\n/g' |
     sed -n 's/^.*Rule::\([A-Z0-9]*\), *Level::\([A-Z][a-z]*\), *"\1", *"\(.*\)"$/\1 \2 \3/p' >"$scratch/levels"
 sed 's/^\([^ ]*\) [^ ]*/\1/' "$scratch/levels" >"$scratch/book"
-while read -r code text; do
-    level=$(sed -n "s/^$code \\([A-Z][a-z]*\\) .*/\\1/p" "$scratch/levels" | tr '[:upper:]' '[:lower:]')
-    if ! grep -qF "| $code | $text | $level |" "$rules"; then
-        fail "docs/RULES.md: no row of the table says $code $text, $level"
-    elif ! grep -qxF "### $code $text" "$rules"; then
-        fail "docs/RULES.md: no heading says $code $text"
-    else
-        pass
-    fi
-done <"$scratch/book"
 sed -n 's/^.*=> "\(E[0-9]*\) \(.*\)",$/\1 \2/p' "$top/crates/t1_refusals/src/refusal.rt" >"$scratch/refusals"
 while read -r code text; do
     # A file's size and the waivers aren't t1_font's.
@@ -285,7 +275,7 @@ compare_codes 'crates/t1_rules/specs/Book.antt, rules' codes <"$scratch/list"
 list_breaches >"$scratch/breaches"
 cut -d ' ' -f 1 "$scratch/breaches" | sort >"$scratch/list"
 compare_codes 'crates/t1_rules/specs: FontRules.antt, StepRules.antt; crates/t1_report/specs/Reports.antt' sorted <"$scratch/list"
-# Each rule's page has its level and the source that is above its row, and its examples are as they say.
+# Each rule is in the table, its page has its level and the source that is above its row, and its examples are as they say.
 {
     list_rows | sed -n '/^ *-- /{
         s/^.*\(Type 1 Font Format, chapter [0-9]*\|Technical Note [0-9]*\|Technical Note [0-9]*, section [0-9.]*[0-9]\|Own\)\.$/\1/
@@ -302,12 +292,17 @@ compare_codes 'crates/t1_rules/specs: FontRules.antt, StepRules.antt; crates/t1_
 while read -r code level text; do
     level=$(printf '%s' "$level" | tr '[:upper:]' '[:lower:]')
     source=$(sed -n "s/^$code //p" "$scratch/sources")
-    if sed -n "/^### $code /,/^Level/p" "$rules" | grep -q "^Level \*$level\* ($source): "; then
-        pass
-    else
+    if ! grep -qF "| $code | $text | $level |" "$rules"; then
+        fail "docs/RULES.md: no row of the table says $code $text, $level"
+    elif ! grep -qxF "### $code $text" "$rules"; then
+        fail "docs/RULES.md: no heading says $code $text"
+    elif ! sed -n "/^### $code /,/^Level/p" "$rules" | grep -q "^Level \*$level\* ($source): "; then
         fail "docs/RULES.md: the page of $code doesn't begin with its level and its source, $level ($source)"
+    elif [ ! -s "$scratch/examples/$code.1" ]; then
+        fail "docs/RULES.md: $code has no example"
+    else
+        pass
     fi
-    [ -s "$scratch/examples/$code.1" ] || fail "docs/RULES.md: $code has no example"
 done <"$scratch/levels"
 [ -z "$many_built" ] || for example in "$scratch"/examples/*.[1-9]; do
     code=${example##*/}

@@ -1,39 +1,14 @@
-# Writes a font, a PFA: a sound one with the changes of standard input, a line each.
-#
-#   clear TEXT, private TEXT   a line more in that dictionary; `private no BlueValues` takes its entry away
-#   5 TOKENS, A TOKENS         Subr 5, glyph A; blank-B is a glyph whose name has a blank before its slash
-#   3*0, #0C63                 tokens: three times 0, two bytes
-#
-# The changes may also be an example of docs/RULES.md:
+# Writes a font, a PFA, after eexec.awk: a sound one with the changes of standard input, a line each, as examples of docs/RULES.md have them.
 #
 #   /StdHW [20] def            an entry in the place of that of its name, or one more; `% in Private` may say in which dictionary
 #   % Private without /KEY     takes an entry away
-#   Subr 5: TOKENS, A: TOKENS  Subr 5, glyph A
+#   Subr 5: TOKENS, A: TOKENS  Subr 5, glyph A; blank-B is a glyph whose name has a blank before its slash
 #   /A 9 RD … ND               the font has these glyphs alone; with fewer bytes than lenIV says the charstring has zeros
 #   /Subrs 5 array             how many Subrs the array has room for; `dup 5 7 RD … NP` is a Subr
 #   dup 65 /A put              a row of a custom Encoding
 #   10 20 … (thirteen times)   tokens that occur so often, from the line's beginning; a line that begins with three blanks goes on with the tokens
+#   3*0, #0C63                 tokens: three times 0, two bytes
 #   unknown 15                 a token: that byte; `, and the bytes 255 0` are bytes at the end
-
-# Writes a byte of the encrypted section, in hexadecimal.
-function put(byte) {
-    byte = mix(byte, int(key / 256))
-    key = stirred(key, byte)
-    printf "%02x%s", byte, ++bytes % 32 ? "" : "\n"
-}
-
-# One of two bytes exclusively or'ed with the other; the cipher's next state.
-function mix(byte, other) {
-    return 16 * mixed[int(byte / 16), int(other / 16)] + mixed[byte % 16, other % 16]
-}
-
-function stirred(state, byte) {
-    return ((byte + state) * 52845 % 65536 + 22719) % 65536
-}
-
-function put_text(text,    i) {
-    for (i = 1; i <= length(text); i++) put(code[substr(text, i, 1)])
-}
 
 # Puts a token's bytes at the end of the charstring `out`.
 function add(token,    i) {
@@ -55,7 +30,7 @@ function add(token,    i) {
 }
 
 # Writes an entry: what is before its length, its tokens, the word behind it. `N bytes` is a charstring of N zeros.
-function put_charstring(head, tokens, tail,    count, words, i, state, byte) {
+function put_charstring(head, tokens, tail,    count, words, i, held) {
     count = split(tokens, words, " ")
     size = 0
     if (words[2] == "bytes") {
@@ -68,13 +43,12 @@ function put_charstring(head, tokens, tail,    count, words, i, state, byte) {
             else if (words[i] == "bytes") while (i < count) out[size++] = words[++i]
             else add(words[i])
         }
+        held = key
+        key = 4330
+        for (i = 0; i < size; i++) out[i] = sealed(out[i])
+        key = held
         put_text(head " " size " RD ")
-        state = 4330
-        for (i = 0; i < size; i++) {
-            byte = mix(out[i], int(state / 256))
-            state = stirred(state, byte)
-            put(byte)
-        }
+        for (i = 0; i < size; i++) put(out[i])
     }
     put_text(tail "\n")
 }
@@ -119,6 +93,11 @@ function set_entry(where, line,    name) {
     entry[where, place[where, name]] = line "\n"
 }
 
+# Takes an entry of Private away.
+function remove(name) {
+    entry["private", place["private", name]] = ""
+}
+
 # All entries of a dictionary, in their order.
 function written(where,    i, text) {
     for (i = 1; i <= entries[where]; i++) text = text entry[where, i]
@@ -127,10 +106,6 @@ function written(where,    i, text) {
 
 BEGIN {
     digits = "0123456789ABCDEF"
-    for (a = 0; a < 16; a++) for (b = 0; b < 16; b++) for (bit = 1; bit < 16; bit *= 2)
-        mixed[a, b] += int(a / bit) % 2 == int(b / bit) % 2 ? 0 : bit
-    for (byte = 1; byte < 256; byte++) code[sprintf("%c", byte)] = byte
-    key = 55665
     # A command of two bytes is 256 and its second one.
     count = split("hstem 1 vstem 3 vmoveto 4 rlineto 5 hlineto 6 vlineto 7 rrcurveto 8 closepath 9 callsubr 10 return 11 hsbw 13 endchar 14 " \
         "rmoveto 21 hmoveto 22 vhcurveto 30 hvcurveto 31 dotsection 256 vstem3 257 hstem3 258 seac 262 sbw 263 div 268 callothersubr 272 " \
@@ -151,20 +126,16 @@ BEGIN {
     set_glyph("A", sound)
     size_of_subrs = 6
 }
-/^   / { text = spread(substr($0, 4)); if (label ~ /^Subr /) subr[substr(label, 6)] = subr[substr(label, 6)] " " text; else glyph[label] = glyph[label] " " text; next }
-/^clear / { set_entry("clear", spread(substr($0, 7))); next }
-/^private no / { entry["private", place["private", "/" $3]] = ""; next }
-/^private / {
-    # One that is later in a line takes the place of the empty one, too.
-    if (/\/BlueValues/) entry["private", place["private", "/BlueValues"]] = ""
-    set_entry("private", spread(substr($0, 9)))
+/^   / {
+    text = " " spread(substr($0, 4))
+    if (label ~ /^Subr /) subr[substr(label, 6)] = subr[substr(label, 6)] text
+    else glyph[label] = glyph[label] text
     next
 }
-/^% .* without \// { entry["private", place["private", $NF]] = ""; next }
-/^[0-9]+ / { set_subr($1, spread(substr($0, length($1) + 2))); next }
-/^blank-/ { set_glyph(" " substr($1, 7), spread(substr($0, length($1) + 2))); next }
+/^% .* without \// { remove($NF); next }
+/^blank-/ { sub(/^blank-/, " ") }
 /^Subr [0-9]+: / { label = "Subr " $2 + 0; set_subr($2 + 0, spread(substr($0, length($1 $2) + 3))); next }
-/^[^\/ ]+: / { label = substr($1, 1, length($1) - 1); set_glyph(label, spread(substr($0, length($1) + 2))); next }
+/^ ?[^\/ ]+: / { label = substr($0, 1, index($0, ":") - 1); set_glyph(label, spread(substr($0, index($0, ":") + 2))); next }
 /^\/[^ ]+ [0-9]+ RD … ND$/ {
     if (!listed) { glyphs = 0; split("", glyph) }
     listed = 1
@@ -179,15 +150,14 @@ BEGIN {
 /^\// {
     where = /% in the clear text$/ || (!/% in Private$/ && $1 ~ /^\/(FontType|PaintType|UniqueID|Encoding|FontMatrix|FontBBox|XUID)$/) ? "clear" : "private"
     sub(/ +%.*/, "")
-    set_entry(where, $0)
-    next
+    # One that is later in the line takes the place of the empty one, too.
+    if (/ \/BlueValues/) remove("/BlueValues")
+    set_entry(where, spread($0))
 }
-# What is neither is a glyph and its tokens.
-NF { set_glyph($1, spread(substr($0, length($1) + 2))) }
 END {
     if (rows != "") set_entry("clear", "/Encoding 256 array\n" rows "readonly def")
     printf "%s%s%s", "%!PS-AdobeFont-1.0: T\n", written("clear"), "currentfile eexec\n"
-    for (i = 0; i < 4; i++) put(0)
+    begin_section()
     put_text("dup /Private 8 dict dup begin\n/RD {string currentfile exch readstring pop} executeonly def\n")
     put_text(written("private"))
     put_text("/Subrs " size_of_subrs " array\n")
@@ -195,7 +165,5 @@ END {
     put_text("ND\n2 index /CharStrings " glyphs " dict dup begin\n")
     for (i = 1; i <= glyphs; i++) put_charstring((names[i] ~ /^ / ? " /" substr(names[i], 2) : "/" names[i]), glyph[names[i]], " ND")
     put_text("end\nmark currentfile closefile\n")
-    printf "\n"
-    for (i = 0; i < 8; i++) print "0000000000000000000000000000000000000000000000000000000000000000"
-    print "cleartomark"
+    end_section()
 }

@@ -115,49 +115,7 @@ export checker
 # Makes a font, $1, a PFA. Each line of standard input is a glyph's name, a blank and the number of its faults: of closepaths without a path,
 # which are P03.
 make_font() {
-    awk '
-        # Writes a byte of the encrypted section, in hexadecimal.
-        function put(byte,    high) {
-            high = int(key / 256)
-            byte = 16 * mixed[int(byte / 16), int(high / 16)] + mixed[byte % 16, high % 16]
-            key = (byte + key) * 52845 % 65536 + 22719
-            key %= 65536
-            printf "%02x%s", byte, ++bytes % 32 ? "" : "\n"
-        }
-        function put_text(text,    i) {
-            for (i = 1; i <= length(text); i++) put(code[substr(text, i, 1)])
-        }
-        # hsbw 0 500, the faults, endchar.
-        function put_glyph(name, faults) {
-            put_text("/" name " " faults + 5 " RD ")
-            put(139); put(248); put(136); put(13)
-            while (faults-- > 0) put(9)
-            put(14)
-            put_text(" ND\n")
-        }
-        BEGIN {
-            for (a = 0; a < 16; a++) for (b = 0; b < 16; b++) for (bit = 1; bit < 16; bit *= 2)
-                mixed[a, b] += int(a / bit) % 2 == int(b / bit) % 2 ? 0 : bit
-            for (byte = 1; byte < 256; byte++) code[sprintf("%c", byte)] = byte
-            key = 55665
-            print "%!PS-AdobeFont-1.0: T\n/FontType 1 def\n/PaintType 0 def\n/Encoding StandardEncoding def\ncurrentfile eexec"
-            for (i = 0; i < 4; i++) put(0)
-            put_text("dup /Private 8 dict dup begin\n/password 5839 def\n/MinFeature {16 16} def\n/lenIV -1 def\n")
-            put_text("2 index /CharStrings 4 dict dup begin\n")
-            put_glyph(".notdef", 0)
-        }
-        {
-            name = $0
-            sub(/ [0-9]*$/, "", name)
-            put_glyph(name, $NF)
-        }
-        END {
-            put_text("end\n")
-            print ""
-            for (i = 0; i < 8; i++) print "0000000000000000000000000000000000000000000000000000000000000000"
-            print "cleartomark"
-        }
-    ' >"$1"
+    awk -f "$top/tests/eexec.awk" -f "$top/tests/tools/closepaths.awk" >"$1"
 }
 
 # Programs that print what a parser reads in a file of JSON: a line a value, the way to it and the value. With `lines` each line is
