@@ -1,4 +1,4 @@
-# How the scripts in bin/ build their programs. Each reads this in, and sets `top`, the repository's folder, before.
+# How the scripts in bin/ run and build their programs. Each reads this in, and sets `top`, the repository's folder, before.
 # shellcheck shell=sh disable=SC2154
 
 # Sets `program`, the file of the program of a crate, NAME, and `stamp`, which is as old as it.
@@ -38,11 +38,46 @@ is_proved() {
     [ -z "$newer" ]
 }
 
-# The checksum of what the page is made of.
+# The checksum of what the page and the modules are made of: the code of the crates, but for tests and examples, and what web/build.sh reads beside it.
 sources_sum() (
     cd "$top" || exit 1
-    find crates crates.txt web docs/RULES.md docs/REFERENCE.md -name out -prune -o -type f -print0 | LC_ALL=C sort -z | xargs -0 sha256sum | sha256sum | cut -d ' ' -f 1
+    {
+        find crates -name '*.rt' -path '*/src/*' ! -path 'crates/*_tests/*' ! -path 'crates/t1_samples/*' ! -path 'crates/example/*'
+        find web -type f ! -path 'web/out/*' ! -path 'web/modules/*' ! -name '*.mjs'
+        printf '%s\n' crates.txt web/host.mjs docs/RULES.md docs/REFERENCE.md tests/draw/fonts/letter.pfb
+    } | LC_ALL=C sort | tr '\n' '\0' | xargs -0 sha256sum | sha256sum | cut -d ' ' -f 1
 )
+
+# Makes the modules and the page in web/out, where a part of them is newer.
+make_modules() {
+    newer=$(cd "$top" && find crates.txt crates/*/src crates/*/specs crates/*/proofs docs/RULES.md docs/REFERENCE.md tests/draw/fonts/letter.pfb bin/build.sh web \
+        \( -path web/out -o -path web/modules -o -name 't1*.mjs' -o -name wasi.mjs \) -prune -o -type f -newer web/out/t1check.html -print 2>/dev/null | head -n 1)
+    [ -f "$top/web/out/t1check.html" ] && [ -z "$newer" ] || "$top/web/build.sh"
+}
+
+# The command of a crate.
+command_of() { printf '%s\n' "$1" | sed 's/_/-/'; }
+
+# Runs a program of the release by node, for the words of the command line: NAME WORDS... Ends the script.
+run_by_node() {
+    name=$1 command=$(command_of "$1")
+    shift
+    if ! command -v node >/dev/null || ! [ -f "$top/web/modules/$name.wasm.gz" ]; then
+        echo "$command: the program isn't built, and node, which would run that of the release, isn't on the path" >&2
+        echo "$command: 'bin/$command --build' builds it, with the Rattle kit; $top/docs/t1check.html checks fonts in a browser" >&2
+        exit 3
+    fi
+    if [ -t 2 ]; then
+        newer=''
+        [ "$(sources_sum)" = "$(cat "$top/web/modules/sources" 2>/dev/null)" ] || newer='; sources here are newer than it'
+        echo "$command: the program isn't built, so node runs that of the release$newer (bin/$command --build builds it)" >&2
+    fi
+    # Node opens a closed descriptor as /dev/null, which takes and has bytes. The other way round it's of no use to the program either.
+    true 2>/dev/null 3<&0 || exec 0>/dev/null
+    true 2>/dev/null 3>&1 || exec 1</dev/null
+    true 3>&2 2>/dev/null || exec 2</dev/null
+    exec node "$top/web/$command.mjs" "$@"
+}
 
 # Shows a line, on a terminal in the place of the one before.
 show_line() {
@@ -93,18 +128,15 @@ build_anew() {
     run_rt "$name" "$name: proving and building crate $count of $count, $name" run -- --help
 }
 
-# Sets `program`, the file of the program of a crate, NAME, and builds it where it isn't built, or where a source has changed since the last
-# good build.
+# Builds the program of a crate, NAME, where it isn't built, or where a source has changed since the last good build.
 build() {
     name_files "$1"
     if is_built; then
         return
     fi
     if ! command -v rt >/dev/null; then
-        needed="'rt', the command of the Rattle kit, isn't on the path"
-        [ "$name" != t1check ] || command -v node >/dev/null || needed="$needed; nor is node, which would do for a report"
-        echo "$name: the program has to be built, and $needed" >&2
-        echo "$name: $top/docs/t1check.html checks fonts in a browser; see 'Build and test' in $top/README.md" >&2
+        echo "$name: the program has to be built, and 'rt', the command of the Rattle kit, isn't on the path" >&2
+        echo "$name: see 'Build and test' in $top/README.md" >&2
         return 1
     fi
     mkdir -p "$out" || return 1
@@ -123,7 +155,7 @@ build() {
 answer_alone() {
     name_files "$1"
     [ $# -eq 2 ] || return 0
-    command=$(printf '%s\n' "$name" | sed 's/_/-/')
+    command=$(command_of "$name")
     case $2 in
         --build)
             build "$name" && exit
@@ -144,35 +176,4 @@ answer_alone() {
             exit 3
             ;;
     esac
-}
-
-# Whether t1check was never built, and web/t1check.mjs answers these words as it does: options that both have, each once and with a value that
-# both take. All else is left to the program.
-is_for_node() {
-    [ ! -e "$program" ] && [ -f "$top/docs/t1check.html" ] && command -v node >/dev/null || return 1
-    given=' '
-    while [ $# -gt 0 ]; do
-        case $1 in
-            --edition | --waive | --after | --max)
-                [ $# -gt 1 ] || return 1
-                option=$1 value=$2
-                shift
-                ;;
-            --edition=* | --waive=* | --after=* | --max=*) option=${1%%=*} value=${1#*=} ;;
-            -) option=file value=- ;;
-            -*) return 1 ;;
-            *) option=file value=$1 ;;
-        esac
-        shift
-        case $given in *" $option "*) return 1 ;; esac
-        given="$given$option "
-        case $option,$value in
-            --edition,[123]) ;;
-            --edition,* | --waive, | --waive,-*) return 1 ;;
-            --after,* | --max,*)
-                # Up to 19 digits are below 2^64.
-                case $value in '' | *[!0-9]* | ????????????????????*) return 1 ;; esac
-                ;;
-        esac
-    done
 }

@@ -1,17 +1,18 @@
 #!/bin/sh
-# Makes web/out: t1_web.wasm, the module of the exports of crates/t1_web, and t1check.html, one page that needs no other file.
+# Makes web/out: a module of each program, as t1check.wasm, which node runs by web/wasi.mjs; t1_web.wasm, the module of the exports of crates/t1_web;
+# and t1check.html, one page that needs no other file.
 #
-# The crate is proved and compiled as a static library for x86-64. The LLVM module that rattle hands to the kit's clang is compiled for
-# WebAssembly by the same clang. A memory of 64 bits is made one of 32 by wasm-opt (Debian: binaryen), which browsers without 64-bit memory
-# need; where it isn't installed the module keeps 64 bits. The same sources, kit and binaryen give the same bytes.
+# A crate is proved and compiled for x86-64, t1_web as a static library. The LLVM module that rattle hands to the kit's clang is compiled for
+# WebAssembly by the same clang. A memory of 64 bits is made one of 32 by wasm-opt (Debian: binaryen), which node and browsers without 64-bit memory
+# need; where it isn't installed the modules keep 64 bits. The same sources, kit and binaryen give the same bytes.
 set -u
 LC_ALL=C
 export LC_ALL
 
 here=$(CDPATH='' cd -P -- "$(dirname "$0")" && pwd -P) || exit 3
 top=$(dirname "$here")
-crate=t1_web
-exports='t1_web_lines t1_web_document t1_web_picture t1_web_entry web_room web_free memory'
+programs='t1check t1check_all t1draw'
+web_exports='t1_web_lines t1_web_document t1_web_picture t1_web_entry web_room web_free'
 out=$here/out
 
 # shellcheck source=bin/build.sh
@@ -45,7 +46,7 @@ same_words() {
     }
 }
 
-# ---- the crate, proved
+# ---- a crate, proved
 
 # The libraries that a crate uses, and whether the repository has one.
 uses() { sed -n "s/^$1\( [^:]*\)*: *//p" "$top/crates.txt"; }
@@ -71,6 +72,8 @@ is_crate_proved() {
 
 prove() (is_crate_proved || { cd "$top/crates/$crate" && rt check; })
 
+is_program() { [ -f "$top/crates/$crate/src/main.rt" ]; }
+
 # ---- what rattle hands to clang
 
 # A toolchain whose clang keeps the module and the words that it is given, and then does what the kit's does.
@@ -82,7 +85,7 @@ make_toolchain() {
     done
     cat >"$scratch/toolchain/bin/clang" <<END
 #!/bin/sh
-printf '%s\n' "\$@" >>"$scratch/words"
+printf '%s\n' "\$@" >"$scratch/words"
 [ ! -f module.bc ] || cp module.bc "$scratch/module.bc"
 exec "$clang" "\$@"
 END
@@ -92,7 +95,8 @@ END
 # Where a library that the repository has is built, rt has put it there.
 compile_for_x86() (
     cd "$top/crates/$crate" || exit 1
-    set -- --extern "std=$kit/rlibs/std.rlib" -L "dependency=$kit/rlibs"
+    if is_program; then set -- src/main.rt; else set -- src/lib.rt --crate-type staticlib; fi
+    set -- "$@" --extern "std=$kit/rlibs/std.rlib" -L "dependency=$kit/rlibs"
     for library in $(uses "$crate"); do
         if is_ours "$library"; then
             set -- "$@" --extern "$library=$top/crates/$library/out/rlib/$library.rlib"
@@ -103,14 +107,15 @@ compile_for_x86() (
     for library in $(below "$crate"); do
         set -- "$@" -L "dependency=$top/crates/$library/out/rlib"
     done
-    exec "$kit/bin/rattle" build --crate-name "$crate" src/lib.rt "$@" --antt-project "$kit/rattle/logic/antt-project.json" \
-        --logic-built "$kit/logic_built" --incremental out/incremental --crate-type staticlib --cpu x86-64 --backend llvm \
-        --toolchain "$scratch/toolchain" -o "$scratch/made.a"
+    exec "$kit/bin/rattle" build --crate-name "$crate" "$@" --antt-project "$kit/rattle/logic/antt-project.json" \
+        --logic-built "$kit/logic_built" --incremental out/incremental --cpu x86-64 --backend llvm \
+        --toolchain "$scratch/toolchain" -o "$scratch/made"
 )
 
-# The words that are known, one a line. Those after `-mllvm` that name x86 are its own; the others hold for each processor.
+# The words that are known, one a line. Those after `-mllvm` that name x86 are its own; the others hold for each processor. Of a program equal
+# functions are one.
 write_known_words() {
-    cat >"$scratch/known" <<END
+    cat <<END
 --target=x86_64-unknown-linux-gnu
 --sysroot=$scratch/toolchain
 -march=x86-64
@@ -139,9 +144,12 @@ ir
 module.bc
 -o
 module.o
--fPIC
--O3
 END
+    if is_program; then
+        printf '%s\n' -fPIE -O3 -Xclang -fmerge-functions -mllvm -mergefunc-use-aliases
+    else
+        printf '%s\n' -fPIC -O3
+    fi
 }
 
 # ---- WebAssembly
@@ -165,24 +173,44 @@ make_portable() {
         "$scratch/module.ll" >"$scratch/portable.ll"
 }
 
-# Nothing is left undefined, so the module imports nothing.
+# Nothing is left undefined: a program imports what system.c names as imports, the module of the page nothing.
 link() {
-    set --
-    for name in $exports; do
-        [ "$name" = memory ] || set -- "$@" "--export=$name"
-    done
+    if is_program; then
+        set -- --export=_start "$scratch/system.o"
+    else
+        set --
+        for name in $web_exports; do
+            set -- "$@" "--export=$name"
+        done
+    fi
     quietly "$kit/toolchain/bin/ld.lld" -flavor wasm -mwasm64 --no-entry "$@" --stack-first -z stack-size=1048576 --gc-sections \
         --strip-all -o "$scratch/module.wasm" "$scratch/module.o" "$scratch/heap.o" "$scratch/helpers.o"
 }
 
+# A table of functions, which a call through a pointer would make, is refused here.
 lower_memory() {
     if command -v wasm-opt >/dev/null; then
         quietly wasm-opt --enable-memory64 --enable-bulk-memory --enable-sign-ext --enable-mutable-globals \
             --enable-nontrapping-float-to-int --memory64-lowering "$scratch/module.wasm" -o "$out/$crate.wasm"
     else
-        echo "web/build.sh: without wasm-opt (Debian: binaryen) the module needs a browser with 64-bit memory" >&2
+        echo "web/build.sh: without wasm-opt (Debian: binaryen) $crate.wasm needs node or a browser with 64-bit memory" >&2
         cp "$scratch/module.wasm" "$out/$crate.wasm"
     fi
+}
+
+# Makes the module of a crate.
+make_module() {
+    crate=$1
+    quietly prove
+    rm -f "$scratch/module.bc"
+    quietly compile_for_x86
+    [ -f "$scratch/module.bc" ] || die "the kit hands clang no module.bc of $crate"
+    write_known_words >"$scratch/known"
+    same_words "$scratch/known" "$scratch/words"
+    make_portable
+    quietly compile_for_wasm -Wno-override-module -O3 -x ir "$scratch/portable.ll" -o "$scratch/module.o"
+    link
+    lower_memory
 }
 
 # ---- the page
@@ -190,7 +218,7 @@ lower_memory() {
 # A line {{NAME}} of page.html means the text NAME.
 make_page() {
     mkdir -p "$scratch/parts"
-    gzip -9 -n -c "$out/$crate.wasm" | base64 -w 0 >"$scratch/parts/$crate"
+    gzip -9 -n -c "$out/t1_web.wasm" | base64 -w 0 >"$scratch/parts/t1_web"
     { sed 's/^export //' "$here/host.mjs" && cat "$here/worker.js"; } >"$scratch/parts/worker"
     { cat "$top/docs/RULES.md" && sed -n '/^## /,$p' "$top/docs/REFERENCE.md"; } |
         sed 's/](RULES\.md#/](#/g; s/](REFERENCE\.md#/](#/g' >"$scratch/parts/rules"
@@ -209,18 +237,12 @@ make_page() {
 }
 
 mkdir -p "$out" || exit 3
-quietly prove
 make_toolchain
-quietly compile_for_x86
-[ -f "$scratch/module.bc" ] || die 'the kit hands clang no module.bc'
-write_known_words
-same_words "$scratch/known" "$scratch/words"
-make_portable
-quietly compile_for_wasm -Wno-override-module -O3 -x ir "$scratch/portable.ll" -o "$scratch/module.o"
-for part in heap helpers; do
+for part in heap helpers system; do
     quietly compile_for_wasm -O2 -ffreestanding -nostdinc "$here/$part.c" -o "$scratch/$part.o"
 done
-link
-lower_memory
-[ ! -f "$here/page.html" ] || make_page
+for module in $programs t1_web; do
+    make_module "$module"
+done
+make_page
 ls -l "$out"

@@ -1,6 +1,6 @@
 #!/bin/sh
-# Tries when the scripts in bin/ build their programs: where there is none yet, and where a source is newer. They show how far a build is.
-# Where it fails, no program runs.
+# Tries how the scripts in bin/ build their programs: `--build` alone does, where there is none yet, and where a source is newer. It shows how far it is.
+# Where no program is built of the sources here, node runs that of the release.
 
 # shellcheck source=tests/tools/common.sh
 . "$(dirname "$0")/common.sh"
@@ -26,39 +26,25 @@ echo 'so far: 2 of 2 functions checked'
 printf '#!/bin/sh\necho "${0##*/}: $*"\n' >"out/$tool" && chmod +x "out/$tool"
 END
 chmod +x "$scratch/kit/rt"
-for tool in t1check t1draw; do
+for tool in t1check t1draw t1check-all; do
+    name=$(echo "$tool" | tr - _)
     wanted <<END
-$tool: a  b
 --
-$tool: proving and building crate 1 of 1, $tool
+$name: proving and building crate 1 of 1, $name
 END
-    try "building $tool" 0 env PATH="$scratch/kit:$PATH" "$build/bin/$tool" 'a  b'
-done
-for tool in t1draw t1check; do
+    try "building $tool" 0 env PATH="$scratch/kit:$PATH" "$build/bin/$tool" --build
     wanted <<END
-$tool: a  b
+$name: a  b
 --
 END
     try "$tool, which is built" 0 env PATH="$scratch/kit:$PATH" "$build/bin/$tool" 'a  b'
 done
-wanted <<'END'
-t1check_all: a  b
---
-t1check_all: proving and building crate 1 of 1, t1check_all
-END
-try 'building t1check-all' 0 env PATH="$scratch/kit:$PATH" "$build/bin/t1check-all" 'a  b'
-wanted <<'END'
-t1check_all: a  b
---
-END
-try 'building t1check-all once' 0 env PATH="$scratch/kit:$PATH" "$build/bin/t1check-all" 'a  b'
 touch -t 203001010000 "$build/crates/t1check/src/new.rt"
 wanted <<'END'
-t1check: a  b
 --
 t1check: proving and building crate 1 of 1, t1check
 END
-try 'building t1check anew' 0 env PATH="$scratch/kit:$PATH" "$build/bin/t1check" 'a  b'
+try 'building t1check anew' 0 env PATH="$scratch/kit:$PATH" "$build/bin/t1check" --build
 wanted <<'END'
 t1check: rt run -- --help
 t1draw: rt run -- --help
@@ -72,7 +58,6 @@ touch -t 200001010000 "$build/crates/t1check/src/new.rt"
 # The list of crates, definitions and proofs count as sources do. The first run of each builds, the second does not.
 wanted <<'END'
 t1check: a
-t1check: a
 built 1
 --
 END
@@ -80,8 +65,9 @@ for source in crates.txt crates/t1_x/specs/new.antt crates/t1_x/specs/deep/new.a
     : >"$build/runs"
     touch -t 203001010000 "$build/$source"
     # shellcheck disable=SC2016
-    try "building for $source" 0 env PATH="$scratch/kit:$PATH" sh -c '"$0/bin/t1check" a 2>/dev/null
+    try "building for $source" 0 env PATH="$scratch/kit:$PATH" sh -c '"$0/bin/t1check" --build 2>/dev/null
         touch -t 200001010000 "$0/$1"
+        "$0/bin/t1check" --build
         "$0/bin/t1check" a
         echo built $(wc -l <"$0/runs")' "$build" "$source"
 done
@@ -91,17 +77,14 @@ done
 : >"$build/edit"
 touch -t 203001010000 "$build/crates.txt"
 wanted <<'END'
-t1check: a
-t1check: a
-t1check: a
 built 2
 --
 END
 # shellcheck disable=SC2016
-try 'a source that is edited during a build' 0 env PATH="$scratch/kit:$PATH" sh -c '"$0/bin/t1check" a 2>/dev/null
+try 'a source that is edited during a build' 0 env PATH="$scratch/kit:$PATH" sh -c '"$0/bin/t1check" --build 2>/dev/null
     touch -t 200001010000 "$0/crates.txt"
-    "$0/bin/t1check" a 2>/dev/null
-    "$0/bin/t1check" a
+    "$0/bin/t1check" --build 2>/dev/null
+    "$0/bin/t1check" --build
     echo built $(wc -l <"$0/runs")' "$build"
 
 # The libraries below a program are proved first, each once, and those above one that has changed.
@@ -112,23 +95,20 @@ show() {
     : >"$build/runs"
     rm -f "$build/crates/t1check/out/built"
     wanted
-    try "$1" 0 env PATH="$scratch/kit:$PATH" "$build/bin/t1check" a
+    try "$1" 0 env PATH="$scratch/kit:$PATH" "$build/bin/t1check" --build
 }
 show 'building libraries' <<'END'
-t1check: a
 --
 t1check: proving crate 1 of 3, t1_x
 t1check: proving crate 2 of 3, t1_y
 t1check: proving and building crate 3 of 3, t1check
 END
 show 'libraries that are built' <<'END'
-t1check: a
 --
 t1check: proving and building crate 3 of 3, t1check
 END
 touch -t 203001010000 "$build/crates/t1_y/src/new.rt"
 show 'a library that has changed' <<'END'
-t1check: a
 --
 t1check: proving crate 2 of 3, t1_y
 t1check: proving and building crate 3 of 3, t1check
@@ -152,8 +132,8 @@ if [ "$(limited script -qec 'echo here' /dev/null </dev/null 2>/dev/null | tr -d
     for function in '1 of 2' '2 of 2'; do
         printf '\r%s\033[K' "t1check: proving and building crate 3 of 3, t1check, function $function" >>"$scratch/moved"
     done
-    printf '\r\033[Kt1check: a\r\n' >>"$scratch/moved"
-    limited env PATH="$scratch/kit:$PATH" script -qec "exec '$build/bin/t1check' a" /dev/null </dev/null >"$scratch/shown"
+    printf '\r\033[K' >>"$scratch/moved"
+    limited env PATH="$scratch/kit:$PATH" script -qec "exec '$build/bin/t1check' --build" /dev/null </dev/null >"$scratch/shown"
     if cmp -s "$scratch/moved" "$scratch/shown"; then
         pass
     else
@@ -164,7 +144,6 @@ else
 fi
 : >"$build/crates.txt"
 
-# The program of an earlier build is there, and does not run.
 : >"$build/fails"
 touch -t 203001010000 "$build/crates.txt"
 wanted <<'END'
@@ -172,25 +151,15 @@ wanted <<'END'
 t1check: proving and building crate 1 of 1, t1check
 not proved
 END
-try 'a build that fails' 3 env PATH="$scratch/kit:$PATH" "$build/bin/t1check" a
+try 'a build that fails' 3 env PATH="$scratch/kit:$PATH" "$build/bin/t1check" --build
 wanted <<'END'
 --
 t1check_all: proving and building crate 1 of 1, t1check_all
 not proved
 END
-try 'a build of t1check-all that fails' 3 env PATH="$scratch/kit:$PATH" "$build/bin/t1check-all" a
+try 'a build of t1check-all that fails' 3 env PATH="$scratch/kit:$PATH" "$build/bin/t1check-all" --build
 
 # ---- without a build
-
-# `--build` alone builds and runs nothing.
-rm "$build/fails"
-touch -t 200001010000 "$build/crates.txt"
-rm -f "$build/crates/t1draw/out/built"
-wanted <<'END'
---
-t1draw: proving and building crate 1 of 1, t1draw
-END
-try 'a build alone' 0 env PATH="$scratch/kit:$PATH" "$build/bin/t1draw" --build
 
 # Help and versions need no program. The files of help are what the programs print.
 mkdir -p "$scratch/fresh/crates/t1_forms/src" "$scratch/fresh/docs" "$scratch/fresh/web" "$scratch/no tools" "$scratch/nodes"
@@ -225,63 +194,42 @@ END
     try "$script's version without a build" 0 env PATH="$scratch/no tools" "$scratch/fresh/bin/$script" --version
 done
 
-# Where t1check was never built, node answers what both take in the same way. A script in its place prints its words.
+# Where no program is built of the sources here, node runs that of the release, whatever the words are. A script in node's place prints its words.
 cat >"$scratch/nodes/node" <<'END'
 #!/bin/sh
-printf 'node'
+echo "node ${1##*/}"
 shift
-printf ' %s' "$@"
-echo
+for word; do printf '<%s>\n' "$word"; done
 exit 1
 END
 chmod +x "$scratch/nodes/node"
-: >"$scratch/fresh/web/t1check.mjs"
-: >"$scratch/fresh/docs/t1check.html"
-while IFS= read -r words; do
+mkdir -p "$scratch/fresh/web/modules"
+for tool in t1check t1check-all t1draw; do
+    : >"$scratch/fresh/web/modules/$(echo "$tool" | tr - _).wasm.gz"
     wanted <<END
-node${words:+ $words}
+node $tool.mjs
+<--nosuch>
+<a  b>
+<>
 --
 END
-    # shellcheck disable=SC2086
-    try "by node: $words" 1 env PATH="$scratch/nodes:$scratch/no tools" "$scratch/fresh/bin/t1check" $words
-done <<'END'
-font.pfb
--
---edition 3 --waive list --after 10 --max 2 font.pfb
---edition=1 --max=9999999999999999999
-END
-while IFS= read -r words; do
+    try "$tool by node" 1 env PATH="$scratch/nodes:$scratch/no tools" "$scratch/fresh/bin/$tool" --nosuch 'a  b' ''
     wanted <<END
 --
-t1check: the program has to be built, and 'rt', the command of the Rattle kit, isn't on the path
-t1check: $scratch/fresh/docs/t1check.html checks fonts in a browser; see 'Build and test' in $scratch/fresh/README.md
+$tool: the program isn't built, and node, which would run that of the release, isn't on the path
+$tool: 'bin/$tool --build' builds it, with the Rattle kit; $scratch/fresh/docs/t1check.html checks fonts in a browser
 END
-    # shellcheck disable=SC2086
-    try "not by node: $words" 3 env PATH="$scratch/nodes:$scratch/no tools" "$scratch/fresh/bin/t1check" $words
-done <<'END'
---trace A font.pfb
---edition 4 font.pfb
---after -1 font.pfb
---max 99999999999999999999 font.pfb
---edition 1 --edition 1 font.pfb
-one.pfb two.pfb
--- font.pfb
---edition
-END
-wanted <<END
+    try "neither $tool nor node" 3 env PATH="$scratch/no tools" "$scratch/fresh/bin/$tool" font.pfb
+    name=$(echo "$tool" | tr - _)
+    wanted <<END
 --
-t1check: the program has to be built, and 'rt', the command of the Rattle kit, isn't on the path; nor is node, which would do for a report
-t1check: $scratch/fresh/docs/t1check.html checks fonts in a browser; see 'Build and test' in $scratch/fresh/README.md
+$name: the program has to be built, and 'rt', the command of the Rattle kit, isn't on the path
+$name: see 'Build and test' in $scratch/fresh/README.md
 END
-try 'neither node nor rt' 3 env PATH="$scratch/no tools" "$scratch/fresh/bin/t1check" font.pfb
-wanted <<END
---
-t1draw: the program has to be built, and 'rt', the command of the Rattle kit, isn't on the path
-t1draw: $scratch/fresh/docs/t1check.html checks fonts in a browser; see 'Build and test' in $scratch/fresh/README.md
-END
-try 'no rt for t1draw' 3 env PATH="$scratch/nodes:$scratch/no tools" "$scratch/fresh/bin/t1draw" A font.pfb
+    try "no rt for $tool" 3 env PATH="$scratch/nodes:$scratch/no tools" "$scratch/fresh/bin/$tool" --build
+done
 
-# Where it is built, or was, the program answers.
+# Where the program is built, it answers; where a source is newer, node does.
 mkdir -p "$scratch/fresh/crates/t1check/out"
 cp "$build/crates/t1check/out/t1check" "$scratch/fresh/crates/t1check/out/"
 : >"$scratch/fresh/crates/t1check/out/built"
@@ -290,13 +238,27 @@ t1check: font.pfb
 --
 END
 try 'the program, where it is built' 0 env PATH="$scratch/nodes:$scratch/no tools" "$scratch/fresh/bin/t1check" font.pfb
+touch -t 203001010000 "$scratch/fresh/crates.txt"
+wanted <<'END'
+node t1check.mjs
+<font.pfb>
+--
+END
+try 'node, where a source is newer' 1 env PATH="$scratch/nodes:$scratch/no tools" "$scratch/fresh/bin/t1check" font.pfb
 
-# On a terminal it is said that node answers.
-rm -r "$scratch/fresh/crates/t1check"
+# On a terminal it is said that node answers, and whether the sources are those of the release.
 if [ "$(limited script -qec 'echo here' /dev/null </dev/null 2>/dev/null | tr -d '\r')" = here ]; then
-    printf '%s\r\n%s\r\n' "t1check: answered by node, since the program isn't built; bin/t1check --build builds it" 'node font.pfb' >"$scratch/said"
-    limited env PATH="$scratch/nodes:$PATH" script -qec "exec '$scratch/fresh/bin/t1check' font.pfb" /dev/null </dev/null >"$scratch/shown"
-    if cmp -s "$scratch/said" "$scratch/shown"; then pass; else fail "node on a terminal: $(cat "$scratch/shown")"; fi
+    mkdir -p "$scratch/fresh/tests/draw/fonts"
+    : >"$scratch/fresh/web/host.mjs"
+    : >"$scratch/fresh/tests/draw/fonts/letter.pfb"
+    for newer in '' '; sources here are newer than it'; do
+        sum=$(top=$scratch/fresh && . "$top/bin/build.sh" && sources_sum)
+        echo "${newer:+x}$sum" >"$scratch/fresh/web/modules/sources"
+        said="t1check: the program isn't built, so node runs that of the release$newer (bin/t1check --build builds it)"
+        printf '%s\r\nnode t1check.mjs\r\n<font.pfb>\r\n' "$said" >"$scratch/said"
+        limited env PATH="$scratch/nodes:$PATH" script -qec "exec '$scratch/fresh/bin/t1check' font.pfb" /dev/null </dev/null >"$scratch/shown"
+        if cmp -s "$scratch/said" "$scratch/shown"; then pass; else fail "node on a terminal: $(cat "$scratch/shown")"; fi
+    done
 fi
 
 finish

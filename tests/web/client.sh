@@ -1,0 +1,9 @@
+#!/bin/sh
+# Stands in the place of a program: has it run by serve.mjs, whose pipe is REQUESTS.
+requests=REQUESTS
+if [ $# -gt 0 ]; then printf '%s\0' "$@"; fi >"$requests.$$.words"
+mkfifo "$requests.$$.reply"
+echo "$$ ${0##*/}" >"$requests"
+read -r status <"$requests.$$.reply"
+rm -f "$requests.$$.words" "$requests.$$.reply"
+exit "$status"
