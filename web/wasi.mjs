@@ -59,13 +59,19 @@ function patient(call) {
   }
 }
 
-// What an instance of a module is given: its words, its environment, and its files, by descriptors of node's for the first three.
+// An open file of a program, by what it is to node: a descriptor, or a function that takes what is written.
+function fileOf(given) {
+  if (given === undefined) return undefined;
+  return typeof given === 'function' ? { write: given } : { fd: given, write: (bytes) => fs.writeSync(given, bytes) };
+}
+
+// What an instance of a module is given: its words, its environment, and its files.
 class System {
   constructor(words, environment, standard) {
     this.words = words;
     this.environment = Object.entries(environment).map(([name, value]) => Buffer.from(`${name}=${value}`));
     const folders = [{ name: '/', path: Buffer.from('/') }, { name: '.', path: Buffer.alloc(0) }];
-    this.files = [...standard.map((fd) => (fd === undefined ? undefined : { fd })), ...folders];
+    this.files = [...standard.map(fileOf), ...folders];
   }
 
   // ---- Memory, which moves when it grows
@@ -119,12 +125,12 @@ class System {
   opened(follows, path, how, rights, flags) {
     if (how & IS_FOLDER) {
       if (!this.stat(follows, path).isDirectory()) throw new Failed('NOTDIR');
-      return { path: Buffer.from(`${path}/`), entries: fs.readdirSync(path, { encoding: 'buffer' }) };
+      return { path: Buffer.concat([Buffer.from(path), Buffer.from('/')]), entries: fs.readdirSync(path, { encoding: 'buffer' }) };
     }
     const { O_RDONLY, O_WRONLY, O_RDWR, O_CREAT, O_EXCL, O_TRUNC, O_APPEND } = fs.constants;
     const access = !(rights & RIGHT_WRITE) ? O_RDONLY : rights & RIGHT_READ ? O_RDWR : O_WRONLY;
     const others = (how & CREATES && O_CREAT) | (how & IS_NEW && O_EXCL) | (how & EMPTIES && O_TRUNC) | (flags & APPENDS && O_APPEND);
-    return { fd: fs.openSync(path, access | others, 0o666) };
+    return fileOf(fs.openSync(path, access | others, 0o666));
   }
 
   // Hands each part to a call, until one isn't used up.
@@ -149,7 +155,9 @@ class System {
   putTexts(texts, entries, at) {
     for (const [place, text] of texts.entries()) {
       this.putNumber(entries + 4 * place, at);
-      this.bytes(at, text.length + 1).set([...text, 0]);
+      const room = this.bytes(at, text.length + 1);
+      room.set(text);
+      room[text.length] = 0;
       at += text.length + 1;
     }
   }
@@ -166,7 +174,7 @@ class System {
         if (file.fd !== undefined) fs.closeSync(file.fd);
       },
       fd_fdstat_get: (fd, at) => {
-        const isTerminal = tty.isatty(this.file(fd).fd);
+        const isTerminal = tty.isatty(this.file(fd).fd ?? -1);
         this.bytes(at, ENTRY).fill(0);
         this.view.setUint8(at, isTerminal ? CHARACTER_DEVICE : REGULAR_FILE);
         this.view.setBigUint64(at + 8, isTerminal ? RIGHT_READ | RIGHT_WRITE : ALL_RIGHTS, true);
@@ -207,7 +215,7 @@ class System {
       fd_sync: (fd) => fs.fsyncSync(this.file(fd).fd),
       fd_write: (fd, parts, count, size) => {
         const file = this.file(fd);
-        this.putNumber(size, this.each(parts, count, (bytes) => fs.writeSync(file.fd, bytes)));
+        this.putNumber(size, this.each(parts, count, file.write));
       },
       path_create_directory: (fd, at, size) => fs.mkdirSync(this.path(fd, at, size)),
       path_filestat_get: (fd, follows, at, size, found) => this.putStat(found, this.stat(follows, this.path(fd, at, size))),
@@ -249,8 +257,8 @@ class System {
   }
 }
 
-// Runs a program and returns its status. The words are bytes, its name first. Input, output and errors are node's descriptors, or undefined where one
-// is closed.
+// Runs a program and returns its status. The words are bytes, its name first. Input, output and errors are descriptors of node's, or functions that
+// take what is written, or undefined where one is closed.
 export function run(module, words, { environment = process.env, standard = [0, 1, 2] } = {}) {
   const system = new System(words, environment, standard);
   const { exports } = new WebAssembly.Instance(module, system.imports());
@@ -258,16 +266,20 @@ export function run(module, words, { environment = process.env, standard = [0, 1
   try {
     exports._start();
   } catch (ended) {
-    if (!(ended instanceof Ended)) throw ended;
-    return ended.status;
+    if (ended instanceof Ended) return ended.status;
+    throw new Error(`its module stopped: ${ended.message}`);
   } finally {
-    for (const { fd } of system.files.slice(3).filter(Boolean)) if (fd !== undefined) fs.closeSync(fd);
+    for (const file of system.files.slice(3)) if (file?.fd !== undefined) fs.closeSync(file.fd);
   }
 }
 
 // The module of a program of the release.
 export function moduleOf(name) {
-  return new WebAssembly.Module(zlib.gunzipSync(fs.readFileSync(new URL(`modules/${name}.wasm.gz`, import.meta.url))));
+  try {
+    return new WebAssembly.Module(zlib.gunzipSync(fs.readFileSync(new URL(`modules/${name}.wasm.gz`, import.meta.url))));
+  } catch (error) {
+    throw new Error(`its module can't be used: ${error.message}`);
+  }
 }
 
 // The words of the command line. Node has lost bytes of a word that isn't UTF-8; Linux has them.
@@ -280,26 +292,23 @@ function wordsGiven(named) {
   return words.map((word) => Buffer.from(named(word)));
 }
 
-// Runs a program as the process that this is: on the words of the command line, each as `named` makes it, after those that come before.
-export function start(name, program, { before = [], named = (word) => word } = {}) {
-  const failed = (why) => {
+// Ends this process as a program, with the status that a function returns.
+export function answer(program, work) {
+  try {
+    const { node } = process.versions;
+    if (Number.parseInt(node, 10) < LEAST_NODE) throw new Error(`node ${LEAST_NODE} is needed, and this is ${node}`);
+    process.exitCode = work();
+  } catch (error) {
     process.exitCode = FAILED;
     try {
-      fs.writeSync(2, `${program}: ${why}\n`);
+      fs.writeSync(2, `${program}: ${error.message}\n`);
     } catch {
       // Nobody can be told.
     }
-  };
-  if (Number(process.versions.node.split('.')[0]) < LEAST_NODE) return failed(`node ${LEAST_NODE} is needed, and this is ${process.versions.node}`);
-  let module;
-  try {
-    module = moduleOf(name);
-  } catch (error) {
-    return failed(`its module can't be used: ${error.message}`);
   }
-  try {
-    process.exitCode = run(module, [...[program, ...before].map((word) => Buffer.from(word)), ...wordsGiven(named)]);
-  } catch (error) {
-    failed(`its module stopped: ${error.message}`);
-  }
+}
+
+// Runs a program on the words of the command line, each as `named` makes it, after those that come before.
+export function start(name, program, { before = [], named = (word) => word } = {}) {
+  answer(program, () => run(moduleOf(name), [...[program, ...before].map((word) => Buffer.from(word)), ...wordsGiven(named)]));
 }

@@ -1,5 +1,5 @@
 // Calls the functions of web/system.c in the working folder, and prints a line of each: its name, what it returned, and the error where it failed.
-// tests/web/system.mjs has the wanted lines.
+// calls.txt has the wanted lines.
 typedef unsigned long size_t;
 typedef long ssize_t;
 typedef unsigned u32;
@@ -49,13 +49,13 @@ static int opened(const char *name, int fd) {
 static unsigned char stat[256];
 
 static void tell_stat(const char *path, int flags) {
-  if (tell(path, statx(CWD, path, flags, 0, stat)) == 0) {
-    put("mode ");
-    put_number(*(unsigned short *)(void *)(stat + 28), 8);
-    put(" size ");
-    put_number(*(long *)(void *)(stat + 40), 10);
-    put("\n");
-  }
+  if (tell(path, statx(CWD, path, flags, 0, stat)) < 0) return;
+  u32 mode = *(unsigned short *)(void *)(stat + 28);
+  put("mode ");
+  put_number(mode, 8);
+  put("\n");
+  // That of a folder is its file system's.
+  if ((mode & 0170000) == 0100000) tell("size", *(long *)(void *)(stat + 40));
 }
 
 // The names in a folder, read with a buffer of so many bytes: how many, and how many bytes they have.
@@ -128,7 +128,7 @@ int main(int count, char **words) {
   tell_folder("many/", 64);
   tell_folder("many/", 16);
   tell_folder("made/another name", 64);
-  tell_folder("leads", 64);
+  opened("a link to a folder", rattle_open_dir_at(CWD, "leads"));
   tell("unlink", unlink("made/another name"));
   tell("unlink", unlink("made/another name"));
   return 3;

@@ -1,10 +1,9 @@
 // Compares the page's module, in node, with the programs, byte for byte: reports, JSON lines, refusals and pictures of the fonts in tests/,
-// in each edition, and t1check.mjs with t1check.
+// in each edition.
 //
 //     node module.mjs MODULE FOLDER        FOLDER takes files that are made
 import fs from 'fs';
 import path from 'path';
-import { spawnSync } from 'child_process';
 import * as host from '../../web/host.mjs';
 import { faultyFont, largeFont } from './fonts.mjs';
 import { finish, fontOfTests, fontsOfTests, formWords, run, same, test, top } from './common.mjs';
@@ -168,7 +167,6 @@ for (const name of ['letter.pfb', 'zones_and_glyphs.pfb']) {
   same(`${name}: the module's text has them`, linesOf(whole(host.report(module, bytes, { ...report, form: 'text' })).bytes), wanted);
   const objects = linesOf(whole(host.report(module, bytes, { ...report, form: 'json' })).bytes);
   same(`${name}: the module's JSON has them`, objects.map((line) => lineOf(JSON.parse(line))), wanted);
-  same(`${name}: t1check.mjs has them`, linesOf(spawnSync(process.execPath, [path.join(top, 'web', 't1check.mjs'), font]).stdout), wanted);
   if (fs.existsSync(path.join(top, 'crates/example/out/example'))) same(`${name}: the example has them`, wanted.map(() => exampleOf(font)), wanted);
   else console.log('tests/web.sh: crates/example is not built, so its lines are not compared');
   for (const glyph of new Set(wanted.filter((line) => line.includes(': glyph ')).map((line) => line.split(' ')[2]))) {
@@ -187,32 +185,6 @@ function lineOf({ unit, number, key, index, name, path: subrs, step, code, text 
 // The next line that the example shows: one more each time it runs.
 function exampleOf(font) {
   return run('example', [font, path.join(folder, `${path.basename(font)}.mark`)]).out.toString().split('\n')[0];
-}
-
-// t1check.mjs, of a file, of standard input and by its options.
-{
-  const script = path.join(top, 'web', 't1check.mjs');
-  const clean = fontOfTests('clean.pfb');
-  const waivers = made('waivers', 'D H02\nD X05\n');
-  const runs = [
-    [letter], [clean], [fontOfTests('E04.bin')], ['--edition', '2', fontOfTests('stem_of_one_edge.pfb')],
-    ['--waive', waivers, letter], ['--after', '1', letter],
-    ['--max', '2', letter], ['--after', '1', '--max', '1', letter], ['--after', '9', letter], ['--waive', made('malformed', 'A B\n'), letter],
-    ['--waive', waivers, '--after', '1', '--max', '0', letter], [path.join(folder, 'missing')], ['--edition=2', letter],
-    ['--edition', '3', clean], ['--edition=+3', fontOfTests('Z14.pfb')],
-  ];
-  const named = (words) => `t1check.mjs ${words.map((it) => path.basename(it)).join(' ')}`;
-  for (const words of runs) {
-    const { stdout, stderr, status } = spawnSync(process.execPath, [script, ...words]);
-    const { out, err, status: wanted } = run('t1check', words);
-    same(named(words), [stdout.toString('latin1'), stderr.toString(), status], [out.toString('latin1'), err, wanted]);
-  }
-  const { stdout, status } = spawnSync(process.execPath, [script], { input: fs.readFileSync(letter) });
-  same('t1check.mjs of standard input', [stdout.toString('latin1'), status], [run('t1check', [letter]).out.toString('latin1'), 1]);
-  for (const words of [['--trace', 'A', letter], ['--edition', '4', letter], ['--max', letter], [letter, letter]]) {
-    const { stdout, stderr, status } = spawnSync(process.execPath, [script, ...words]);
-    test(`${named(words)} is a usage error`, stdout.length === 0 && stderr.length > 0 && status === 3, `status ${status}`);
-  }
 }
 
 finish();
