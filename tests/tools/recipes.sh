@@ -1,6 +1,6 @@
 #!/bin/sh
-# Tries docs/recipes and docs/RECIPES.md: what jq, awk and node make of JSON lines and fonts; the files for CI services and for pre-commit, with
-# scripts in the place of what the network gives; and each command of the page, as it stands there, in a project made for it.
+# Tries docs/recipes and docs/RECIPES.md: what jq and awk make of JSON lines; the files for CI services and for pre-commit, with scripts in the place
+# of what the network gives; and each command of the page, as it stands there, in a project made for it.
 
 # shellcheck source=tests/tools/common.sh
 . "$(dirname "$0")/common.sh"
@@ -21,6 +21,16 @@ has() {
     return 1
 }
 
+# What node runs: the programs of the release.
+node_runs=''
+if has node nodejs; then
+    if [ "$(node -p 'process.versions.node.split(".")[0] >= 20')" = true ]; then
+        node_runs=yes
+    else
+        echo "skipped: recipes.sh: what needs node 20 or later, since $(node --version) is here (Debian: nodejs)"
+    fi
+fi
+
 # Each file says in its first line what it is, and the page links it.
 for file in "$recipes"/*; do
     name=${file##*/}
@@ -34,7 +44,7 @@ for name in github.yml github-node.yml gitlab.yml Jenkinsfile pre-commit-config.
     if grep -qF "$version" "$recipes/$name"; then pass; else fail "docs/recipes/$name: not of version $version"; fi
 done
 
-# ---- what jq and node make of fonts
+# ---- what jq makes of JSON lines
 
 mkdir shelf
 echo 'A 1' | make_font 'shelf/a|b.pfa'
@@ -153,49 +163,19 @@ END
     try 'table.jq' 0 jq -rs -f "$recipes/table.jq" shelf.jsonl
 fi
 
-# By node lines and status are those of t1check-all, whatever the names; a waivers file means its font.
-node_runs=''
-[ "$(has node nodejs && node -p 'process.version.slice(1).split(".")[0] >= 18')" = true ] && [ -f "$top/docs/t1check.html" ] && node_runs=yes
-if [ -n "$node_runs" ]; then
-    cp -R shelf/. "$odd/"
-    rm -f "$odd/link"
-    (cd "$odd" && limited "$all" -q . | sort) >wanted.lines
-    { cat wanted.lines && echo --; } >wanted
-    # shellcheck disable=SC2016
-    try 'node.sh, lines of folders' 0 sh -c 'cd "$1" && "$0/node.sh" . | sed "s|^\./||" | sort' "$recipes" "$odd"
-    wanted <<'END'
-shelf/two.pfa: 1: glyph A - 4 P03 closepath without a path
-shelf/two.pfa: 2: glyph A - 5 P03 closepath without a path
-shelf/two.pfa: 3: waiver B H02 U01 waiver not used
---
-END
-    try 'node.sh, a status of 1' 1 "$recipes/node.sh" shelf/clean.pfa shelf/two.pfa.waivers shelf/two.pfa
-    wanted <<'END'
-shelf/cut.pfa: refused: E03 segment cut short
---
-END
-    try 'node.sh, a status of 2' 2 "$recipes/node.sh" shelf/cut.pfa shelf/clean.pfa
-    wanted <<'END'
---
-missing.pfb: t1check: read failed
-END
-    try 'node.sh, a status of 3' 3 "$recipes/node.sh" missing.pfb shelf/clean.pfa
-    wanted <<'END'
---
-END
-    try 'node.sh, a status of 0' 0 "$recipes/node.sh" shelf/clean.pfa 'shelf/back\slash.pfa'
-fi
-
 # ---- the files for CI services
 
-# A release: what bin/install puts, as bin/release packs it. In the place of curl is a script that takes its files from there.
+# A release: what bin/install puts, as bin/release packs it, and of the package for node what runs. In the place of curl is a script that takes its
+# files from there, in the place of npm one that unpacks them.
 install_all
-mkdir release services
+mkdir -p release services package/web
 cp -R "$prefix" "t1check-$version"
 rm "t1check-$version/share/t1check/installed"
-tarball=t1check-$version-linux-x86_64.tar.gz
+cp -R "$top"/web/*.mjs "$top/web/modules" package/web/
+tarball=t1check-$version-linux-x86_64.tar.gz node_package=t1check-$version.tgz
 tar -czf "release/$tarball" "t1check-$version"
-(cd release && { sha256sum "$tarball" && echo "$(printf '%064d' 0)  t1check_${version}_amd64.deb"; } >SHA256SUMS)
+tar -czf "release/$node_package" package
+(cd release && { sha256sum "$tarball" "$node_package" && echo "$(printf '%064d' 0)  t1check_${version}_amd64.deb"; } >SHA256SUMS)
 cat >services/curl <<'END'
 #!/bin/sh
 [ ! -e "$RELEASE/none" ] || exit 22
@@ -203,10 +183,26 @@ for word; do
     case $word in https://*) cp "$RELEASE/${word##*/}" . || exit 22 ;; esac
 done
 END
+cat >services/npm <<'END'
+#!/bin/sh
+[ "$1 $2" = 'install -g' ] && mkdir -p "$HOME/bin" && tar -xzf "$3" -C "$HOME" || exit 1
+for program in "$HOME"/package/web/t1*.mjs; do
+    ln -sf "$program" "$HOME/bin/$(basename "$program" .mjs)"
+done
+END
 printf '#!/bin/sh\n' >services/apt-get
-chmod +x services/curl services/apt-get
+chmod +x services/*
 RELEASE=$scratch/release
 export RELEASE
+
+# Makes the release's checksums wrong, and right again.
+spoil_sums() {
+    mv release/SHA256SUMS release/right
+    sed 's/^[0-9a-f]/x/' release/right >release/SHA256SUMS
+}
+mend_sums() {
+    mv release/right release/SHA256SUMS
+}
 
 # A project with a clean font, one with a line and one that is refused.
 make_project() {
@@ -287,42 +283,56 @@ https://github.com/OWNER/REPOSITORY/blob/v1.0.0/docs/RULES.md#e03-segment-cut-sh
 https://github.com/OWNER/REPOSITORY/blob/v1.0.0/docs/RULES.md#h02-stems-overlap
 --
 END
+    cp wanted sarif.wanted
     # shellcheck disable=SC2016
-    ! has jq jq || try 'github.yml: SARIF' 0 \
-        jq -r '.runs[0] | .tool.driver.rules as $rules | .results[] | $rules[.ruleIndex].helpUri' github/t1check.sarif
+    uris='.runs[0] | .tool.driver.rules as $rules | .results[] | $rules[.ruleIndex].helpUri'
+    ! has jq jq || try 'github.yml: SARIF' 0 jq -r "$uris" github/t1check.sarif
     wanted <<'END'
 {'contents': 'read', 'actions': 'read', 'security-events': 'write'}
 --
 END
     try 'github.yml: permissions' 0 python3 -c 'import sys, yaml; print(yaml.safe_load(open(sys.argv[1]))["permissions"])' "$recipes/github.yml"
     echo 'the other bytes' >"$RUNNER_TEMP/$tarball"
-    sed 's/^[0-9a-f]/x/' release/SHA256SUMS >release/wrong
-    mv release/SHA256SUMS release/right
-    cp release/wrong release/SHA256SUMS
+    spoil_sums
     wanted <<'END'
 Get t1check: status 1
 --
 END
     # shellcheck disable=SC2016
     try 'github.yml: a tarball with another checksum' 0 sh -c 'PATH=$0/services:$PATH sh run_parts "$0/github.parts" "$0/github" | sed 1q' "$scratch"
-    mv release/right release/SHA256SUMS
-    rm -f release/wrong "$GITHUB_PATH"
+    mend_sums
+    rm -f "$GITHUB_PATH"
 
     if [ -n "$node_runs" ]; then
         make_project node
-        mkdir -p node/t1check/docs
-        cp -R "$recipes" "$top/docs/t1check.html" node/t1check/docs/
-        cp -R "$top/web" node/t1check/
-        rm -rf node/t1check/web/out
+        # What these fonts lack in edition 3 is known.
+        for font in clean.pfa edge.pfb; do
+            printf '1 %s fonts/%s\n' 'Z12 font BlueValues' "$font" 'F15 font FontMatrix' "$font" 'F16 font FontBBox' "$font"
+        done >node/known.txt
         python3 parts.py "$recipes/github-node.yml" "$scratch/node.parts"
-        wanted <<'END'
+        wanted <<END
 Leave line ends as they are: status 0
+Get t1check: status 0
+$(grep "$node_package" release/SHA256SUMS)
 Check the fonts: status 2
 fonts/cut.pfa: refused: E03 segment cut short
-fonts/edge.pfb: 1: glyph A - 9 H02 stems overlap
+fonts/edge.pfb: 4: glyph A - 9 H02 stems overlap
+Write what was found: status 0
 --
 END
-        try 'github-node.yml' 0 sh run_parts "$scratch/node.parts" "$scratch/node"
+        try 'github-node.yml' 0 env PATH="$HOME/bin:$scratch/services:$PATH" sh run_parts "$scratch/node.parts" "$scratch/node"
+        cp sarif.wanted wanted
+        ! has jq jq || try 'github-node.yml: SARIF' 0 jq -r "$uris" node/t1check.sarif
+        rm -r "$HOME/bin" "$HOME/package"
+        spoil_sums
+        wanted <<'END'
+Get t1check: status 1
+--
+END
+        # shellcheck disable=SC2016
+        try 'github-node.yml: a package with another checksum' 0 sh -c '
+            PATH=$0/services:$PATH sh run_parts "$0/node.parts" "$0/node" | sed -n 2p && [ ! -e "$HOME/bin" ]' "$scratch"
+        mend_sums
     fi
 
     if has jq jq; then
@@ -513,7 +523,7 @@ for block in "$scratch"/blocks/*; do
                 lines_run=$((lines_run + 1))
                 case $line in
                     parallel*) has parallel parallel || continue ;;
-                    node* | docs/recipes/node.sh*) [ -n "$node_runs" ] || continue ;;
+                    node*) [ -n "$node_runs" ] || continue ;;
                     jq* | *'| jq'*) has jq jq || continue ;;
                     man*) has man man-db || continue ;;
                     'git '*) has git git || continue ;;
