@@ -31,16 +31,9 @@ f/.t1check.toml
 known.txt
 --
 END
-try 'files of the hook t1check' 0 grep -E "$(of_hook t1check files)" names
-wanted <<'END'
-a.pfb
-a.pfb.waivers
-b/c.PFA
-d e.t1
-f/d.t1.waivers
---
-END
-try 'files of the hook t1check-node' 0 grep -E "$(of_hook t1check-node files)" names
+for id in t1check t1check-node; do
+    try "files of the hook $id" 0 grep -E "$(of_hook "$id" files)" names
+done
 # The hook of an installed program has the same files.
 wanted <<END
         files: '$(of_hook t1check files)'

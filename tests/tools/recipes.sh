@@ -624,12 +624,11 @@ END
     cp hooked.wanted wanted
     try 'commits with the hook of pre-commit-config.yaml' 0 sh commits hooked "$scratch/edge.pfb"
 
-    # A repository of the hooks that this one offers, with t1check-all as it is installed, so that nothing is built.
+    # A repository of the hooks that this one offers, where nothing is built, so that node runs the programs.
     mkdir -p offered/docs offered/web
-    cp -R "$prefix/bin" "$prefix/libexec" "$top/.pre-commit-hooks.yaml" offered/
-    cp -R "$recipes" offered/docs/
-    cp "$top"/web/*.mjs offered/web/
-    cp "$top/docs/t1check.html" offered/docs/
+    cp -R "$top/bin" "$top/.pre-commit-hooks.yaml" offered/
+    cp -R "$top"/web/*.mjs "$top/web/modules" offered/web/
+    cp "$top/docs/RULES.md" offered/docs/
     (cd offered && git init -q . && git add . && git commit -q -m hooks && git tag v1.0.0)
     { echo repos: && sed -n '/^  # - repo: /,$ s/^  # /  /p' "$recipes/pre-commit-config.yaml" | sed "s|https://.*|$scratch/offered|"; } >node.yaml
     wanted <<END
@@ -638,19 +637,16 @@ repos:
     rev: v1.0.0
     hooks:
       - id: t1check-node
+        args: [fonts]
 --
 END
     try 'the second hook of pre-commit-config.yaml' 0 cat node.yaml
-    sed 's/t1check-node/t1check/' node.yaml >all.yaml
-    make_hooked <all.yaml
-    cp hooked.wanted wanted
-    try 'commits with the hook t1check' 0 sh commits hooked "$scratch/edge.pfb"
-    if [ -n "$node_runs" ]; then
-        make_hooked <node.yaml
-        # It gets no settings, so these alone don't start it.
-        sed '/^settings alone/{ n; s/Passed/Skipped/; }' hooked.wanted >wanted
-        try 'commits with the hook t1check-node' 0 sh commits hooked "$scratch/edge.pfb"
-    fi
+    [ -z "$node_runs" ] || for hook in t1check t1check-node; do
+        sed "s/t1check-node/$hook/" node.yaml >hook.yaml
+        make_hooked <hook.yaml
+        cp hooked.wanted wanted
+        try "commits with the hook $hook" 0 sh commits hooked "$scratch/edge.pfb"
+    done
 fi
 
 finish
