@@ -13,8 +13,9 @@
 #   docs/dev/DEFINITIONS.md, or a rule's row in specs/ cites it. Each word of a row of the page is defined in the file that the row is of.
 # - No definition rests on a word of specs/Private; there the relations of watchers and pens are in Standing, with nothing else.
 # - The README's lines for an editor are lines of crates/example. web/host.mjs counts rules and refusals as they are.
-# - Each link between the pages leads to a file, and to a heading where it names one. Each file of crates/, docs/ and tests/ that a page
-#   names is there.
+# - The least node that pages and recipes name is that of web/wasi.mjs. docs/BROWSER.md says of each file of web/ what a fault in it could cause.
+# - Each link between the pages leads to a file, and to a heading where it names one. Each file of bin/, crates/, docs/, tests/ and web/ that a
+#   page names is there.
 #
 # Where t1check-all can't be built, which counts as a failure, examples aren't tried.
 set -u
@@ -439,6 +440,18 @@ while IFS= read -r line; do
 done <"$scratch/editor"
 [ "$(wc -l <"$scratch/editor")" -eq 6 ] || fail "the README's lines for an editor aren't read"
 
+least=$(sed -n 's/^const LEAST_NODE = \([0-9]*\);$/\1/p' "$top/web/wasi.mjs")
+(cd "$top" && grep -or 'node [0-9][0-9]* or later' README.md docs .pre-commit-hooks.yaml) | grep -v "node $least or later$" >"$scratch/other_nodes"
+while IFS= read -r line; do
+    fail "$line, but web/wasi.mjs needs node $least"
+done <"$scratch/other_nodes"
+[ -s "$scratch/other_nodes" ] || pass
+sed -n '/^## What is trusted$/,$p' "$top/docs/BROWSER.md" >"$scratch/trusted"
+(cd "$top" && find web -path web/out -prune -o -path web/modules -prune -o -type f -print) >"$scratch/parts"
+while IFS= read -r file; do
+    if grep -qF -e "$file" "$scratch/trusted"; then pass; else fail "docs/BROWSER.md: 'What is trusted' doesn't name $file"; fi
+done <"$scratch/parts"
+
 # A page's headings as their anchors.
 anchors() {
     sed -n 's/^##* //p' "$1" | tr 'A-Z' 'a-z' | sed 's/[^a-z0-9 _-]//g; s/ /-/g'
@@ -459,9 +472,9 @@ for page in "$top/README.md" "$top/CONTRIBUTING.md" "$top"/docs/*.md "$top"/docs
             pass
         fi
     done <"$scratch/links"
-    grep -o '\(crates\|docs\|tests\)/[A-Za-z0-9_/.-]*[A-Za-z0-9_]' "$page" | sort -u >"$scratch/named"
+    grep -o '\(bin\|crates\|docs\|tests\|web\)/[A-Za-z0-9_/.-]*[A-Za-z0-9_]' "$page" | sort -u >"$scratch/named"
     while IFS= read -r file; do
-        case $file in */NAME/* | */out/*) continue ;; esac
+        case $file in */NAME* | */out | */out/* | bin/sh) continue ;; esac
         if [ -e "$top/$file" ] || [ -e "$top/$file.antt" ]; then
             pass
         else
