@@ -50,6 +50,17 @@ cmp -s "$scratch/page.html" "$top/docs/t1check.html" || cp "$scratch/page.html" 
 sed -n 's/^release: lintian: /lintian: /p' "$scratch/err"
 deb=$(ls "$scratch"/one/*.deb) tarball=$(ls "$scratch"/one/*.tar.gz)
 
+# The text that is wanted, on standard input.
+wanted() {
+    cat >"$scratch/wanted"
+}
+
+# Compares the text that is given, on standard input, with what was wanted last: NAME.
+compare() {
+    cat >"$scratch/given"
+    if diff "$scratch/wanted" "$scratch/given"; then pass; else fail "$1 (< wanted, > given)"; fi
+}
+
 if diff -r "$scratch/one" "$scratch/two"; then pass; else fail 'two releases differ'; fi
 if (cd "$scratch/one" && sha256sum --quiet -c SHA256SUMS); then pass; else fail 'SHA256SUMS'; fi
 
@@ -61,6 +72,28 @@ unpacked=$(echo "$scratch"/unpacked/t1check-*)
 if cmp "$scratch/wanted" "$scratch/given"; then pass; else fail 't1check of the tarball'; fi
 "$unpacked/bin/t1check-all" -q --only H02 "$fonts/H02.pfb" >"$scratch/given"
 if [ -s "$scratch/given" ]; then pass; else fail 't1check-all of the tarball'; fi
+
+# Prints the links of its documents that lead to no file. The others are in $scratch/links.
+documents=$unpacked/share/doc/t1check
+broken_links() (
+    cd "$documents" && for page in *.md docs/*.md; do
+        grep -oE '\]\([^)]*\)|src="[^"]*"' "$page" | sed 's/^](//; s/^src="//; s/[)"]$//; s/#.*//' | sort -u | while IFS= read -r link; do
+            case $link in '' | http*) continue ;; esac
+            if [ -e "$(dirname "$page")/$link" ]; then echo "$page $link" >>"$scratch/links"; else echo "$page: no file $link"; fi
+        done
+    done
+)
+wanted </dev/null
+broken_links >"$scratch/text"
+compare 'links of the documents' <"$scratch/text"
+wanted <<'END'
+README.md docs/GUIDE.md
+README.md docs/pictures/letter.svg
+docs/GUIDE.md RULES.md
+docs/RECIPES.md recipes/github.yml
+END
+grep -xF -f "$scratch/wanted" "$scratch/links" >"$scratch/text"
+compare 'links that are read' <"$scratch/text"
 
 # ---- the package, in a root of its own
 
