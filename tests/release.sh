@@ -34,7 +34,6 @@ for tool in dpkg-deb:dpkg wasm-opt:binaryen; do
         finish
     }
 done
-command -v lintian >/dev/null || echo "skipped: what lintian says of the package, since it isn't here (Debian: lintian)"
 
 # The page of the repository is left as it is.
 cp "$top/docs/t1check.html" "$scratch/page.html"
@@ -47,7 +46,6 @@ for folder in one two; do
     }
 done
 cmp -s "$scratch/page.html" "$top/docs/t1check.html" || cp "$scratch/page.html" "$top/docs/t1check.html"
-sed -n 's/^release: lintian: /lintian: /p' "$scratch/err"
 deb=$(ls "$scratch"/one/*.deb) tarball=$(ls "$scratch"/one/*.tar.gz)
 
 # The text that is wanted, on standard input.
@@ -94,6 +92,91 @@ docs/RECIPES.md recipes/github.yml
 END
 grep -xF -f "$scratch/wanted" "$scratch/links" >"$scratch/text"
 compare 'links that are read' <"$scratch/text"
+
+# ---- the licences of what is linked in
+
+kit=$(dirname "$(dirname "$(readlink -f "$(command -v rt)")")")
+
+# The kit's libraries that the repository's crates use, and those that these use.
+linked() {
+    seen=' '
+    # shellcheck disable=SC2046
+    set -- $(sed 's/^.*://' "$top/crates.txt")
+    while [ $# -gt 0 ]; do
+        library=$1
+        shift
+        case $seen in *" $library "*) continue ;; esac
+        seen="$seen$library "
+        # shellcheck disable=SC2046
+        [ ! -f "$kit/rlibs/$library.rlib/format" ] || set -- "$@" $(sed -n 's/^dep //p' "$kit/rlibs/$library.rlib/format")
+    done
+    echo "$seen"
+}
+
+# A library that has a licence is named, and each holder of its copyright.
+found=0
+for library in $(linked); do
+    for file in "$kit/rattle/$library/LICENSE" "$kit/rattle/$library/LICENSE-MIT"; do
+        [ -f "$file" ] || continue
+        found=$((found + 1))
+        if grep -q " rattle/$library/\*\$" "$documents/copyright"; then pass; else fail "copyright: rattle/$library isn't named"; fi
+        grep '^Copyright (c)' "$file" >"$scratch/holders"
+        while IFS= read -r line; do
+            if grep -qF -e "$line" "$documents/copyright"; then pass; else fail "copyright: rattle/$library has $line"; fi
+        done <"$scratch/holders"
+    done
+done
+[ "$found" -ge 10 ] || fail "licences of the kit aren't read: $found"
+
+# The licences that files are under, and those whose text is there.
+{
+    sed -n 's/^License: //p' "$documents/copyright" | sed 's/ or /\n/; s/ and /\n/' | sort -u
+    sed -n '/^License: / { N; s/^License: \(.*\)\n .*/text of \1/p; }' "$documents/copyright"
+} >"$scratch/text"
+wanted <<'END'
+Apache-2.0
+Expat
+Unicode-3.0
+text of Expat
+text of Apache-2.0
+text of Unicode-3.0
+END
+compare 'licences that copyright names' <"$scratch/text"
+for file in LICENSE-MIT LICENSE-APACHE; do
+    if grep -qx ' *Copyright 2026 the t1check authors' "$documents/$file"; then pass; else fail "$file names nobody"; fi
+done
+
+# ---- the package
+
+extracted=$scratch/extracted
+dpkg-deb -x "$deb" "$extracted"
+diff -r "$documents" "$extracted/usr/share/doc/t1check" >"$scratch/text"
+echo "Only in $extracted/usr/share/doc/t1check: changelog.gz" | wanted
+compare 'documents of the package' <"$scratch/text"
+gzip -d -c "$extracted/usr/share/doc/t1check/changelog.gz" >"$scratch/text"
+wanted <<'END'
+t1check (1.0.0) unstable; urgency=medium
+
+  * Version 1.0.0. CHANGELOG.md says what is new.
+
+ -- Fengyldo maintainers <maintainers@users.noreply.fengyldo.example>  Sun, 09 Sep 2001 01:46:40 +0000
+END
+compare changelog.gz <"$scratch/text"
+{ find "$extracted/usr/share/zsh" -type f && dpkg-deb -f "$deb" Section; } >"$scratch/text"
+wanted <<END
+$extracted/usr/share/zsh/vendor-completions/_t1check
+fonts
+END
+compare "completions of zsh, and Debian's section" <"$scratch/text"
+
+# The programs keep their symbols. Any other error of lintian fails.
+if command -v lintian >/dev/null; then
+    sed -n 's/^release: lintian: //p' "$scratch/err" | grep -v '^E: t1check: unstripped-binary-or-object ' >"$scratch/words"
+    sed 's/^/lintian: /' "$scratch/words"
+    if grep -q '^E: ' "$scratch/words"; then fail 'lintian finds an error in the package'; else pass; fi
+else
+    echo "skipped: what lintian says of the package, since it isn't here (Debian: lintian)"
+fi
 
 # ---- the package, in a root of its own
 
