@@ -36,17 +36,21 @@ for tool in dpkg-deb:dpkg wasm-opt:binaryen; do
     }
 done
 
-# The page of the repository is left as it is.
-cp "$top/docs/t1check.html" "$scratch/page.html"
+# The page and the modules of the repository are left as they are.
+cp -Rp "$top/docs/t1check.html" "$top/web/modules" "$scratch/"
+restore() {
+    cmp -s "$scratch/t1check.html" "$top/docs/t1check.html" || cp "$scratch/t1check.html" "$top/docs/t1check.html"
+    diff -rq "$scratch/modules" "$top/web/modules" >/dev/null || cp "$scratch"/modules/* "$top/web/modules/"
+}
 for folder in one two; do
     SOURCE_DATE_EPOCH=1000000000 "$top/bin/release" "$scratch/$folder" >"$scratch/out" 2>"$scratch/err" || {
         cat "$scratch/out" "$scratch/err"
         fail "bin/release $folder"
-        cp "$scratch/page.html" "$top/docs/t1check.html"
+        restore
         finish
     }
 done
-cmp -s "$scratch/page.html" "$top/docs/t1check.html" || cp "$scratch/page.html" "$top/docs/t1check.html"
+restore
 deb=$(ls "$scratch"/one/*.deb) tarball=$(ls "$scratch"/one/*.tar.gz) npm_package=$(ls "$scratch"/one/*.tgz)
 
 # The text that is wanted, on standard input.
