@@ -9,8 +9,8 @@ leave_home
 # Installing, from a copy of what is to be put, so that nothing else of the repository is needed. In the place of man and zsh are
 # two that name the folders which they look through.
 copy=$scratch/copy
-mkdir -p "$copy/docs" "$scratch/shells"
-cp -R "$top/bin" "$top/man" "$top/completions" "$copy/"
+mkdir -p "$copy" "$scratch/shells"
+cp -R "$top/bin" "$top/man" "$top/completions" "$top/docs" "$top/README.md" "$top/CHANGELOG.md" "$top/copyright" "$top"/LICENSE-* "$copy/"
 mkdir -p "$copy/crates/t1_forms/src"
 cp "$top/crates/t1_forms/src/version.rt" "$copy/crates/t1_forms/src/"
 for tool in t1check t1check_all t1draw; do
@@ -18,7 +18,6 @@ for tool in t1check t1check_all t1draw; do
     cp "$top/crates/$tool/out/$tool" "$copy/crates/$tool/out/"
     : >"$copy/crates/$tool/out/built"
 done
-cp "$top/docs/RULES.md" "$top/docs/REFERENCE.md" "$copy/docs/"
 cat >"$scratch/shells/man" <<'END'
 #!/bin/sh
 echo "/usr/share/man:${LOOKS-}/man"
@@ -64,6 +63,35 @@ wanted <<'END'
 ./share/bash-completion/completions/t1check-all
 ./share/bash-completion/completions/t1draw
 ./share/bash-completion/completions/t1explain
+./share/doc/t1check/CHANGELOG.md
+./share/doc/t1check/LICENSE-APACHE
+./share/doc/t1check/LICENSE-MIT
+./share/doc/t1check/README.md
+./share/doc/t1check/copyright
+./share/doc/t1check/docs/BROWSER.md
+./share/doc/t1check/docs/GUIDE.md
+./share/doc/t1check/docs/RECIPES.md
+./share/doc/t1check/docs/REFERENCE.md
+./share/doc/t1check/docs/RULES.md
+./share/doc/t1check/docs/T1LINT.md
+./share/doc/t1check/docs/pictures/H02.svg
+./share/doc/t1check/docs/pictures/K05.svg
+./share/doc/t1check/docs/pictures/P02.svg
+./share/doc/t1check/docs/pictures/P03.svg
+./share/doc/t1check/docs/pictures/X05.svg
+./share/doc/t1check/docs/pictures/letter.svg
+./share/doc/t1check/docs/pictures/page.png
+./share/doc/t1check/docs/recipes/Jenkinsfile
+./share/doc/t1check/docs/recipes/github-node.yml
+./share/doc/t1check/docs/recipes/github.yml
+./share/doc/t1check/docs/recipes/gitlab.jq
+./share/doc/t1check/docs/recipes/gitlab.yml
+./share/doc/t1check/docs/recipes/junit.jq
+./share/doc/t1check/docs/recipes/pre-commit-config.yaml
+./share/doc/t1check/docs/recipes/rows.jq
+./share/doc/t1check/docs/recipes/sums.awk
+./share/doc/t1check/docs/recipes/table.jq
+./share/doc/t1check/docs/t1check.html
 ./share/fish/vendor_completions.d/t1check-all.fish
 ./share/fish/vendor_completions.d/t1check.fish
 ./share/fish/vendor_completions.d/t1draw.fish
@@ -146,6 +174,11 @@ wanted <<'END'
 ./libexec/t1check/foreign
 ./share/bash-completion/completions/foreign
 ./share/bash-completion/foreign
+./share/doc/foreign
+./share/doc/t1check/docs/foreign
+./share/doc/t1check/docs/pictures/foreign
+./share/doc/t1check/docs/recipes/foreign
+./share/doc/t1check/foreign
 ./share/fish/foreign
 ./share/fish/vendor_completions.d/foreign
 ./share/foreign

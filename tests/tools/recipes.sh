@@ -524,6 +524,8 @@ for block in "$scratch"/blocks/*; do
                 case $line in
                     parallel*) has parallel parallel || continue ;;
                     node*) [ -n "$node_runs" ] || continue ;;
+                    # tests/release.sh runs these, of the package that it makes.
+                    npm* | npx*) continue ;;
                     jq* | *'| jq'*) has jq jq || continue ;;
                     man*) has man man-db || continue ;;
                     'git '*) has git git || continue ;;

@@ -3,7 +3,8 @@
 requests=REQUESTS
 if [ $# -gt 0 ]; then printf '%s\0' "$@"; fi >"$requests.$$.words"
 mkfifo "$requests.$$.reply"
-echo "$$ ${0##*/}" >"$requests"
+# Not by this shell itself, whose output would be the pipe for a moment.
+(echo "$$ ${0##*/}" >"$requests")
 read -r status <"$requests.$$.reply"
 rm -f "$requests.$$.words" "$requests.$$.reply"
 exit "$status"

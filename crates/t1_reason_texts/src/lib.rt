@@ -32,7 +32,7 @@ mod zone_texts;
 
 pub use decimals::{Coordinates, Exact, Unit, coordinate, value};
 pub use font_texts::encoded_name;
-pub use laws::{numbers_are_written_exactly, reason_texts_are_one_line, reason_texts_are_short};
+pub use laws::{numbers_are_written_exactly, reason_texts_are_one_line};
 pub use names::hexadecimal_digit;
 pub use step_texts::TokenText;
 pub use text::{ReasonText, ShortText, says_more, short_text, shown_text};
