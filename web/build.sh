@@ -175,7 +175,7 @@ make_portable() {
 # Nothing is left undefined: a program imports what system.c names as imports, the module of the page nothing.
 link() {
     if is_program; then
-        set -- --export=_start "$scratch/system.o"
+        set -- --export=_start "$parts/system.o"
     else
         set --
         for name in $web_exports; do
@@ -183,7 +183,7 @@ link() {
         done
     fi
     quietly "$kit/toolchain/bin/ld.lld" -flavor wasm -mwasm64 --no-entry "$@" --stack-first -z stack-size=1048576 --gc-sections \
-        --strip-all -o "$scratch/module.wasm" "$scratch/module.o" "$scratch/heap.o" "$scratch/helpers.o"
+        --strip-all -o "$scratch/module.wasm" "$scratch/module.o" "$parts/heap.o" "$parts/helpers.o"
 }
 
 # A table of functions, which a call through a pointer would make, is refused here.
@@ -197,11 +197,14 @@ lower_memory() {
     fi
 }
 
-# Makes the module of a crate.
-make_module() {
+# Makes the module of a crate, in a folder of its own.
+make_module() (
     crate=$1
+    parts=$scratch
+    scratch=$scratch/$crate
+    mkdir "$scratch" || exit 3
+    make_toolchain
     quietly prove
-    rm -f "$scratch/module.bc"
     quietly compile_for_x86
     [ -f "$scratch/module.bc" ] || die "the kit hands clang no module.bc of $crate"
     write_known_words >"$scratch/known"
@@ -210,7 +213,7 @@ make_module() {
     quietly compile_for_wasm -Wno-override-module -O3 -x ir "$scratch/portable.ll" -o "$scratch/module.o"
     link
     lower_memory
-}
+)
 
 # ---- the page
 
@@ -236,12 +239,16 @@ make_page() {
 }
 
 mkdir -p "$out" || exit 3
-make_toolchain
 for part in heap helpers system; do
     quietly compile_for_wasm -O2 -ffreestanding -nostdinc "$here/$part.c" -o "$scratch/$part.o"
 done
+made=''
 for module in $programs t1_web; do
-    make_module "$module"
+    make_module "$module" &
+    made="$made $!"
+done
+for module in $made; do
+    wait "$module" || exit 3
 done
 make_page
 ls -l "$out"
