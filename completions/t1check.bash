@@ -44,7 +44,7 @@ _t1check() {
         t1check-all)
             options='-q --edition --only --except --level --fail-on --no-waivers --write-waivers --force --baseline
                 --update-baseline --files-from --exclude --shard --format --docs --columns --colour --long
-                --reasons --no-reasons --no-settings --help --version'
+                --reasons --no-reasons --no-settings --explain --help --version'
             ;;
         t1draw) options='--edition --waive --step --fault --faulty -o --help' ;;
         *) options=--help ;;
@@ -58,6 +58,8 @@ _t1check() {
         t1check-all--level | t1check-all--fail-on) _t1check_take < <(compgen -W 'must should tidy' -- "$word") ;;
         t1check-all--format) _t1check_take < <(compgen -W 'jsonl sarif github' -- "$word") ;;
         *)
+            # With --explain words are codes, as those of t1explain.
+            [[ " ${COMP_WORDS[*]} " != *' --explain '* ]] || tool=t1explain
             case $tool$word in
                 "$tool"-*) _t1check_take < <(compgen -W "$options" -- "$word") ;;
                 t1explain*) _t1check_take < <(compgen -W "$(_t1check_codes "$1")" -- "$(tr '[:lower:]' '[:upper:]' <<<"$word")") ;;

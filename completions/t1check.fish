@@ -25,7 +25,8 @@ complete -c t1check -l edition -x -a '1 2 3' -d 'Check by this edition of the ru
 complete -c t1check -l waive -r -F -d 'Leave out what this file waives'
 complete -c t1check -s h -l help -d 'Print help'
 
-complete -c t1check-all -f -a '(__t1check_fonts)'
+complete -c t1check-all -f -n 'not __fish_contains_opt explain' -a '(__t1check_fonts)'
+complete -c t1check-all -f -n '__fish_contains_opt explain' -a '(__t1check_codes)'
 complete -c t1check-all -s q -d 'Write no summary and no progress'
 complete -c t1check-all -l edition -x -a '1 2 3' -d 'Check by this edition of the rule book'
 complete -c t1check-all -l only -x -a '(__fish_complete_list , __t1check_rules)' -d 'Tell these rules alone'
@@ -48,6 +49,7 @@ complete -c t1check-all -l long -d 'Write each line of a report, also on a termi
 complete -c t1check-all -l reasons -d 'Tell with each line why it is there'
 complete -c t1check-all -l no-reasons -d 'Leave reasons out, also on a terminal'
 complete -c t1check-all -l no-settings -d 'Leave the settings file aside'
+complete -c t1check-all -l explain -d 'Print the pages of rules and refusals'
 complete -c t1check-all -s h -l help -d 'Print help'
 complete -c t1check-all -l version -d 'Print version and commit'
 

@@ -39,6 +39,8 @@ ask t1check-all --docs f
 ask t1check-all --fi
 ask t1check-all --files-from f
 ask t1check-all --exclude f
+ask t1check-all --explain H02 e0
+ask t1check-all --explain --v
 ask t1draw --edition ''
 ask t1draw A f
 ask t1draw --step f
@@ -67,6 +69,8 @@ t1check-all,--docs,f:
 t1check-all,--fi:--files-from
 t1check-all,--files-from,f:
 t1check-all,--exclude,f:
+t1check-all,--explain,H02,e0:E01,E02,E03,E04,E05,E06,E07,E08,E09
+t1check-all,--explain,--v:--version
 t1draw,--edition,:1,2,3
 t1draw,A,f:font.pfb
 t1draw,--step,f:
@@ -90,7 +94,7 @@ if command -v fish >/dev/null; then
         limited env PATH="$prefix/bin:$PATH" XDG_DATA_DIRS="$prefix/share:/usr/local/share:/usr/share" fish -c 'complete -C $argv[1]' "$1"
     }
     for line in 't1check --ed' 't1check --edition ' 't1check f' 't1check tw' 't1check --waive f' 't1check-all --only H02,Z1' \
-        't1explain h0' 't1check-all --format ' 't1draw A f'; do
+        't1explain h0' 't1check-all --format ' 't1check-all f' 't1check-all --explain F02 s0' 't1draw A f'; do
         ask "$line"
     done >"$scratch/told" 2>&1
     wanted <<'END'
@@ -122,6 +126,11 @@ H07	another stem3 (must)
 github	Write lines in a form for other programs
 jsonl	Write lines in a form for other programs
 sarif	Write lines in a form for other programs
+font.pfb
+S01	no such Subr (must)
+S02	calls nested too deep (must)
+S03	return outside a Subr (must)
+S04	Subr without return (must)
 font.pfb
 --
 END
@@ -166,7 +175,7 @@ await 0
 number=0
 for keys in $'t1check --ed\t' $'t1check --edition \t\t' $'t1check f\t' $'t1check tw\t' $'t1check-all --only H02,Z1\t\t' \
     $'t1check-all --except=L\t\t' $'t1explain h0\t\t\t' "${(q)1}/bin/t1explain GE"$'\t' \
-    $'t1check-all --format \t\t' $'t1draw A f\t'; do
+    $'t1check-all --format \t\t' $'t1check-all f\t' $'t1check-all --explain F02 s\t\t' $'t1draw A f\t'; do
     zpty -w -n shell $keys$'\C-g'
     await $((++number))
 done
@@ -184,6 +193,8 @@ t1check-all --except=L,
 t1explain H03
 $(limited zsh -fc 'print -r -- ${(q)1}' zsh "$prefix")/bin/t1explain GE01
 t1check-all --format jsonl
+t1check-all font.pfb
+t1check-all --explain F02 S02
 t1draw A font.pfb
 --
 END

@@ -1,5 +1,5 @@
 #!/bin/sh
-# Tries the pages of rules and refusals that t1explain prints, on a terminal too.
+# Tries the pages of rules and refusals that t1explain prints, on a terminal too, and that t1check-all prints the same.
 
 # shellcheck source=tests/tools/common.sh
 . "$(dirname "$0")/common.sh"
@@ -52,6 +52,67 @@ wanted <<'END'
 --
 END
 try 'no links and no pictures in pages' 1 grep -e '](' -e '^!' "$scratch/pages"
+
+# Those of t1check-all, each alone and all together, and its list.
+while read -r code text; do
+    limited "$checker" --explain "$code"
+done <"$scratch/listed" >"$scratch/pages.all"
+wanted <<'END'
+--
+END
+try 'each page of t1check-all' 0 cmp "$scratch/pages" "$scratch/pages.all"
+codes=$(sed 's/ .*//' <"$scratch/listed")
+# shellcheck disable=SC2086
+limited "$explain" $codes >"$scratch/together"
+# shellcheck disable=SC2086
+limited "$all" --explain $codes >"$scratch/together.all"
+try 'all pages of t1check-all' 0 cmp "$scratch/together" "$scratch/together.all"
+limited "$all" --explain >"$scratch/listed.all"
+try 'the list of t1check-all' 0 cmp "$scratch/listed" "$scratch/listed.all"
+wanted <<'END'
+F02 bytes after the end segment
+
+Level *tidy* (Technical Note 5040, section 3.3): nothing reads these bytes.
+
+Two files were put together, or a transfer filled the file up. Example: one more byte `0A` after `80 03`.
+
+    1: font file 0 F02 bytes after the end segment
+
+Mended:
+
+    truncate -s -1 font.pfb
+
+Cure: look at what is after `80 03`, then cut the file after these two bytes.
+
+E06 encrypted part too short
+
+Fewer than four encrypted bytes come after `eexec`.
+
+The file was cut, or an editor changed the encrypted bytes.
+
+Example: a file that ends after `currentfile eexec`.
+
+Cure: take it from its source again.
+--
+END
+try 'two pages of t1check-all' 0 "$all" --explain F02 e06
+echo 'edition = 4' >.t1check.toml
+try 'pages whatever options and settings say' 0 "$all" -j 2 --edition 4 --columns 40 --colour f02 --explain -- E06
+rm .t1check.toml
+wanted <<'END'
+--
+t1check-all: there is no rule and no refusal 'H'
+t1check-all: 't1check-all --help' says how it is used
+END
+try 'a code of t1check-all that is none' 3 "$all" --explain e06 H E16
+limited "$all" --version >version
+{ cat version && echo '--'; } >"$scratch/wanted"
+try 'the version in place of pages' 0 "$all" --explain H --version
+if [ -c /dev/full ]; then
+    limited "$all" --explain e06 >/dev/full 2>given
+    status=$?
+    if [ "$status" -eq 3 ] && [ "$(cat given)" = 't1check-all: write failed' ]; then pass; else fail "a page on a full device: status $status"; fi
+fi
 
 # Pages of a book of our own, with a picture, links and an example.
 mkdir -p own/bin own/docs

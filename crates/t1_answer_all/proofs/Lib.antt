@@ -10,6 +10,7 @@ pub mod GivenEach
 pub mod GroupedRuns
 pub mod Lists
 pub mod ModeFonts
+pub mod PagesFound
 pub mod PartNames
 pub mod Puts
 pub mod QuietAgain

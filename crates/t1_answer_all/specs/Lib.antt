@@ -2,6 +2,7 @@ pub mod Answers
 pub mod Checking
 pub mod Checks
 pub mod Endings
+pub mod Explaining
 pub mod Known
 pub mod Laws
 pub mod Layouts

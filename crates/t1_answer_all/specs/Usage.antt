@@ -15,6 +15,11 @@ unreadable_text file cause = unread_text file cause ++ codes "t1check-all: 't1ch
 abbrev pub no_font_text : List ℕ
 no_font_text = codes "t1check-all: there is no font to check\nt1check-all: 't1check-all --help' says how it is used\n"
 
+-- A word of `--explain` is no code.
+abbrev pub no_page_text : List ℕ → List ℕ
+no_page_text word =
+    codes "t1check-all: there is no rule and no refusal '" ++ (word ++ codes "'\nt1check-all: 't1check-all --help' says how it is used\n")
+
 -- What is wrong with the line of this number, from 1, in a file. What isn't UTF-8 in it is printed as U+FFFD.
 abbrev pub line_text : List ℕ → ℕ → List ℕ → List ℕ → List ℕ
 line_text file number wrong line =

@@ -1,7 +1,8 @@
 //! From the words of the command line to lines, files and a status.
 
-ghost use Rattle.std.specs.Prelude.{map};
+ghost use Rattle.std.specs.Prelude.{map, string_bytes};
 ghost use Rattle.t1_answer_all.specs.Answers.{Answers, Checks};
+ghost use Rattle.t1_answer_all.specs.Explaining.{ExplainsPages};
 ghost use Rattle.t1_answer_all.specs.Places.{known_by, lists_by};
 ghost use Rattle.t1_forms.specs.PageValues.{page_value};
 ghost use Rattle.t1_options.specs.Settings.Finding.{files_by};
@@ -10,6 +11,7 @@ ghost use Rattle.t1_run.specs.Telling.{Explains, Gives};
 ghost use Rattle.t1_run.specs.declared.status.Status.TheVariants.{Clean};
 
 use crate::checking::{check_by, stopped};
+use crate::explaining::explanation_of;
 use crate::plan::Asked;
 use crate::progress::ShowsProgress;
 use crate::replacing::replace_files;
@@ -34,8 +36,8 @@ pub struct Answered<W: Sink + Drop, E: Sink + Drop> {
     pub errors: E,
 }
 
-/// Answers the words of the command line, the program's name first: with help, with what is wrong, with the version, whose text is given, or
-/// with a check of the fonts that they name, after which the files are replaced that are to be. A document of SARIF has the pages that are given.
+/// Answers the words of the command line, the program's name first: with help, with what is wrong, with the version, whose text is given, with
+/// pages of these, or with a check of the fonts that they name, after which the files are replaced that are to be. A document of SARIF has all pages.
 pub fn answer<S, F, W, E>(
     alloc: Global,
     words: &[S],
@@ -67,7 +69,8 @@ where
 {
     match options(alloc, words, files) {
         Ok(Request::Check(options)) => check(alloc, options, pages, files, out, errors),
-        Ok(Request::Version) => give_version(version, out, errors),
+        Ok(Request::Explain(codes)) => explain_pages(alloc, pages, codes.as_slice(), out, errors),
+        Ok(Request::Version) => give_text(version, out, errors),
         Err(error) => explained(&error, out, errors),
     }
 }
@@ -125,14 +128,31 @@ fn explained<W: Sink + Drop, E: Sink + Drop>(
     }
 }
 
-/// Gives the text of the version.
-fn give_version<W: Sink + Drop, E: Sink + Drop>(version: &[u8], out: W, errors: E) -> Answered<W, E>
-    ensures { Gives program version.now Clean (record { out = W.state out; errors = E.state errors })
+/// Gives the pages whose codes the words are, or a list of all.
+fn explain_pages<W: Sink + Drop, E: Sink + Drop>(
+    alloc: Global,
+    pages: &[Page],
+    words: &[String],
+    out: W,
+    errors: E,
+) -> Answered<W, E>
+    ensures { ExplainsPages (map page_value pages.now) (map string_bytes words.now) (record { out = W.state out; errors = E.state errors })
+        (record { out = W.state result.out; errors = E.state result.errors }) result.status }
+{
+    match explanation_of(alloc, pages, words) {
+        Ok(text) => give_text(text.as_bytes(), out, errors),
+        Err(error) => explained(&error, out, errors),
+    }
+}
+
+/// Gives a text.
+fn give_text<W: Sink + Drop, E: Sink + Drop>(text: &[u8], out: W, errors: E) -> Answered<W, E>
+    ensures { Gives program text.now Clean (record { out = W.state out; errors = E.state errors })
         (record { out = W.state result.out; errors = E.state result.errors }) result.status }
 {
     let mut out = out;
     let mut errors = errors;
-    let status = give(PROGRAM, version, &mut out, &mut errors);
+    let status = give(PROGRAM, text, &mut out, &mut errors);
     Answered {
         status,
         out,

@@ -7,8 +7,9 @@
 //!
 //! What is promised:
 //!
-//! - [`answer`]: words get help, a usage error, the version, or a check by the options that they and the settings mean. Fonts are checked if the known
-//!   faults and the lists can be read and there is a font; else the first thing wrong is the usage error.
+//! - [`answer`]: words get help, a usage error, the version, pages of rules and refusals, or a check by the options that they and the settings mean.
+//!   Pages are given if each word is a code; else the first that is none is the usage error. Fonts are checked if the known faults and the lists can be
+//!   read and there is a font; else the first thing wrong is the usage error.
 //! - [`run`]: the listed fonts are checked in order, what is chosen of their lines is written in the layout that is requested, and what comes after
 //!   all fonts is printed. Each font is opened once and its waivers at most once, and none of them where they are ignored or written; nothing is read
 //!   of a file behind its end or a failed read.
@@ -23,6 +24,7 @@
 mod answering;
 mod checking;
 mod ending;
+mod explaining;
 mod findings;
 mod known;
 mod laws;

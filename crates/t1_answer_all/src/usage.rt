@@ -2,7 +2,7 @@
 
 ghost use Rattle.std.specs.Prelude.{◌≡◌, IfOk, string_bytes};
 ghost use Rattle.t1_answer_all.specs.Private.Usage.{IsToldOrMemory, IsUsageOf};
-ghost use Rattle.t1_answer_all.specs.Usage.{line_text, no_font_text, no_row_text, two_rows_text, unreadable_text};
+ghost use Rattle.t1_answer_all.specs.Usage.{line_text, no_font_text, no_page_text, no_row_text, two_rows_text, unreadable_text};
 
 use std::alloc::{AllocError, Global};
 use t1_known::Line;
@@ -22,6 +22,13 @@ pub(crate) fn no_font(alloc: Global) -> UsageError
     ensures { IsToldOrMemory no_font_text result }
 {
     usage_of(no_font_text(alloc))
+}
+
+/// A word of `--explain` is no code.
+pub(crate) fn no_page(alloc: Global, word: &str) -> UsageError
+    ensures { IsToldOrMemory (no_page_text word.now) result }
+{
+    usage_of(no_page_text(alloc, word))
 }
 
 /// A line of a file of known faults is no row.
@@ -63,6 +70,15 @@ fn no_font_text(alloc: Global) -> Result<String, AllocError>
         alloc,
         "t1check-all: there is no font to check\nt1check-all: 't1check-all --help' says how it is used\n",
     )
+}
+
+fn no_page_text(alloc: Global, word: &str) -> Result<String, AllocError>
+    ensures { IfOk result (λ text. string_bytes text ≡ no_page_text word.now) }
+{
+    let mut text = String::from_str(alloc, "t1check-all: there is no rule and no refusal '")?;
+    text.push_str(word)?;
+    text.push_str("'\nt1check-all: 't1check-all --help' says how it is used\n")?;
+    Ok(text)
 }
 
 /// What is wrong with a line of a file. What isn't UTF-8 in it is printed as U+FFFD.

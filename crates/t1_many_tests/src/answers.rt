@@ -5,6 +5,7 @@ use crate::fonts::{FOUR_FAULTS, font_with, names_of};
 use std::alloc::{AllocError, Global};
 use std::test::Fail;
 use t1_answer_all::{Left, answer, replace_files};
+use t1_forms::Page;
 use t1_io::{Broken, Out};
 use t1_options::{Options, Request, options};
 use t1_run::Status;
@@ -38,6 +39,22 @@ const FOLDERS: &[Folder<'static>] = &[("fonts", &["b.pfb", "a.pfb"])];
 
 const WAIVERS: &[File<'static>] = &[("a.pfb", b"A H02\n")];
 
+/// The pages of a rule and of a refusal.
+const PAGES: &[Page] = &[
+    Page {
+        code: "F01",
+        anchor: "f01-no-end-segment",
+        title: "no end segment",
+        text: "Cure:\n\n    printf '\\200\\003' >>font.pfb",
+    },
+    Page {
+        code: "E04",
+        anchor: "e04-no-eexec",
+        title: "no eexec",
+        text: "No word `eexec`.",
+    },
+];
+
 /// Whether words are answered so over these fonts.
 fn is_answered<'a>(alloc: Global, fonts: &'a [File<'a>], case: &Case<'_>) -> bool {
     let mut files = Files::new(alloc, fonts, WAIVERS).with_texts(TEXTS, FOLDERS);
@@ -47,7 +64,7 @@ fn is_answered<'a>(alloc: Global, fonts: &'a [File<'a>], case: &Case<'_>) -> boo
         alloc,
         case.words,
         b"t1check-all\n",
-        &[],
+        PAGES,
         &mut files,
         Out::new(&mut text),
         Out::new(&mut told),
@@ -183,6 +200,43 @@ const VERSION: Case<'static> = Case {
     replaced: b"",
 };
 
+/// Pages come in the order of the words, whatever else is given.
+const EXPLAINED: Case<'static> = Case {
+    words: &[
+        "t1check-all",
+        "--explain",
+        "e04",
+        "F01",
+        "--files-from",
+        "nowhere",
+    ],
+    status: Status::Clean,
+    text: b"\
+E04 no eexec
+
+No word `eexec`.
+
+F01 no end segment
+
+Cure:
+
+    printf '\\200\\003' >>font.pfb
+",
+    told: b"",
+    calls: b"",
+    replaced: b"",
+};
+
+/// Without a word all are listed.
+const ALL: Case<'static> = Case {
+    words: &["t1check-all", "--explain"],
+    status: Status::Clean,
+    text: b"F01 no end segment (should)\nE04 no eexec\n",
+    told: b"",
+    calls: b"",
+    replaced: b"",
+};
+
 /// Each run, with the files that it replaces.
 #[test]
 fn returns_runs(rt: HostRuntime) -> Result<(), Fail> {
@@ -194,7 +248,7 @@ fn returns_runs(rt: HostRuntime) -> Result<(), Fail> {
         ("fonts/b.pfb", faulty.as_slice()),
         ("-", faulty.as_slice()),
     ];
-    for case in [LISTED, FOLDER, WRITTEN, ANEW, VERSION] {
+    for case in [LISTED, FOLDER, WRITTEN, ANEW, VERSION, EXPLAINED, ALL] {
         assert!(rt; is_answered(rt.alloc(), &fonts, &case), "{:?}", case.words);
     }
     Ok(())
@@ -226,9 +280,16 @@ t1check-all: there is no font to check
 t1check-all: 't1check-all --help' says how it is used
 ",
     ),
+    (
+        &["t1check-all", "--explain", "F01", "E4", "F1"],
+        b"\
+t1check-all: there is no rule and no refusal 'E4'
+t1check-all: 't1check-all --help' says how it is used
+",
+    ),
 ];
 
-/// What is wrong first is printed: known faults, then a list that can't be read, then that there is no font.
+/// What is wrong first is printed: known faults, then a list that can't be read, then that there is no font; or a word that is no code.
 #[test]
 fn reports_what_is_wrong(rt: HostRuntime) {
     for (words, told) in WRONG {

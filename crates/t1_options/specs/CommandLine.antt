@@ -56,6 +56,7 @@ rules =
     ∷ flag_rule (codes "reasons")
     ∷ flag_rule (codes "no-reasons")
     ∷ flag_rule (codes "no-settings")
+    ∷ flag_rule (codes "explain")
     ∷ version_rule
     ∷ path_rule
     ∷ []

@@ -28,6 +28,7 @@ pub record GivenValue : Type 0 where
   pub reasons : Bool
   pub no_reasons : Bool
   pub no_settings : Bool
+  pub explain : Bool
   pub version : Bool
   pub paths : List Text
 
@@ -65,6 +66,7 @@ given_in rows = record {
   reasons = is_in rows (codes "reasons");
   no_reasons = is_in rows (codes "no-reasons");
   no_settings = is_in rows (codes "no-settings");
+  explain = is_in rows (codes "explain");
   version = is_in rows (codes "show-version");
   paths = values_in rows (codes "path");
 }
@@ -99,6 +101,7 @@ given_value g = record {
   reasons = g.reasons;
   no_reasons = g.no_reasons;
   no_settings = g.no_settings;
+  explain = g.explain;
   version = g.version;
   paths = map (λ s. s.now) g.paths.now;
 }

@@ -1,5 +1,5 @@
 -- The statements of laws.
-use Rattle.std.specs.Prelude.{◌≡◌, ◌&&◌, ◌+◌, ◌<◌, ◌≤◌, ◌++◌, [], codes, Bool, true, false, List, ◌∷◌, None, Some, count_by, is_some, length, map, nat_lt, string_bytes}
+use Rattle.std.specs.Prelude.{◌≡◌, ◌&&◌, ◌+◌, ◌<◌, ◌≤◌, ◌++◌, [], codes, Bool, true, false, ◌∷◌, None, Some, count_by, is_some, length, map, nat_lt, string_bytes}
 use Rattle.clap.specs.Walk.{is_empty}
 use Rattle.clap.specs.Words.{Text}
 use Rattle.t1_many.specs.Choice.{is_told, letters_of}

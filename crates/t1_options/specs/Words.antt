@@ -1,5 +1,5 @@
 -- What words request, with the settings of their first path, or why they request nothing.
-use Rattle.std.specs.Prelude.{◌≡◌, true, false, [], List, Option, None, Some, option_map, string_bytes}
+use Rattle.std.specs.Prelude.{◌≡◌, true, false, [], List, Option, None, Some, map, option_map, string_bytes}
 use Rattle.std.specs.Option.{option_or}
 use Rattle.clap.specs.Words.{Text, fault_of}
 use Rattle.t1_run.specs.Words.{AreRefused}
@@ -14,7 +14,7 @@ use Rattle.t1_options.specs.Settings.Finding.{AreSettled, AreUnsettled, Files}
 use Rattle.t1_options.specs.Settings.Reading.{SettingsValue}
 use Rattle.t1_options.specs.declared.asked.Options.{Options}
 use Rattle.t1_options.specs.declared.asked.Request.{Request}
-use Rattle.t1_options.specs.declared.asked.Request.TheVariants.{Check, Version}
+use Rattle.t1_options.specs.declared.asked.Request.TheVariants.{Check, Explain, Version}
 
 -- The settings that count: those of the first path, or none with `--no-settings`.
 pub data AreFound (files : Files) (given : GivenValue) (settings : Option SettingsValue) : Type 0 where
@@ -28,10 +28,11 @@ pub record AreAsked (files : Files) (given : GivenValue) (options : Options) : T
   pub found : AreFound files given settings
   pub meant : AreMeant (merged given settings) options
 
--- A request for the version, or for a check with these options.
+-- A request for the version, for the pages of codes, which the paths are, or for a check with these options.
 abbrev pub IsAsked : Files → GivenValue → Request → Type 0
 IsAsked files given Version = given.version ≡ true
-IsAsked files given (Check options) = (given.version ≡ false) × AreAsked files given options
+IsAsked files given (Explain words) = (given.version ≡ false) × (given.explain ≡ true) × (map string_bytes words.items ≡ given.paths)
+IsAsked files given (Check options) = (given.version ≡ false) × (given.explain ≡ false) × AreAsked files given options
 
 -- clap's rules find no fault in the words, and what they say requests this.
 pub record IsTaken (files : Files) (words : List Text) (request : Request) : Type 0 where
@@ -86,10 +87,10 @@ pub data AreWrong (files : Files) (given : GivenValue) (told : Text) : Type 0 wh
       (settings : Option SettingsValue) → complaint_of_words given ≡ None → AreFound files given settings
       → usage_with given settings ≡ Some told → AreWrong files given told
 
--- What is given requests no version, and something is wrong with it; or memory ran out.
+-- What is given requests no version. It requests no pages either, and something is wrong with it; or memory ran out.
 pub record AsksNothing (files : Files) (given : GivenValue) (error : UsageError) : Type 0 where
   pub no_version : given.version ≡ false
-  pub wrong : IsUsageOr (AreWrong files given) error
+  pub wrong : IsUsageOr (λ told. (given.explain ≡ false) × AreWrong files given told) error
 
 -- The words request nothing: clap finds a fault, or the request for help, which has this text; or what they say
 -- requests nothing.

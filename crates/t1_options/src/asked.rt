@@ -8,6 +8,8 @@ use t1_rules::Mask;
 pub enum Request {
     /// A check of fonts with these options.
     Check(Options),
+    /// The pages of rules and refusals whose codes these words are. Without a word: a list of all.
+    Explain(Vec<String>),
     /// The version, which the program prints.
     Version,
 }

@@ -12,6 +12,7 @@ ghost use Rattle.t1_options.specs.Settings.Finding.{files_by};
 use crate::asked::Request;
 use crate::given::given_in;
 use crate::judging::options_asked;
+use crate::texts::copies;
 use clap::{Arg, ArgAction, ArgMatches, Command};
 use std::alloc::{AllocError, Global};
 use std::convert::AsStr;
@@ -48,6 +49,7 @@ font NAME has its waivers, lines as `A H02`. A FONT `-` is standard input.
   --reasons          write below each line why it is there
   --no-reasons       omit reasons, also on a terminal, where the first one of each line is written
   --no-settings      ignore the settings file, .t1check.toml in the folder of the first PATH or above it
+  --explain          print the pages of rules and refusals: codes in place of fonts, as H02 E08; without a code list all
   --help, --version
 
 Status: 0 nothing to report, 1 a fault, 2 a font refused, 3 a font not checked or a usage error; the greatest counts.
@@ -97,14 +99,15 @@ const ARGUMENTS: &[Argument] = &[
     Argument::Flag("reasons"),
     Argument::Flag("no-reasons"),
     Argument::Flag("no-settings"),
+    Argument::Flag("explain"),
     Argument::Version,
     Argument::Path,
 ];
 
 /// Reads the words of the command line, the program's name first, and the settings of their first path.
 ///
-/// Help comes first, then what clap finds wrong, then the version, then what is wrong with the words by themselves, then
-/// what is wrong with the settings, then what is wrong with both together.
+/// Help comes first, then what clap finds wrong, then the version, then pages, then what is wrong with the words by
+/// themselves, then what is wrong with the settings, then what is wrong with both together.
 pub fn options<S: AsStr, F: FileSystem>(
     alloc: Global,
     words: &[S],
@@ -129,6 +132,9 @@ fn request_of<F: FileSystem>(
     let given = given_in(matches);
     if given.version {
         return Ok(Request::Version);
+    }
+    if given.explain {
+        return Ok(Request::Explain(copies(alloc, given.paths)?));
     }
     match options_asked(alloc, &given, files) {
         Ok(options) => Ok(Request::Check(options)),

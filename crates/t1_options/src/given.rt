@@ -34,6 +34,7 @@ pub(crate) struct Given<'a> {
     pub(crate) reasons: bool,
     pub(crate) no_reasons: bool,
     pub(crate) no_settings: bool,
+    pub(crate) explain: bool,
     pub(crate) version: bool,
     pub(crate) paths: &'a [&'a str],
 }
@@ -66,6 +67,7 @@ pub(crate) fn given_in<'a>(matches: &'a ArgMatches<'_>) -> Given<'a>
         reasons: is_in(matches, "reasons"),
         no_reasons: is_in(matches, "no-reasons"),
         no_settings: is_in(matches, "no-settings"),
+        explain: is_in(matches, "explain"),
         version: is_in(matches, "show-version"),
         paths: values_in(matches, "path"),
     }

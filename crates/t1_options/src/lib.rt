@@ -6,7 +6,8 @@
 //!
 //! Promised:
 //!
-//! - Words are taken exactly where clap finds no fault and nothing is wrong with what they say.
+//! - Words are taken exactly where clap finds no fault and nothing is wrong with what they say. Where they request the version, or pages by
+//!   `--explain`, nothing else of them is judged.
 //! - The options are those that the words mean, and the settings where the words give nothing
 //!   ([`given_options_win`]). With `--no-settings` no settings are looked for. Of an option that is given again the last value counts; `--only`,
 //!   `--except`, `--level`, `--fail-on`, `--files-from` and `--exclude` add values ([`uses_count`]).

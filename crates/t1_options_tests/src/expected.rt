@@ -48,7 +48,7 @@ pub(crate) const PLAIN: Expected<'static> = Expected {
 };
 
 /// Whether these are the texts.
-fn are(texts: &[String], expected: &[&str]) -> bool {
+pub(crate) fn are(texts: &[String], expected: &[&str]) -> bool {
     texts.len() == expected.len()
         && texts
             .iter()

@@ -1,6 +1,6 @@
 //! Words that are taken, and the options that they give.
 
-use crate::expected::{Expected, PLAIN, gives};
+use crate::expected::{Expected, PLAIN, are, gives};
 use crate::files::{File, Files};
 use std::process::Abort;
 use t1_char::Edition;
@@ -285,11 +285,24 @@ fn takes_words(rt: HostRuntime) {
 
 #[test]
 fn takes_version(rt: HostRuntime) {
-    let words = ["t1check-all", "--version", "--edition", "3"];
+    let words = ["t1check-all", "--explain", "--version", "--edition", "3"];
     let files = Files {
         alloc: rt.alloc(),
         settings: File::Unreadable,
     };
     let request = options(rt.alloc(), &words, &files);
     assert!(rt; matches!(&request, Ok(Request::Version)));
+}
+
+#[test]
+fn takes_codes(rt: HostRuntime) {
+    let words = ["t1check-all", "-j2", "h02", "--explain", "E08"];
+    let files = Files {
+        alloc: rt.alloc(),
+        settings: File::Unreadable,
+    };
+    let request = options(rt.alloc(), &words, &files);
+    assert!(rt;
+        matches!(&request, Ok(Request::Explain(codes)) if are(codes.as_slice(), &["h02", "E08"]))
+    );
 }

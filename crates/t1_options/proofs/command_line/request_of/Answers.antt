@@ -1,16 +1,16 @@
-use Rattle.std.proofs.Common.{ap, subst, sym, ◌∙◌}
+use Rattle.std.proofs.Common.{◌≡◌, List, false, subst, ℕ}
+use Rattle.t1_options.proofs.Judged.{told_so}
 use Rattle.t1_options.specs.Settings.Finding.{files_by}
-use Rattle.t1_options.specs.Given.{GivenValue}
-use Rattle.t1_options.specs.Words.{AreWrong, IsUsageOr}
+use Rattle.t1_options.specs.Given.{GivenValue, given_value}
+use Rattle.t1_options.specs.Words.{AreWrong, AsksNothing}
 use Rattle.t1_options.proofs.command_line.request_of.Goals as goal
 
 pub returns-in-Err-clause-wrong : goal.returns-in-Err-clause-wrong
 returns-in-Err-clause-wrong g c =
-    let same = c.given_in-given.ensures in
-    record {
-      no_version = sym (ap (λ (given : GivenValue). given.version) same) ∙ c.if-given.false;
-      wrong = subst
-          (λ (given : GivenValue).
-          IsUsageOr (AreWrong (files_by (g.F.FileSystem.leads c.args.files.now) (g.F.FileSystem.has_text c.args.files.now)) given) c.in-Err.error)
-          same c.in-Err.ensures.wrong;
-    }
+    let files = files_by (g.F.FileSystem.leads c.args.files.now) (g.F.FileSystem.has_text c.args.files.now) in
+    let given = given_value c.given_in-given.result in
+    subst (λ (given : GivenValue). AsksNothing files given c.in-Err.error) c.given_in-given.ensures (record {
+      no_version = c.if-given.false;
+      wrong = told_so (AreWrong files given) (λ (told : List ℕ). (given.explain ≡ false) × AreWrong files given told) c.in-Err.error
+          (λ told is. (c.if-given-2.false, is)) c.in-Err.ensures.wrong;
+    })
