@@ -16,7 +16,7 @@ trap 'rm -rf "$scratch"' EXIT
 trap 'exit 1' HUP INT TERM
 differs=0
 timed=''
-[ ! -x /usr/bin/time ] || timed='/usr/bin/time -a -o '
+[ ! -x /usr/bin/time ] || timed='/usr/bin/time -q -a -o '
 
 # Runs one of both with words: PLACE WORDS...
 run() {

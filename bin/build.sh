@@ -48,11 +48,19 @@ sources_sum() (
     } | LC_ALL=C sort | tr '\n' '\0' | xargs -0 sha256sum | sha256sum | cut -d ' ' -f 1
 )
 
-# Makes the modules and the page in web/out, where a part of them is newer.
-make_modules() {
+# Makes the page in web/out, where a part of it is newer.
+have_page() {
     newer=$(cd "$top" && find crates.txt crates/*/src crates/*/specs crates/*/proofs docs/RULES.md docs/REFERENCE.md tests/draw/fonts/letter.pfb bin/build.sh web \
         \( -path web/out -o -path web/modules -o -name 't1*.mjs' -o -name wasi.mjs \) -prune -o -type f -newer web/out/t1check.html -print 2>/dev/null | head -n 1)
-    [ -f "$top/web/out/t1check.html" ] && [ -z "$newer" ] || "$top/web/build.sh"
+    [ -f "$top/web/out/t1check.html" ] && [ -z "$newer" ] || "$top/web/build.sh" t1_web
+}
+
+# Whether the modules of the programs in web/modules are of the sources here.
+are_modules_kept() {
+    for module in t1check t1check_all t1draw; do
+        [ -f "$top/web/modules/$module.wasm.gz" ] || return 1
+    done
+    [ "$(sources_sum)" = "$(cat "$top/web/modules/sources" 2>/dev/null)" ]
 }
 
 # The command of a crate.
@@ -69,7 +77,7 @@ run_by_node() {
     fi
     if [ -t 2 ]; then
         newer=''
-        [ "$(sources_sum)" = "$(cat "$top/web/modules/sources" 2>/dev/null)" ] || newer='; sources here are newer than it'
+        are_modules_kept || newer='; sources here are newer than it'
         echo "$command: the program isn't built, so node runs that of the release$newer (bin/$command --build builds it)" >&2
     fi
     # Node opens a closed descriptor as /dev/null, which takes and has bytes. The other way round it's of no use to the program either.

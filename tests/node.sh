@@ -49,18 +49,23 @@ for tool in t1check t1check-all t1draw; do
 done
 # shellcheck source=bin/build.sh
 . "$top/bin/build.sh"
-make_modules >"$scratch/built" 2>&1 || {
-    cat "$scratch/built"
-    fail 'web/build.sh'
-    finish
-}
+# What is tried is what users have: where the sources have changed since, it may still answer as the programs do.
+are_modules_kept || echo 'web/modules is not made of these sources: bin/release makes it'
+mkdir "$scratch/modules"
+for name in t1check t1check_all t1draw; do
+    gzip -d -c "$top/web/modules/$name.wasm.gz" >"$scratch/modules/$name.wasm" || {
+        fail "web/modules/$name.wasm.gz isn't there: run bin/release"
+        finish
+    }
+done
+size=$(cat "$top"/web/modules/*.gz | wc -c)
+if [ "$size" -le 1200000 ]; then pass; else fail "the modules have $size bytes, of 1,200,000"; fi
 
 # ---- the cases of the programs
 
-# A copy of the repository without what is built, where each program is a client of the modules in a folder: MODULES.
+# A copy of the repository without what is built, where each program is a client of the modules.
+copied=$scratch/copied
 copy() {
-    copied=$scratch/copied
-    rm -rf "$copied"
     mkdir "$copied" "$scratch/requests"
     (cd "$top" && tar --exclude=./.git --exclude='./crates/*/out' --exclude=./web/out -cf - .) | (cd "$copied" && tar -xf -)
     mkfifo "$scratch/requests/pipe"
@@ -71,7 +76,7 @@ copy() {
         : >"$copied/crates/$name/out/built"
     done
     rm -f "$copied"/tests/program/*memory*.case "$copied"/tests/draw/*memory*.case "$copied"/tests/program/input_beside_*.case
-    node "$top/tests/web/serve.mjs" "$1" "$scratch/requests/pipe" >"$scratch/served" 2>&1 &
+    node "$top/tests/web/serve.mjs" "$scratch/modules" "$scratch/requests/pipe" >"$scratch/served" 2>&1 &
     server=$!
 }
 
@@ -82,7 +87,6 @@ leave_copy() {
         fail 'tests/web/serve.mjs stopped'
     }
     server=''
-    rm -rf "$scratch/requests"
 }
 
 # Runs a script of the copy, shows what it prints but for its counts, and adds these up: SCRIPT WORDS...
@@ -104,36 +108,12 @@ run() {
     failed=$((failed + ${counts#* }))
 }
 
-# The cases by the modules in a folder.
-try_modules() {
-    copy "$1"
-    run program.sh
-    run draw.sh
-    run tools.sh baseline choice explain forms limits names progress reasons settings terminal usage waivers
-    leave_copy
-}
-try_modules "$top/web/out"
-
-# The modules of the repository are those that are made here, or answer as the programs do.
-if [ "$(cat "$top/web/modules/sources" 2>/dev/null)" = "$(sources_sum)" ]; then pass; else echo 'web/modules is of other sources: bin/release makes it'; fi
-mkdir "$scratch/kept"
-is_kept=yes
-for name in t1check t1check_all t1draw; do
-    gzip -d -c "$top/web/modules/$name.wasm.gz" >"$scratch/kept/$name.wasm" || {
-        fail "web/modules/$name.wasm.gz isn't there: run bin/release"
-        finish
-    }
-    cmp -s "$scratch/kept/$name.wasm" "$top/web/out/$name.wasm" || is_kept=''
-done
-if [ -n "$is_kept" ]; then
-    pass
-else
-    before=$failed
-    try_modules "$scratch/kept"
-    [ "$failed" -eq "$before" ] || echo 'failed: web/modules is older than the sources: run bin/release'
-fi
-size=$(cat "$top"/web/modules/*.gz | wc -c)
-if [ "$size" -le 1200000 ]; then pass; else fail "the modules have $size bytes, of 1,200,000"; fi
+copy
+run program.sh
+run draw.sh
+run tools.sh baseline choice explain forms limits names progress reasons settings terminal usage waivers
+leave_copy
+[ "$failed" -eq 0 ] || are_modules_kept || echo 'failed: web/modules is older than the sources: run bin/release'
 
 # ---- what system.c calls, by this host and by node's own
 
@@ -161,7 +141,7 @@ if "${clang%clang}ld.lld" -flavor wasm -mwasm64 --no-entry --export=_start --gc-
 else
     fail 'tests/web/calls.c'
 fi
-if node "$top/tests/web/modules.mjs" "$top/web/out" "$fonts"; then pass; else fail 'the modules by node:wasi, or their tables'; fi
+if NODE_NO_WARNINGS=1 node "$top/tests/web/modules.mjs" "$scratch/modules" "$fonts"; then pass; else fail 'the modules by node:wasi, or their tables'; fi
 
 # ---- as a user starts them
 

@@ -61,7 +61,7 @@ for tool in t1check t1check-all t1draw; do
         finish
     }
 done
-if "$top/web/build.sh" >"$scratch/built" 2>&1; then
+if "$top/web/build.sh" t1_web >"$scratch/built" 2>&1; then
     pass
 else
     cat "$scratch/built"

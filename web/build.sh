@@ -1,6 +1,8 @@
 #!/bin/sh
-# Makes web/out: a module of each program, as t1check.wasm, which node runs by web/wasi.mjs; t1_web.wasm, the module of the exports of crates/t1_web;
-# and t1check.html, one page that needs no other file.
+# Makes in web/out the modules of crates: of a program, as t1check.wasm, which node runs by web/wasi.mjs; and t1_web.wasm, of the exports of
+# crates/t1_web, with t1check.html, one page that needs no other file.
+#
+#     web/build.sh [CRATE...]        those alone, of t1check, t1check_all, t1draw and t1_web
 #
 # A crate is proved and compiled for x86-64, t1_web as a static library. The LLVM module that rattle hands to the kit's clang is compiled for
 # WebAssembly by the same clang. A memory of 64 bits is made one of 32 by wasm-opt (Debian: binaryen), which node and browsers without 64-bit memory
@@ -11,7 +13,6 @@ export LC_ALL
 
 here=$(CDPATH='' cd -P -- "$(dirname "$0")" && pwd -P) || exit 3
 top=$(dirname "$here")
-programs='t1check t1check_all t1draw'
 web_exports='t1_web_lines t1_web_document t1_web_picture t1_web_entry web_room web_free'
 out=$here/out
 
@@ -242,13 +243,14 @@ mkdir -p "$out" || exit 3
 for part in heap helpers system; do
     quietly compile_for_wasm -O2 -ffreestanding -nostdinc "$here/$part.c" -o "$scratch/$part.o"
 done
+[ $# -gt 0 ] || set -- t1check t1check_all t1draw t1_web
 made=''
-for module in $programs t1_web; do
+for module; do
     make_module "$module" &
     made="$made $!"
 done
 for module in $made; do
     wait "$module" || exit 3
 done
-make_page
+case " $* " in *' t1_web '*) make_page ;; esac
 ls -l "$out"

@@ -2,6 +2,7 @@
 // https://github.com/WebAssembly/WASI/blob/main/legacy/preview1/docs.md
 import fs from 'node:fs';
 import tty from 'node:tty';
+import v8 from 'node:v8';
 import zlib from 'node:zlib';
 
 const LEAST_NODE = 20;
@@ -273,9 +274,13 @@ export function run(module, words, { environment = process.env, standard = [0, 1
   }
 }
 
+// How much of a function V8 executes before it compiles it once more, for speed: more than by itself, since most runs end sooner.
+const BUDGET = 10000000;
+
 // The module of a program of the release.
 export function moduleOf(name) {
   try {
+    v8.setFlagsFromString(`--wasm-tiering-budget=${BUDGET}`);
     return new WebAssembly.Module(zlib.gunzipSync(fs.readFileSync(new URL(`modules/${name}.wasm.gz`, import.meta.url))));
   } catch (error) {
     throw new Error(`its module can't be used: ${error.message}`);

@@ -27,14 +27,14 @@ printf '#!/bin/sh\necho "${0##*/}: $*"\n' >"out/$tool" && chmod +x "out/$tool"
 END
 chmod +x "$scratch/kit/rt"
 for tool in t1check t1draw t1check-all; do
-    name=$(echo "$tool" | tr - _)
+    crate=$(echo "$tool" | tr - _)
     wanted <<END
 --
-$name: proving and building crate 1 of 1, $name
+$crate: proving and building crate 1 of 1, $crate
 END
     try "building $tool" 0 env PATH="$scratch/kit:$PATH" "$build/bin/$tool" --build
     wanted <<END
-$name: a  b
+$crate: a  b
 --
 END
     try "$tool, which is built" 0 env PATH="$scratch/kit:$PATH" "$build/bin/$tool" 'a  b'
@@ -220,11 +220,11 @@ $tool: the program isn't built, and node, which would run that of the release, i
 $tool: 'bin/$tool --build' builds it, with the Rattle kit; $scratch/fresh/docs/t1check.html checks fonts in a browser
 END
     try "neither $tool nor node" 3 env PATH="$scratch/no tools" "$scratch/fresh/bin/$tool" font.pfb
-    name=$(echo "$tool" | tr - _)
+    crate=$(echo "$tool" | tr - _)
     wanted <<END
 --
-$name: the program has to be built, and 'rt', the command of the Rattle kit, isn't on the path
-$name: see 'Build and test' in $scratch/fresh/README.md
+$crate: the program has to be built, and 'rt', the command of the Rattle kit, isn't on the path
+$crate: see 'Build and test' in $scratch/fresh/README.md
 END
     try "no rt for $tool" 3 env PATH="$scratch/nodes:$scratch/no tools" "$scratch/fresh/bin/$tool" --build
 done

@@ -17,9 +17,11 @@ kill -s KILL $$
 END
 wanted <<'END'
 first.pfb: 1: font file 0 F01 no end segment
+137
 --
 END
-try 'the program is killed' 137 "$stand/bin/t1check-all" -q first.pfb second.pfb
+# shellcheck disable=SC2016
+try 'the program is killed' 0 sh -c 'exec 2>/dev/null; "$0" -q first.pfb second.pfb; echo $?' "$stand/bin/t1check-all"
 
 # A document isn't closed as if all fonts had their place in it, and known faults are as they were. The document is longer than a pipe takes in;
 # who reads the pipe takes a byte, sends the signal, and takes the rest once the run has ended.
