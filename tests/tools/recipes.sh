@@ -212,7 +212,8 @@ make_project() {
     cp "$recipes/gitlab.jq" "$recipes/junit.jq" "$1/ci/"
 }
 
-# Writes the shell's lines of a file of YAML, one file a part, and the variables as exports: FILE FOLDER.
+# Writes the shell's lines of a file of YAML, one file a part, and the variables as exports: FILE FOLDER. A part that runs after a failed one too is
+# named so.
 cat >parts.py <<'END'
 import os, shlex, sys, yaml
 document = yaml.safe_load(open(sys.argv[1]))
@@ -226,11 +227,11 @@ with open(os.path.join(folder, "variables"), "w") as file:
     if "parallel" in job:
         file.write(f"export CI_NODE_TOTAL={job['parallel']}\n")
 if "steps" in job:
-    parts = [(step["name"], step["run"]) for step in job["steps"] if "run" in step]
+    parts = [(step["name"], step["run"], ".always" if "always()" in step.get("if", "") else "") for step in job["steps"] if "run" in step]
 else:
-    parts = [("before", "\n".join(job["before_script"])), ("script", "\n".join(job["script"]))]
-for number, (name, text) in enumerate(parts):
-    with open(os.path.join(folder, str(number)), "w") as file:
+    parts = [("before", "\n".join(job["before_script"]), ""), ("script", "\n".join(job["script"]), "")]
+for number, (name, text, runs) in enumerate(parts):
+    with open(os.path.join(folder, f"{number}{runs}"), "w") as file:
         file.write(f"# {name}\n{text}\n")
 END
 
@@ -238,10 +239,14 @@ END
 cat >run_parts <<'END'
 cd "$2" || exit
 . "$1/variables"
+failed=''
 for part in "$1"/[0-9]*; do
+    [ -z "$failed" ] || [ "${part%.always}" != "$part" ] || continue
     [ ! -s "$GITHUB_PATH" ] || PATH=$(cat "$GITHUB_PATH"):$PATH
     bash --noprofile --norc -eo pipefail "$part" >out 2>err
-    echo "$(sed -n '1s/^# //p' "$part"): status $?"
+    status=$?
+    [ "$status" -eq 0 ] || failed=yes
+    echo "$(sed -n '1s/^# //p' "$part"): status $status"
     cat out
 done
 END
@@ -574,13 +579,14 @@ END
     try 'pre-commit-config.yaml, judged by pre-commit' 0 pre-commit validate-config "$recipes/pre-commit-config.yaml"
     try '.pre-commit-hooks.yaml, judged by pre-commit' 0 pre-commit validate-manifest "$top/.pre-commit-hooks.yaml"
 
-    # Commits changes of a file each to the project of a folder, $1, with a font, $2; prints whether the hook ran, and lines that it printed.
+    # Commits changes of a file each to the project of a folder, $1, with a font, $2; prints whether the hook ran, and lines and summaries that it
+    # printed.
     cat >commits <<'END'
 cd "$1" || exit
 commit() {
     git commit -q -m "$1" >commit.log 2>&1
     echo "$1: status $?"
-    sed -n 's/^t1check.*[.)]\(Skipped\|Passed\|Failed\)$/\1/p; /: [0-9]*: \|: refused: /p' commit.log
+    sed -n 's/^t1check.*[.)]\(Skipped\|Passed\|Failed\)$/\1/p; /: [0-9]*: \|: refused: \|fonts*: [0-9]/p' commit.log
     rm commit.log
 }
 git add . && commit 'clean fonts'
@@ -643,9 +649,13 @@ repos:
 --
 END
     try 'the second hook of pre-commit-config.yaml' 0 cat node.yaml
-    [ -z "$node_runs" ] || for hook in t1check t1check-node; do
-        sed "s/t1check-node/$hook/" node.yaml >hook.yaml
-        make_hooked <hook.yaml
+    # As it is there, and each without arguments.
+    cp node.yaml '1 t1check-node'
+    for hook in t1check t1check-node; do
+        sed "/args:/d; s/t1check-node/$hook/" node.yaml >"2 $hook"
+    done
+    [ -z "$node_runs" ] || for hook in [12]' '*; do
+        make_hooked <"$hook"
         cp hooked.wanted wanted
         try "commits with the hook $hook" 0 sh commits hooked "$scratch/edge.pfb"
     done
