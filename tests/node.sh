@@ -41,6 +41,10 @@ for tool in node:nodejs wasm-opt:binaryen; do
         finish
     }
 done
+if [ "$(node -p 'Number.parseInt(process.versions.node, 10) >= 20')" != true ]; then
+    echo "skipped: the programs under node, since node 20 or later isn't here (Debian: nodejs)"
+    finish
+fi
 for tool in t1check t1check-all t1draw; do
     "$top/bin/$tool" --build || {
         fail "bin/$tool --build"
@@ -257,11 +261,11 @@ fi
 
 # A node that says that it is Windows: names have slashes, and what one system wrote serves on the other.
 windows="--import=data:text/javascript,Object.defineProperty(process,'platform',{value:'win32'})"
-mkdir -p "$scratch/shared/fonts/old" && cp "$fonts/H02.pfb" "$fonts/Z05.pfb" "$scratch/shared/fonts/" && cp "$fonts/P02.pfb" "$scratch/shared/fonts/old/"
+mkdir -p "$scratch/systems/fonts/old" && cp "$fonts/H02.pfb" "$fonts/Z05.pfb" "$scratch/systems/fonts/" && cp "$fonts/P02.pfb" "$scratch/systems/fonts/old/"
 answers() {
     wanted=$1
     shift
-    (cd "$scratch/shared" && "$@") >"$scratch/given" 2>&1
+    (cd "$scratch/systems" && "$@") >"$scratch/given" 2>&1
     echo "status $?" >>"$scratch/given"
     if printf '%b' "$wanted" | diff - "$scratch/given"; then pass; else fail "$*"; fi
 }
@@ -269,7 +273,7 @@ answers 'fonts/H02.pfb: 1: glyph A - 9 H02 stems overlap\nstatus 1\n' node "$win
 answers 'fonts/H02.pfb: 1: glyph A - 9 H02 stems overlap\nstatus 1\n' node "$windows" "$top/web/t1check-all.mjs" -q fonts --exclude 'fonts\old\*' --except Z
 answers 'status 0\n' node "$windows" "$top/web/t1check-all.mjs" -q --baseline '.\known.txt' --update-baseline 'fonts\old' '.\fonts\H02.pfb'
 answers 'status 0\n' "$top/bin/t1check-all" -q --baseline known.txt fonts/old ./fonts/H02.pfb
-printf 'exclude = ["old/**"]\nonly = ["H"]\n' >"$scratch/shared/fonts/.t1check.toml"
+printf 'exclude = ["old/**"]\nonly = ["H"]\n' >"$scratch/systems/fonts/.t1check.toml"
 answers 'fonts/H02.pfb: 1: glyph A - 9 H02 stems overlap\nstatus 1\n' node "$windows" "$top/web/t1check-all.mjs" -q 'fonts\'
 answers 'status 0\n' "$top/bin/t1check-all" -q --baseline known.txt --update-baseline fonts
 answers 'status 0\n' node "$windows" "$top/web/t1check-all.mjs" -q --baseline known.txt 'fonts'
@@ -283,14 +287,14 @@ answers 't1check: node 20 is needed, and this is 18.20.4\nstatus 3\n' node "$old
 head -c 100000 "$top/web/modules/t1check.wasm.gz" >"$clone/web/modules/t1check.wasm.gz"
 answers "t1check: its module can't be used: unexpected end of file\nstatus 3\n" node "$clone/web/t1check.mjs" fonts/H02.pfb
 gzip -d -c "$top/web/modules/t1check.wasm.gz" | head -c 100000 | gzip -c >"$clone/web/modules/t1check.wasm.gz"
-(cd "$scratch/shared" && node "$clone/web/t1check.mjs" fonts/H02.pfb) >"$scratch/given" 2>&1
+(cd "$scratch/systems" && node "$clone/web/t1check.mjs" fonts/H02.pfb) >"$scratch/given" 2>&1
 if [ $? -eq 3 ] && grep -q "^t1check: its module can't be used: WebAssembly.Module(): " "$scratch/given" && [ "$(wc -l <"$scratch/given")" -eq 1 ]; then
     pass
 else
     fail "a module that is cut: $(cat "$scratch/given")"
 fi
 rm "$clone/web/modules/t1check_all.wasm.gz"
-(cd "$scratch/shared" && node "$clone/web/t1check-all.mjs" fonts/H02.pfb) >"$scratch/given" 2>&1
+(cd "$scratch/systems" && node "$clone/web/t1check-all.mjs" fonts/H02.pfb) >"$scratch/given" 2>&1
 if [ $? -eq 3 ] && grep -q "^t1check-all: its module can't be used: ENOENT" "$scratch/given"; then pass; else fail "no module: $(cat "$scratch/given")"; fi
 
 # ---- real fonts, and what they take
