@@ -42,7 +42,7 @@ is_proved() {
 sources_sum() (
     cd "$top" || exit 1
     {
-        find crates -name '*.rt' -path '*/src/*' ! -path 'crates/*_tests/*' ! -path 'crates/t1_samples/*' ! -path 'crates/example/*'
+        find crates/*/src -type f ! -path 'crates/*_tests/*' ! -path 'crates/t1_samples/*' ! -path 'crates/example/*'
         find web -type f ! -path 'web/out/*' ! -path 'web/modules/*' ! -name '*.mjs'
         printf '%s\n' crates.txt web/host.mjs docs/RULES.md docs/REFERENCE.md tests/draw/fonts/letter.pfb
     } | LC_ALL=C sort | tr '\n' '\0' | xargs -0 sha256sum | sha256sum | cut -d ' ' -f 1
