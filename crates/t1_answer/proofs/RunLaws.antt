@@ -8,7 +8,7 @@ use Rattle.t1_io.specs.Devices.{SinkState, SourceState, one_more}
 use Rattle.t1_answer.specs.declared.asked.Options.{Options}
 use Rattle.t1_run.specs.declared.status.Status.{Status}
 use Rattle.t1_run.specs.declared.status.Status.TheVariants.{Clean, Failed, Faults, Refused}
-use Rattle.t1_refusals.specs.declared.refusal.Reason.{Reason}
+use Rattle.t1_report.specs.Refusals.{Refusal, refusal_code_of}
 use Rattle.t1_answer.specs.Answers.{Answer, IsAnswerTo, IsShown, selection, refused, reported, status_of, traced_at}
 use Rattle.t1_answer.specs.Shows.{Shows}
 use Rattle.t1_answer.specs.Shows.Shows.{no_glyph, no_room, reported as was_reported, traced as was_traced}
@@ -27,8 +27,7 @@ use Rattle.t1_report.specs.Waivers.{Waiver}
 use Rattle.std.specs.Option.{is_some}
 use Rattle.t1_answer.specs.Waived.{asks_waivers, unless_traced}
 use Rattle.t1_run.proofs.FilesRead.{of-any, of-waived, waived-weaker}
-use Rattle.t1_refusals.specs.RefusalCodes.{refusal_code_of}
-use Rattle.t1_refusals.specs.declared.refusal.RefusalCode.{RefusalCode}
+use Rattle.t1_font.specs.declared.unread.RefusalCode.{RefusalCode}
 use Rattle.t1_run.specs.Failures.{failure_line, failure_of, failure_status, out_of_memory_line, read_failed_line, refused_by, write_failed_line, no_glyph_line}
 use Rattle.t1_run.specs.declared.failure.Failure.{Failure}
 use Rattle.t1_run.specs.declared.failure.Failure.TheVariants as failure
@@ -126,7 +125,7 @@ nothing-same : (a b : SinkState) → b ≡ a → Appends a.written b.written []
 nothing-same a b same = subst (λ (s : SinkState). Appends a.written s.written []) (sym same) (Appends-nil a.written)
 
 -- what is so of a reading is so of the bytes that are read so
-of-read : (P : Result FontValue Reason → Type 0) (left : Option (List ℕ)) (read : Result FontValue Reason) → AreRead left read → P read
+of-read : (P : Result FontValue Refusal → Type 0) (left : Option (List ℕ)) (read : Result FontValue Refusal) → AreRead left read → P read
     → IfSome left (λ input. P (font_of input))
 of-read P None read are holds = tt
 of-read P (Some input) read are holds = subst P (sym are) holds
@@ -141,7 +140,7 @@ some-any P (Some input) all = all input
 
 -- ---- waivers that are requested
 
-refused_asked : (edition : Edition) (asked : Bool) (text : Option (List ℕ)) (reason : Reason) → AreWaived edition asked text (Err reason) → asked ≡ true
+refused_asked : (edition : Edition) (asked : Bool) (text : Option (List ℕ)) (reason : Refusal) → AreWaived edition asked text (Err reason) → asked ≡ true
 refused_asked edition true text reason is = refl
 refused_asked edition false text reason is = cc
 
@@ -188,21 +187,21 @@ module _ (options : Options) (source texts : Transition SourceState) (sinks : Tr
   Answering answer = IfKnown options left waivers.left (λ read waived. IsAnswerTo options read waived answer)
 
   -- both were read so
-  of-both : (answer : Answer) (read : Result FontValue Reason) (waived : Result (List Waiver) Reason) → AreRead left read
+  of-both : (answer : Answer) (read : Result FontValue Refusal) (waived : Result (List Waiver) Refusal) → AreRead left read
       → AreWaived options.edition (asks_waivers options) waivers.left waived → IsAnswerTo options read waived answer → Answering answer
   of-both answer read waived are is holds =
       of-read (λ r. IfWaived options.edition (asks_waivers options) waivers.left (λ w. IsAnswerTo options r w answer)) left read are
       (of-waived options.edition (λ w. IsAnswerTo options read w answer) (asks_waivers options) waivers.left waived is holds)
 
   -- whatever the waivers are
-  of-font : (answer : Answer) (read : Result FontValue Reason) → AreRead left read
-      → ((waived : Result (List Waiver) Reason) → IsAnswerTo options read waived answer) → Answering answer
+  of-font : (answer : Answer) (read : Result FontValue Refusal) → AreRead left read
+      → ((waived : Result (List Waiver) Refusal) → IsAnswerTo options read waived answer) → Answering answer
   of-font answer read are holds =
       of-read (λ r. IfWaived options.edition (asks_waivers options) waivers.left (λ w. IsAnswerTo options r w answer)) left read are
       (of-any options.edition (λ w. IsAnswerTo options read w answer) (asks_waivers options) waivers.left holds)
 
-  known-weaker : (answer : Answer) (Q : Result FontValue Reason → Result (List Waiver) Reason → Type 0)
-      → ((read : Result FontValue Reason) (waived : Result (List Waiver) Reason) → IsAnswerTo options read waived answer → Q read waived)
+  known-weaker : (answer : Answer) (Q : Result FontValue Refusal → Result (List Waiver) Refusal → Type 0)
+      → ((read : Result FontValue Refusal) (waived : Result (List Waiver) Refusal) → IsAnswerTo options read waived answer → Q read waived)
       → Answering answer → IfKnown options left waivers.left Q
   known-weaker answer Q on holds =
       some-weaker (λ input. IfWaived options.edition (asks_waivers options) waivers.left (λ w. IsAnswerTo options (font_of input) w answer))
@@ -229,11 +228,11 @@ module _ (options : Options) (source texts : Transition SourceState) (sinks : Tr
     unasked = λ unasked. same;
     unread = λ source. same;
     refused =
-        some-any (λ input. (reason : Reason) → font_of input ≡ Err reason → waivers' ≡ waivers) left (λ input reason is. same);
+        some-any (λ input. (reason : Refusal) → font_of input ≡ Err reason → waivers' ≡ waivers) left (λ input reason is. same);
   }
 
-  never_refused : (font : FontValue) → AreRead left (Ok font) → IfSome left (λ input. (reason : Reason) → font_of input ≡ Err reason → waivers' ≡ waivers)
-  never_refused font are = of-read (λ r. (reason : Reason) → r ≡ Err reason → waivers' ≡ waivers) left (Ok font) are (λ reason is. cc)
+  never_refused : (font : FontValue) → AreRead left (Ok font) → IfSome left (λ input. (reason : Refusal) → font_of input ≡ Err reason → waivers' ≡ waivers)
+  never_refused font are = of-read (λ r. (reason : Refusal) → r ≡ Err reason → waivers' ≡ waivers) left (Ok font) are (λ reason is. cc)
 
   spared_by : (font : FontValue) → AreRead left (Ok font) → failed ≡ false → (asks_waivers options ≡ false → waivers' ≡ waivers)
       → Spared
@@ -376,7 +375,7 @@ module _ (options : Options) (source texts : Transition SourceState) (sinks : Tr
       }
 
   -- the name that the options have
-  shown_by : (font : FontValue) (waived : Result (List Waiver) Reason) (answer : Answer) (trace name : Option (List ℕ)) → trace ≡ name
+  shown_by : (font : FontValue) (waived : Result (List Waiver) Refusal) (answer : Answer) (trace name : Option (List ℕ)) → trace ≡ name
       → IsShown options font waived name answer → IsShown options font waived trace answer
   shown_by font waived answer trace name same is = subst (λ (n : Option (List ℕ)). IsShown options font waived n answer) (sym same) is
 
@@ -419,7 +418,7 @@ module _ (options : Options) (source texts : Transition SourceState) (sinks : Tr
   after_font font are unfailed (no_waiver_room asked kept same tells) =
       after_no_memory unfailed kept (spared_by font are unfailed (λ unasked. absurd (true≢false (sym asked ∙ unasked)))) same tells
 
-  after_refusal : (reason : Reason) → AreRead left (Err reason) → failed ≡ false → waivers' ≡ waivers → out' ≡ out
+  after_refusal : (reason : Refusal) → AreRead left (Err reason) → failed ≡ false → waivers' ≡ waivers → out' ≡ out
       → Tells (told_of reason) (unread_status reason) errors errors' result
       → (unread_status reason ≡ Refused) ⊎ (failure_of reason ≡ failure.Memory) → KeepsFacts
   after_refusal reason are unfailed untouched same tells (inl two) =

@@ -8,7 +8,7 @@ use Rattle.t1_report.specs.Reports.{IsReport}
 use Rattle.t1_answer.specs.declared.asked.Options.{Options}
 use Rattle.t1_run.specs.declared.status.Status.{Status}
 use Rattle.t1_run.specs.declared.status.Status.TheVariants.{Clean, Failed, Faults, Refused}
-use Rattle.t1_refusals.specs.declared.refusal.Reason.{Reason}
+use Rattle.t1_report.specs.Refusals.{Refusal}
 use Rattle.t1_run.specs.Failures.{no_glyph_line}
 use Rattle.t1_run.specs.FontFiles.{font_of}
 use Rattle.t1_answer.specs.Lines.{lines_of}
@@ -48,7 +48,7 @@ reported font waivers faults =
     record { output = lines_of font waivers faults; told = []; status = status_of faults }
 
 -- What the options choose of a font's report, given waivers; where these aren't read, the reason is printed.
-abbrev pub IsReported : Options → FontValue → Result (List Waiver) Reason → Answer → Type 0
+abbrev pub IsReported : Options → FontValue → Result (List Waiver) Refusal → Answer → Type 0
 IsReported options font (Ok waivers) answer =
     (faults : List FaultValue)
     × (IsReport (checked font options.edition) waivers faults × (answer ≡ reported font waivers (selection options faults)))
@@ -63,20 +63,20 @@ abbrev pub traced : Edition → FontValue → List ℕ → Answer
 traced edition font name = traced_at edition font name (glyph_named font name)
 
 -- Without a name the answer is the report, with one the trace of that glyph.
-abbrev pub IsShown : Options → FontValue → Result (List Waiver) Reason → Option (List ℕ) → Answer
+abbrev pub IsShown : Options → FontValue → Result (List Waiver) Refusal → Option (List ℕ) → Answer
     → Type 0
 IsShown options font waived None answer = IsReported options font waived answer
 IsShown options font waived (Some name) answer = answer ≡ traced options.edition font name
 
 -- The answer of a font that was read is what the options request; else the reason is printed.
-abbrev pub IsAnswerTo : Options → Result FontValue Reason → Result (List Waiver) Reason → Answer
+abbrev pub IsAnswerTo : Options → Result FontValue Refusal → Result (List Waiver) Refusal → Answer
     → Type 0
 IsAnswerTo options (Ok font) waived answer =
     IsShown options font waived (option_map string_bytes options.trace) answer
 IsAnswerTo options (Err reason) waived answer = answer ≡ refused (told_of reason)
 
 -- The waivers of a text, where the options request them; else there are none.
-abbrev pub waived_by : Options → List ℕ → Result (List Waiver) Reason
+abbrev pub waived_by : Options → List ℕ → Result (List Waiver) Refusal
 waived_by options text = if asks_waivers options then waivers_in options.edition text else Ok []
 
 -- The program's answer to its options and the bytes of a font's file and of a file of waivers.

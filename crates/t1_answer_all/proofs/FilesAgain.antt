@@ -14,7 +14,7 @@ use Rattle.t1_known.proofs.FoundKinds.{reports_are_readable}
 use Rattle.t1_known.specs.Laws.{UpdatesAreReached}
 use Rattle.t1_known.specs.Lines.{has_no_line_end}
 use Rattle.t1_known.specs.Readings.{IsReadable}
-use Rattle.t1_refusals.specs.declared.refusal.Reason.{Reason}
+use Rattle.t1_report.specs.Refusals.{Refusal}
 use Rattle.t1_many.specs.Ends.{AreChecked}
 use Rattle.t1_many.specs.Files.{ChecksIn, HasNoWaivers, IsFound, files_by, given_by}
 use Rattle.t1_many.specs.Files.ChecksIn.{cannot_open, cannot_open_waivers, no_line, with_waivers, without_waivers}
@@ -42,7 +42,7 @@ use Rattle.t1_answer_all.proofs.QuietAgain.{all-append, quiet_again}
 use Rattle.t1_answer_all.specs.Laws.{AnUpdateOfFilesIsQuietNextTime, AreCheckedIn, CanBeKnown, IsChecked, IsQuiet, holding}
 
 -- The waivers of a font that has this text of them, if it has one.
-abbrev waived_by : Edition → Option (List ℕ) → Result (List Waiver) Reason
+abbrev waived_by : Edition → Option (List ℕ) → Result (List Waiver) Refusal
 waived_by edition None = Ok []
 waived_by edition (Some text) = waivers_in edition text
 
@@ -53,9 +53,9 @@ data IsSure (edition : Edition) (bytes : List ℕ) (text : Option (List ℕ)) (n
       → IsReport (checked report.font edition) report.waivers report.faults → 0 < length name → outcome ≡ reported report
       → IsSure edition bytes text name outcome
   sure_refused :
-      (reason : Reason) → font_of bytes ≡ Err reason → outcome ≡ failed (error_of (failure_of reason)) → IsSure edition bytes text name outcome
+      (reason : Refusal) → font_of bytes ≡ Err reason → outcome ≡ failed (error_of (failure_of reason)) → IsSure edition bytes text name outcome
   sure_waivers :
-      (font : FontValue) (reason : Reason) → font_of bytes ≡ Ok font → waived_by edition text ≡ Err reason
+      (font : FontValue) (reason : Refusal) → font_of bytes ≡ Ok font → waived_by edition text ≡ Err reason
       → outcome ≡ failed (error_of (failure_of reason)) → IsSure edition bytes text name outcome
 
 -- The same by its name too.
@@ -75,7 +75,7 @@ module _ (bytes_of : List ℕ → List ℕ) (text_of : List ℕ → Option (List
 
   -- by the bytes of the font, and the text of its waivers where it has some
   found_so : (bytes : List ℕ) (text : Option (List ℕ)) (asked : Bool) (source source' waivers waivers' : SourceState) → source.left ≡ Some bytes
-      → ((waived : Result (List Waiver) Reason) → AreWaived edition asked waivers.left waived → waived_by edition text ≡ waived) → 0 < length name
+      → ((waived : Result (List Waiver) Refusal) → AreWaived edition asked waivers.left waived → waived_by edition text ≡ waived) → 0 < length name
       → (outcome : Outcome) → IsFound edition (given_by edition source source' asked waivers waivers') outcome → IsChecked outcome
       → IsSure edition bytes text name outcome
   found_so bytes text asked source source' waivers waivers' is waives named outcome (reports report reads waived edition_is made same) checks =
@@ -141,9 +141,9 @@ module _ (edition : Edition) (bytes : List ℕ) (text : Option (List ℕ)) (name
       dated dated' is is'
       ∙ sym at'
   same_outcome a b (sure_refused why font at) (sure_refused why' font' at') =
-      at ∙ ap (λ (w : Reason). failed (error_of (failure_of w))) (err_same why why' (font_of bytes) font font') ∙ sym at'
+      at ∙ ap (λ (w : Refusal). failed (error_of (failure_of w))) (err_same why why' (font_of bytes) font font') ∙ sym at'
   same_outcome a b (sure_waivers f why font waived at) (sure_waivers f' why' font' waived' at') =
-      at ∙ ap (λ (w : Reason). failed (error_of (failure_of w))) (err_same why why' (waived_by edition text) waived waived') ∙ sym at'
+      at ∙ ap (λ (w : Refusal). failed (error_of (failure_of w))) (err_same why why' (waived_by edition text) waived waived') ∙ sym at'
   same_outcome a b (sure_report r font waived dated is named at) (sure_refused why font' at') = absurd (either r.font why (font_of bytes) font font')
   same_outcome a b (sure_report r font waived dated is named at) (sure_waivers f why font' waived' at') =
       absurd (either r.waivers why (waived_by edition text) waived waived')
@@ -193,7 +193,7 @@ module _ (bytes_of : List ℕ → List ℕ) (text_of : List ℕ → Option (List
 
 -- ---- it can become known
 
-with_reason_of : (read : Result FontValue Unread) (large : Bool) (reason : Reason) (font : FontValue)
+with_reason_of : (read : Result FontValue Unread) (large : Bool) (reason : Refusal) (font : FontValue)
     → cond large (Err reason) (with_reason read) ≡ Ok font → read ≡ Ok font
 with_reason_of (Ok f) true reason font is = cc
 with_reason_of (Ok f) false reason font is = (let same : f ≡ font = cc in ap Ok same)
@@ -204,7 +204,7 @@ font_is : (bytes : List ℕ) (font : FontValue) → font_of bytes ≡ Ok font �
 unfolding font_of
 font_is bytes font is = with_reason_of (font_in bytes) (nat_lt 16777216 (length bytes)) _ font is
 
-as_waivers_of : (read : Option (List Waiver)) (large : Bool) (reason : Reason) (waivers : List Waiver)
+as_waivers_of : (read : Option (List Waiver)) (large : Bool) (reason : Refusal) (waivers : List Waiver)
     → cond large (Err reason) (as_waivers read) ≡ Ok waivers → read ≡ Some waivers
 as_waivers_of (Some ws) true reason waivers is = cc
 as_waivers_of (Some ws) false reason waivers is = (let same : ws ≡ waivers = cc in ap Some same)

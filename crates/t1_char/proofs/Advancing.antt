@@ -131,14 +131,14 @@ all_numbers what none limit steps n (suc taken) way passes =
 
 -- How a machine was called where no command is passed.
 pub asked_numbers : (numbers : Numbers) (what : Passing) (limit : ℕ) (steps : List StepView) (n calls : ℕ) (answer : TurnValue) (way : Way) → leads what ≡ false
-    → (numbers ≡ numbers_of.Told → what ≡ passing.Told)
+    → (numbers ≡ numbers_of.Returned → what ≡ passing.Returned)
     → IsAskedFarBehind what limit steps n calls answer way → IsAskedBehind numbers limit steps n calls answer
-asked_numbers numbers what limit steps n calls answer way none told asked =
+asked_numbers numbers what limit steps n calls answer way none returned asked =
     record {
       before = n + asked.taken;
       least = omega arith;
       passed = all_numbers what none limit steps n asked.taken way asked.passed;
-      told = λ is. omega (arith, asked.told (told is));
+      returned = λ is. omega (arith, asked.returned (returned is));
       turn = asked.turn;
       counted = asked.counted;
     }

@@ -4,20 +4,20 @@ use Rattle.std.proofs.lemmas.Bool.{cases_lt}
 use Rattle.std.proofs.lemmas.Option.{slice_get_cases, slice_get_within}
 use Rattle.t1_char.specs.Steps.{StepView}
 use Rattle.t1_char.specs.Turns.{limit_or_end, step_or_end, turn_at, counted_after}
-use Rattle.t1_char.specs.Laws.Turns.{EndsAreTold, LastAnswersAreToldAgain, LimitsAreTold, StepsAreTold, is_last_answer}
+use Rattle.t1_char.specs.Laws.Turns.{EndsAreReturned, LastAnswersAreReturnedAgain, LimitsAreReturned, StepsAreReturned, is_last_answer}
 use Rattle.t1_char.proofs.MachineSteps.{count_on, count_stays, turn_above, turn_below, turn_past}
 
-pub steps_are_told : StepsAreTold
-steps_are_told limit steps n step below is = (
+pub steps_are_returned : StepsAreReturned
+steps_are_returned limit steps n step below is = (
   turn_below limit steps n below ∙ ap (step_or_end n) is,
   sym (count_on limit steps n (omega (arith, below, slice_get_within steps n step is, length-take limit steps))),
 )
 
-pub ends_are_told : EndsAreTold
-ends_are_told limit steps few = turn_past limit steps (length steps) few (omega arith)
+pub ends_are_returned : EndsAreReturned
+ends_are_returned limit steps few = turn_past limit steps (length steps) few (omega arith)
 
-pub limits_are_told : LimitsAreTold
-limits_are_told limit steps step is = turn_above limit steps limit (omega arith) ∙ ap (limit_or_end limit) is
+pub limits_are_returned : LimitsAreReturned
+limits_are_returned limit steps step is = turn_above limit steps limit (omega arith) ∙ ap (limit_or_end limit) is
 
 -- After the first end or limit the count stays, and so does the result.
 stays : (limit : ℕ) (steps : List StepView) (n : ℕ) → length (take limit steps) < n
@@ -53,8 +53,8 @@ same_behind limit steps n at =
           turn_past limit steps (n + 1) few (omega (arith, all)) ∙ sym (turn_past limit steps n few all)
     ]
 
-pub last_answers_are_told_again : LastAnswersAreToldAgain
-last_answers_are_told_again limit steps n last =
+pub last_answers_are_returned_again : LastAnswersAreReturnedAgain
+last_answers_are_returned_again limit steps n last =
     elim (cases_lt (length (take limit steps)) n) [
       | inl past ↦ stays limit steps n past
       | inr near ↦

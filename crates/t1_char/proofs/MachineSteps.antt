@@ -229,20 +229,20 @@ asked_far_none what limit steps font n answer f answers =
     record {
       taken = 0;
       passed = refl;
-      told = λ is. refl;
+      returned = λ is. refl;
       turn = answers.turn ∙ ap (turn_at limit steps) same;
       counted = answers.count ∙ ap (counted_after limit steps) same;
     }
 
 pub asked_far : (what : Passing) (limit : ℕ) (steps : List StepView) (font : FontValue) (n before taken : ℕ) (way : Way) (f : Frames) (answer : Answer) (new : Frames)
-    → before ≡ n + taken → HasGoneFar (passage what limit font) steps n taken way f → (what ≡ passing.Told → before ≡ n)
+    → before ≡ n + taken → HasGoneFar (passage what limit font) steps n taken way f → (what ≡ passing.Returned → before ≡ n)
     → Answers limit steps font before answer new
     → IsAskedFarBehind what limit steps n (before + 1) (answer_view answer (step_value new.step)) way
-asked_far what limit steps font n before taken way f answer new is over told answers =
+asked_far what limit steps font n before taken way f answer new is over returned answers =
     record {
       taken = taken;
       passed = over.passed;
-      told = λ no. omega (arith, told no, is);
+      returned = λ no. omega (arith, returned no, is);
       turn = answers.turn ∙ ap (turn_at limit steps) is;
       counted = answers.count ∙ ap (counted_after limit steps) is;
     }

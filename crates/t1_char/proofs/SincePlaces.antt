@@ -58,15 +58,15 @@ any_by : (e : Test) (front ss : List StepView) (s : StepView) (x : Bool) → e f
 any_by e front ss s true is rest h = (0, here e front ss s is)
 any_by e front ss s false is rest h = (suc (rest h).0, later e front ss s (rest h).0 (rest h).1)
 
-any_told : (e : Test) (front ss : List StepView) → any_from e front ss ≡ true → (k : ℕ) × IsBehind e front ss k
-any_told e front [] h = absurd (not_both false refl h)
-any_told e front (s ∷ ss) h = any_by e front ss s (e front s) refl (λ r. any_told e (front ++ s ∷ []) ss r) h
+any_found : (e : Test) (front ss : List StepView) → any_from e front ss ≡ true → (k : ℕ) × IsBehind e front ss k
+any_found e front [] h = absurd (not_both false refl h)
+any_found e front (s ∷ ss) h = any_by e front ss s (e front s) refl (λ r. any_found e (front ++ s ∷ []) ss r) h
 
 none_later : (e : Test) (front ss : List StepView) → ((k : ℕ) → IsBehind e front ss k → ⊥) → any_from e front ss ≡ false
 none_later e front ss none = by_any (any_from e front ss) refl
   where
     by_any : (x : Bool) → any_from e front ss ≡ x → any_from e front ss ≡ false
-    by_any true is = let told = any_told e front ss is in absurd (none told.0 told.1)
+    by_any true is = let found = any_found e front ss is in absurd (none found.0 found.1)
     by_any false is = is
 
 -- In both directions, after some steps.
@@ -83,16 +83,16 @@ after_here : (b : Test) (front ss : List StepView) (s : StepView) → any_from b
 after_here b front ss s none zero lt at = absurd (omega arith)
 after_here b front ss s none (suc k) lt at = not_both _ none (any_at b (front ++ s ∷ []) ss k (sooner b front ss s k at))
 
-told_by : (a b : Test) (front ss : List StepView) (s : StepView) (x y : Bool) → a front s ≡ x → any_from b (front ++ s ∷ []) ss ≡ y
+found_by : (a b : Test) (front ss : List StepView) (s : StepView) (x y : Bool) → a front s ≡ x → any_from b (front ++ s ∷ []) ss ≡ y
     → (since_from a b (front ++ s ∷ []) ss ≡ true → IsSinceBehind a b (front ++ s ∷ []) ss) →
     ((x && not y) || since_from a b (front ++ s ∷ []) ss) ≡ true → IsSinceBehind a b front (s ∷ ss)
-told_by a b front ss s true false is none rest h = record { place = 0; begins = here a front ss s is; lasts = after_here b front ss s none }
-told_by a b front ss s true true is none rest h = in_rest a b front ss s (rest h)
-told_by a b front ss s false y is none rest h = in_rest a b front ss s (rest h)
+found_by a b front ss s true false is none rest h = record { place = 0; begins = here a front ss s is; lasts = after_here b front ss s none }
+found_by a b front ss s true true is none rest h = in_rest a b front ss s (rest h)
+found_by a b front ss s false y is none rest h = in_rest a b front ss s (rest h)
 
-told : (a b : Test) (front ss : List StepView) → since_from a b front ss ≡ true → IsSinceBehind a b front ss
-told a b front [] h = absurd (not_both false refl h)
-told a b front (s ∷ ss) h = told_by a b front ss s (a front s) (any_from b (front ++ s ∷ []) ss) refl refl (λ r. told a b (front ++ s ∷ []) ss r) h
+found : (a b : Test) (front ss : List StepView) → since_from a b front ss ≡ true → IsSinceBehind a b front ss
+found a b front [] h = absurd (not_both false refl h)
+found a b front (s ∷ ss) h = found_by a b front ss s (a front s) (any_from b (front ++ s ∷ []) ss) refl refl (λ r. found a b (front ++ s ∷ []) ss r) h
 
 shown : (a b : Test) (front ss : List StepView) (place : ℕ) → IsBehind a front ss place → ((k : ℕ) → place < k → IsBehind b front ss k → ⊥)
     → since_from a b front ss ≡ true
@@ -107,11 +107,11 @@ shown a b front (s ∷ ss) (suc place) begins lasts =
 pub since_is_by_places : SinceIsByPlaces
 since_is_by_places a b steps = (
   λ h.
-      let since_told = told a b [] steps h in
+      let since_found = found a b [] steps h in
       record {
-        place = since_told.place;
-        begins = record { step = since_told.begins.step; there = since_told.begins.there; such = since_told.begins.such };
-        lasts = λ k lt at. since_told.lasts k lt (record { step = at.step; there = at.there; such = at.such });
+        place = since_found.place;
+        begins = record { step = since_found.begins.step; there = since_found.begins.there; such = since_found.begins.such };
+        lasts = λ k lt at. since_found.lasts k lt (record { step = at.step; there = at.there; such = at.such });
       },
   λ is.
       shown a b [] steps is.place (record { step = is.begins.step; there = is.begins.there; such = is.begins.such })

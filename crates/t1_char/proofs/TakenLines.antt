@@ -97,7 +97,7 @@ led_effect passing.Moves command is old =
       | inl line ↦ line_effect command line old
       | inr move ↦ move_effect command move old
     ]
-led_effect passing.Told command is old = let no : false ≡ true = is in cc
+led_effect passing.Returned command is old = let no : false ≡ true = is in cc
 led_effect passing.Numbers command is old = let no : false ≡ true = is in cc
 
 -- It closes no path.
@@ -117,7 +117,7 @@ not_closed _ v drawn unclosed = unclosed
 line_led : (what : Passing) → leads what ≡ true → (command : Commands) → is_line_command command ≡ true → is_led what command ≡ true
 line_led passing.Lines on command is = is
 line_led passing.Moves on command is = ap (λ b. b || is_move_command command) is
-line_led passing.Told on command is = let no : false ≡ true = on in cc
+line_led passing.Returned on command is = let no : false ≡ true = on in cc
 line_led passing.Numbers on command is = let no : false ≡ true = on in cc
 
 line_follows : (command : Commands) (drawn : Drawn) → is_line_command command ≡ true → is_closed drawn ≡ false → can_follow command drawn ≡ true

@@ -1,7 +1,7 @@
 -- A call of a machine for a step, which may pass the numbers that come next.
 use Rattle.std.specs.Prelude.{◌≡◌, ℕ, ◌≤◌, List}
 use Rattle.t1_char.specs.declared.machine.Numbers.{Numbers}
-use Rattle.t1_char.specs.declared.machine.Numbers.TheVariants.{Told}
+use Rattle.t1_char.specs.declared.machine.Numbers.TheVariants.{Returned}
 use Rattle.t1_char.specs.Editions.{limit_of}
 use Rattle.t1_char.specs.Passing.{ArePassed}
 use Rattle.t1_char.specs.Steps.{StepView, steps_of}
@@ -13,7 +13,7 @@ pub record IsAskedBehind (numbers : Numbers) (limit : ℕ) (steps : List StepVie
   pub before : ℕ
   pub least : n ≤ before
   pub passed : ArePassed limit steps n before
-  pub told : numbers ≡ Told → before ≡ n
+  pub returned : numbers ≡ Returned → before ≡ n
   pub turn : answer ≡ turn_at limit steps before
   pub counted : calls ≡ counted_after limit steps before
 

@@ -1,5 +1,5 @@
 -- The editions of the rule book.
-use Rattle.std.specs.Prelude.{ℕ, ◌==◌, if◌then◌else◌, Bool, true, false, Option, Some, None}
+use Rattle.std.specs.Prelude.{ℕ, ◌==◌, if◌then◌else◌, Bool, true, false, Option, Some, None, List, codes}
 use Rattle.t1_char.specs.declared.edition.Edition.{Edition}
 use Rattle.t1_char.specs.declared.edition.Edition.TheVariants.{One, Three, Two}
 
@@ -21,11 +21,16 @@ has_later_rules One = false
 has_later_rules Two = false
 has_later_rules Three = true
 
--- The number of an edition, and the edition of a number.
+-- The number of an edition, the same as it is written, and the edition of a number.
 abbrev pub number_of_edition : Edition → ℕ
 number_of_edition One = 1
 number_of_edition Two = 2
 number_of_edition Three = 3
+
+abbrev pub digit_of : Edition → List ℕ
+digit_of One = codes "1"
+digit_of Two = codes "2"
+digit_of Three = codes "3"
 
 abbrev pub edition_numbered : ℕ → Option Edition
 edition_numbered n = if n == 1 then Some One else (if n == 2 then Some Two else (if n == 3 then Some Three else None))

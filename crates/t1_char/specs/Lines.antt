@@ -139,7 +139,7 @@ PassesSteps what limit steps n (suc k) way =
 pub record IsAskedFarBehind (what : Passing) (limit : ℕ) (steps : List StepView) (n calls : ℕ) (answer : TurnValue) (way : Way) : Type 0 where
   pub taken : ℕ
   pub passed : PassesSteps what limit steps n taken way
-  pub told : what ≡ passing.Told → taken ≡ 0
+  pub returned : what ≡ passing.Returned → taken ≡ 0
   pub turn : answer ≡ turn_at limit steps (n + taken)
   pub counted : calls ≡ counted_after limit steps (n + taken)
 

@@ -35,8 +35,8 @@ abbrev pub answered : ℕ → List StepView → ℕ
 answered limit steps = length (take limit steps)
 
 -- The end or the limit was returned, by one of n calls.
-abbrev pub is_told : ℕ → List StepView → ℕ → Bool
-is_told limit steps n = nat_lt (answered limit steps) n
+abbrev pub is_returned : ℕ → List StepView → ℕ → Bool
+is_returned limit steps n = nat_lt (answered limit steps) n
 
 -- What the call after n of them returns: a step, where one is left; then the limit or the end, again and again.
 abbrev pub turn_at : ℕ → List StepView → ℕ → TurnValue
@@ -45,4 +45,4 @@ turn_at limit steps n =
 
 -- How many calls there were after one more, up to the first that returned the end or the limit.
 abbrev pub counted_after : ℕ → List StepView → ℕ → ℕ
-counted_after limit steps n = if is_told limit steps n then n else n + 1
+counted_after limit steps n = if is_returned limit steps n then n else n + 1

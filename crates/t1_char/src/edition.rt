@@ -2,7 +2,7 @@
 
 ghost use Rattle.std.specs.Prelude.{◌≡◌, ◌≤◌};
 ghost use Rattle.t1_char.specs.declared.edition.Edition.TheVariants.{Two};
-ghost use Rattle.t1_char.specs.Editions.{edition_numbered, has_later_rules, knows_one_edge, limit_of};
+ghost use Rattle.t1_char.specs.Editions.{digit_of, edition_numbered, has_later_rules, knows_one_edge, limit_of};
 
 /// An edition of the rule book. The second looks at ten times as many steps of a glyph, and has a word of
 /// its own for stems of one edge. The third is the second with the rules after number 70.
@@ -23,6 +23,17 @@ impl Edition {
             2 => Some(Edition::Two),
             3 => Some(Edition::Three),
             _ => None,
+        }
+    }
+
+    /// Its number, as it is written.
+    pub fn digit(self) -> &'static str
+        ensures { result.now ≡ digit_of self }
+    {
+        match self {
+            Edition::One => "1",
+            Edition::Two => "2",
+            Edition::Three => "3",
         }
     }
 

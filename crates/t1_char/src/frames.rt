@@ -15,7 +15,7 @@ ghost use Rattle.t1_char.specs.Stacks.{most_numbers};
 ghost use Rattle.t1_char.specs.Private.Frames.{IsReady, state_in, step_here, steps_behind, steps_from};
 ghost use Rattle.t1_char.specs.declared.edition.Edition.TheVariants.{Two};
 ghost use Rattle.t1_char.specs.Editions.{limit_of};
-ghost use Rattle.t1_char.specs.declared.lines.Passing.TheVariants.{Moves, Told};
+ghost use Rattle.t1_char.specs.declared.lines.Passing.TheVariants.{Moves, Returned};
 
 use crate::action::Action;
 use crate::charstrings::{code_at, cursor_at};
@@ -177,7 +177,7 @@ impl<'a> Frames<'a> {
         requires few { limit ≤ limit_of Two }
         requires even { length self.old.step.path.items ≡ length self.old.callers.items }
         ensures over { Advances (passage passing limit font.now) counted self.old result self.new }
-        ensures told { passing ≡ Told → result.before ≡ counted }
+        ensures returned { passing ≡ Returned → result.before ≡ counted }
         ensures near { result.before ≤ limit }
     {
         let gone = self.go_over(passing, font, counted, limit);
@@ -193,7 +193,7 @@ impl<'a> Frames<'a> {
         ensures over { ReadsToken (passage passing limit font.now) counted self.old result self.new }
         ensures path { self.new.step.path.items ≡ self.old.step.path.items }
         ensures callers { self.new.callers.items ≡ self.old.callers.items }
-        ensures told { passing ≡ Told → result.before ≡ counted }
+        ensures returned { passing ≡ Returned → result.before ≡ counted }
         ensures near { result.before ≤ limit }
     {
         if has_room(counted, limit) && is_any(passing) {

@@ -6,7 +6,7 @@ ghost use Rattle.t1_char.specs.Laws.Frames.{CallsGoIn, EndsStop, GlyphsBegin, Re
 ghost use Rattle.t1_char.specs.Laws.Numbers.{NoQuotientIsZero, QuotientsAreCut, QuotientsAreKept};
 ghost use Rattle.t1_char.specs.Laws.Since.{AfterLastGoesOn, AnyGoesOn, LastGoesOn, SinceGoesOn, SinceIsByPlaces};
 ghost use Rattle.t1_char.specs.Laws.Steps.{CalledSubrsAreFound, FoundSubrsAreCalled, GlyphsAreFinished, LastsAreByWhatFollows, NothingFollows, PlainGlyphsGoOn, StepsAreBounded, StepsGoOn};
-ghost use Rattle.t1_char.specs.Laws.Turns.{EndsAreTold, LastAnswersAreToldAgain, LimitsAreTold, StepsAreTold};
+ghost use Rattle.t1_char.specs.Laws.Turns.{EndsAreReturned, LastAnswersAreReturnedAgain, LimitsAreReturned, StepsAreReturned};
 ghost use Rattle.t1_char.specs.Laws.Written.{EachNumberIsWritten, EncipheredIsRead, ReadIsWritten, WrittenIsRead};
 
 /// Numbers are written in three forms, and each number of 32 bits in one of them. What is written from numbers,
@@ -78,12 +78,12 @@ pub fn steps_tell_calls_and_ends()
 
 /// A machine returns the steps up to the limit one after another, then the end, or the first step past the limit as
 /// the limit. Later calls return the same again, and its count stays.
-#[tactic(auto, using(crate::proofs::Answering::steps_are_told, crate::proofs::Answering::ends_are_told, crate::proofs::Answering::limits_are_told, crate::proofs::Answering::last_answers_are_told_again))]
+#[tactic(auto, using(crate::proofs::Answering::steps_are_returned, crate::proofs::Answering::ends_are_returned, crate::proofs::Answering::limits_are_returned, crate::proofs::Answering::last_answers_are_returned_again))]
 pub fn machines_answer_in_order()
-    ensures steps { StepsAreTold }
-    ensures end { EndsAreTold }
-    ensures limit { LimitsAreTold }
-    ensures again { LastAnswersAreToldAgain }
+    ensures steps { StepsAreReturned }
+    ensures end { EndsAreReturned }
+    ensures limit { LimitsAreReturned }
+    ensures again { LastAnswersAreReturnedAgain }
 {}
 
 /// div returns the true quotient, cut towards zero and kept within -32000 to 32000, and 0 where the divisor is 0.
@@ -97,7 +97,7 @@ pub fn quotients_are_cut_towards_zero()
 /// A charstring is read as short exactly where it has fewer bytes than lenIV says. It is read as cut exactly where its
 /// bytes break off inside a token, which is then its last.
 #[tactic(auto, using(crate::proofs::CutTokens::too_few_are_short, crate::proofs::CutTokens::enough_are_long, crate::proofs::CutTokens::plain_are_long, crate::proofs::CutTokens::broken_off_are_cut, crate::proofs::CutTokens::cuts_are_broken_off))]
-pub fn short_and_cut_charstrings_are_told()
+pub fn short_and_cut_charstrings_are_returned()
     ensures short { TooFewAreShort }
     ensures long { EnoughAreLong }
     ensures plain { PlainAreLong }

@@ -3,7 +3,7 @@
 ghost use Rattle.std.specs.Prelude.{◌≡◌, ◌+ℤ◌, ◌+◌, ◌<◌, ◌≤◌, ℕ, List, false, true, IfSome};
 ghost use Rattle.std.specs.List.{list_any};
 ghost use Rattle.t1_char.specs.declared.lines.Drawn.TheVariants.{Nothing, Open};
-ghost use Rattle.t1_char.specs.declared.lines.Passing.TheVariants.{Told, Moves};
+ghost use Rattle.t1_char.specs.declared.lines.Passing.TheVariants.{Returned, Moves};
 ghost use Rattle.t1_char.specs.Arguments.{argument};
 ghost use Rattle.t1_char.specs.Tokens.{more_of, token_at};
 ghost use Rattle.t1_char.specs.Private.Taking.{IsLedBy};
@@ -16,7 +16,7 @@ use crate::command::Command;
 #[derive(Clone, Copy)]
 pub enum Passing {
     /// None: the machine returns at each.
-    Told,
+    Returned,
     /// The machine passes numbers that the stack has room for.
     Numbers,
     /// And lines and curves with exactly their arguments, none past 32000, and a closepath right after these.
@@ -44,9 +44,9 @@ pub(crate) fn is_moves(passing: Passing) -> bool
 /// Whether steps are passed.
 #[inline(always)]
 pub(crate) fn is_any(passing: Passing) -> bool
-    ensures { result ≡ true → passing ≡ Told → ⊥ }
+    ensures { result ≡ true → passing ≡ Returned → ⊥ }
 {
-    !matches!(passing, Passing::Told)
+    !matches!(passing, Passing::Returned)
 }
 
 /// What steps draw of a path.

@@ -4,7 +4,7 @@ ghost use Rattle.std.specs.Prelude.{◌≡◌, ◌<◌, ◌≤◌, ◌+◌, leng
 ghost use Rattle.t1_char.specs.Editions.{limit_of};
 ghost use Rattle.t1_char.specs.Asking.{IsAsked};
 ghost use Rattle.t1_char.specs.Lines.{IsAskedFar, leads};
-ghost use Rattle.t1_char.specs.declared.machine.Numbers.TheVariants.{Told};
+ghost use Rattle.t1_char.specs.declared.machine.Numbers.TheVariants.{Returned};
 ghost use Rattle.t1_char.specs.declared.lines.Passing.TheVariants as passing;
 ghost use Rattle.std.specs.Prelude.{false};
 ghost use Rattle.t1_char.specs.Steps.{steps_of};
@@ -64,7 +64,7 @@ impl Answer {
 #[derive(Clone, Copy)]
 pub enum Numbers {
     /// Each is returned as a step.
-    Told,
+    Returned,
     /// The machine passes them, and each counts as a requested step.
     Passed,
 }
@@ -100,10 +100,10 @@ pub struct Machine<'a> {
 #[inline(always)]
 fn passing_of(numbers: Numbers) -> Passing
     ensures leads { leads result ≡ false }
-    ensures told { numbers ≡ Told → result ≡ passing.Told }
+    ensures returned { numbers ≡ Returned → result ≡ passing.Returned }
 {
     match numbers {
-        Numbers::Told => Passing::Told,
+        Numbers::Returned => Passing::Returned,
         Numbers::Passed => Passing::Numbers,
     }
 }
@@ -195,7 +195,7 @@ impl<'a> Machine<'a> {
         ensures glyph { self.new.glyph ≡ self.old.glyph }
         ensures edition { self.new.edition ≡ self.old.edition }
     {
-        self.go_on(Numbers::Told)
+        self.go_on(Numbers::Returned)
     }
 
     /// Executes the step that was returned last, passes the numbers after it where it may, and reads the next step, up to

@@ -5,7 +5,7 @@ use Rattle.t1_scan.specs.Numbers.{scaled, value_of, magnitude_of, decimal_of, ra
 use Rattle.t1_scan.specs.Spelling.{Plain, decimal, minus, meant}
 use Rattle.t1_font.specs.declared.key.Key.TheVariants.{LenIv, BlueFuzz}
 use Rattle.t1_scan.specs.Texts.{BeginsWith}
-use Rattle.t1_font.specs.declared.refusal.Refusal.TheVariants.{BadSubrs, BadCharStrings, PastLimit}
+use Rattle.t1_font.specs.declared.unread.Unread.TheVariants.{BadSubrs, BadCharStrings, PastLimit}
 use Rattle.t1_font.specs.Fonts.{Marks}
 use Rattle.t1_font.specs.PrivateText.{private_of}
 use Rattle.t1_font.specs.Keys.{private_key, private_note}

@@ -13,8 +13,8 @@ use Rattle.t1_font.specs.declared.key.Key.{Key}
 use Rattle.t1_font.specs.declared.key.Key.TheVariants.{LenIv}
 use Rattle.t1_font.specs.declared.mode.PrivateMode.{PrivateMode}
 use Rattle.t1_font.specs.declared.mode.PrivateMode.TheVariants.{Outside, Subrs, Glyphs}
-use Rattle.t1_font.specs.declared.refusal.Refusal.{Refusal}
-use Rattle.t1_font.specs.declared.refusal.Refusal.TheVariants.{Unclosed, BadSubrs, BadCharStrings, BadLenIv, PastLimit}
+use Rattle.t1_font.specs.declared.unread.Unread.{Unread}
+use Rattle.t1_font.specs.declared.unread.Unread.TheVariants.{Unclosed, BadSubrs, BadCharStrings, BadLenIv, PastLimit}
 use Rattle.t1_font.specs.Keys.{private_key, same_name, all_notes}
 use Rattle.t1_font.specs.Fonts.{Stated, Marks, FontValue, value_of, glyph_of, size_of, firsts}
 use Rattle.t1_font.specs.Tokens.{token_at, wanted, token_ahead, whole, natural, is_word_kind, past_word, raw_of, charstring_at}
@@ -35,11 +35,11 @@ use Rattle.t1_font.proofs.SubrsRead as subrs_read
 use Rattle.t1_font.proofs.WrittenRead.{wanted_is, ahead_is, last_token, parts, whole_is, natural_is, past_word_is, is_other}
 
 -- No token is left: where one is needed, the refusal is f of the one for the end.
-record Lacks (f : Refusal → Refusal) (s : List ℕ) : Type 0 where
-  wants : (ended : Refusal) → wanted ended s ≡ Err (f ended)
+record Lacks (f : Unread → Unread) (s : List ℕ) : Type 0 where
+  wants : (ended : Unread) → wanted ended s ≡ Err (f ended)
   ahead : token_ahead s ≡ None
 
-abbrev wanted_of : Refusal → Result (Option Found) ScanError → Result Found Refusal
+abbrev wanted_of : Unread → Result (Option Found) ScanError → Result Found Unread
 wanted_of ended r = elim r [
   | Err _ ↦ Err Unclosed
   | Ok found ↦ elim found [ None ↦ Err ended | Some t ↦ Ok t ]
@@ -64,27 +64,27 @@ lacks_unclosed s h =
     }
 
 -- A number that isn't whole, and one past its limit.
-abbrev natural_by : Refusal → ℕ → Option ℕ → Result ℕ Refusal
+abbrev natural_by : Unread → ℕ → Option ℕ → Result ℕ Unread
 natural_by bad limit r = elim r [ None ↦ Err bad | Some n ↦ if nat_lt limit n then Err PastLimit else Ok n ]
 
-natural_none : (bad : Refusal) (limit : ℕ) (kind : Kind) → whole kind ≡ None → natural bad limit kind ≡ Err bad
+natural_none : (bad : Unread) (limit : ℕ) (kind : Kind) → whole kind ≡ None → natural bad limit kind ≡ Err bad
 unfolding natural
 natural_none bad limit kind h = ap (natural_by bad limit) h
 
-natural_past : (bad : Refusal) (limit n : ℕ) (kind : Kind) → whole kind ≡ Some n → limit < n → natural bad limit kind ≡ Err PastLimit
+natural_past : (bad : Unread) (limit n : ℕ) (kind : Kind) → whole kind ≡ Some n → limit < n → natural bad limit kind ≡ Err PastLimit
 unfolding natural
 natural_past bad limit n kind h long =
     let past : nat_lt limit n ≡ true = grind (arith, nat_tests) in
     ap (natural_by bad limit) h ∙ rw past refl
 
 -- What is refused of an entry's charstring.
-too_long : (bad : Refusal) (s : List ℕ) (t : Plain) (left : List ℕ) (len : ℕ) → BeginsWith s t left → IsWhole t len → 65535 < len
+too_long : (bad : Unread) (s : List ℕ) (t : Plain) (left : List ℕ) (len : ℕ) → BeginsWith s t left → IsWhole t len → 65535 < len
     → charstring_at bad s ≡ Err PastLimit
 unfolding charstring_at
 too_long bad s t left len h is long =
     rw (wanted_is bad s t left h, natural_past bad 65535 len (meant t) (whole_is t len is) long) refl
 
-cut_off : (bad : Refusal) (s : List ℕ) (count : Plain) (mid : List ℕ) (w : Plain) (left : List ℕ) (len : ℕ) → BeginsWith s count mid → IsWhole count len
+cut_off : (bad : Unread) (s : List ℕ) (count : Plain) (mid : List ℕ) (w : Plain) (left : List ℕ) (len : ℕ) → BeginsWith s count mid → IsWhole count len
     → len ≤ 65535 → BeginsWith mid w left → meant w ≡ Word → length left ≤ len → charstring_at bad s ≡ Err bad
 unfolding charstring_at raw_of
 cut_off bad s count mid w left len h is small k is_word short =
@@ -97,28 +97,28 @@ unfolding subr_at
 bad_number t s none = rw (natural_none BadSubrs 65534 (meant t) none) refl
 
 -- What is refused of an entry, by what is refused of its charstring.
-subr_fails : (v : FontValue) (n : ℕ) (number : Plain) (s mid left : List ℕ) (e : Refusal) → IsWhole number n → n ≤ 65534 → BeginsWith s (word (codes "dup")) mid
+subr_fails : (v : FontValue) (n : ℕ) (number : Plain) (s mid left : List ℕ) (e : Unread) → IsWhole number n → n ≤ 65534 → BeginsWith s (word (codes "dup")) mid
     → BeginsWith mid number left → charstring_at BadSubrs left ≡ Err e → private_turn v Subrs s ≡ Err e
 unfolding subr_at
 subr_fails v n number s mid left e is small h k fails =
     subrs_read.dup_among v s mid h ∙ subrs_read.number_is n number mid left is k
     ∙ rw (natural_is BadSubrs 65534 n number is small, fails) refl
 
-glyph_fails : (v : FontValue) (run s left : List ℕ) (e : Refusal) → HasRoom v run → BeginsWith s (name run) left → charstring_at BadCharStrings left ≡ Err e
+glyph_fails : (v : FontValue) (run s left : List ℕ) (e : Unread) → HasRoom v run → BeginsWith s (name run) left → charstring_at BadCharStrings left ≡ Err e
     → private_turn v Glyphs s ≡ Err e
 unfolding glyph_turn
 glyph_fails v run s left e room h fails = glyphs_read.name_among_glyphs v s run left h ∙ rw (room, fails) refl
 
-module _ (f : Refusal → Refusal) (left : List ℕ) (lacks : Lacks f left) where
+module _ (f : Unread → Unread) (left : List ℕ) (lacks : Lacks f left) where
   turn_lacks : (v : FontValue) (mode : PrivateMode) → private_turn v mode left ≡ Err (f BadCharStrings)
   unfolding private_turn_by
   turn_lacks v mode = rw (lacks.wants BadCharStrings) refl
 
-  word_lacks : (bad : Refusal) (bytes : List ℕ) → past_word bad bytes left ≡ Err (f bad)
+  word_lacks : (bad : Unread) (bytes : List ℕ) → past_word bad bytes left ≡ Err (f bad)
   unfolding past_word
   word_lacks bad bytes = rw (lacks.wants bad) refl
 
-  charstring_lacks : (bad : Refusal) (c : CharstringStart) (s : List ℕ) → IsCharstringStart c → IsWritten s (charstring_start_pieces c) left
+  charstring_lacks : (bad : Unread) (c : CharstringStart) (s : List ℕ) → IsCharstringStart c → IsWritten s (charstring_start_pieces c) left
       → charstring_at bad s ≡ Err (f bad)
   unfolding charstring_at
   charstring_lacks bad no_length s is h = rw (h, lacks.wants bad) refl
@@ -198,7 +198,7 @@ key_of v k run s is =
     ∙ ap (λ o. private_value all_notes o (47 ∷ run) s) is
 
 module _ (marks : Marks) where
-  fails : (before : List Stated) (mode : PrivateMode) (s : List ℕ) (e : Refusal) → private_turn (value_of marks before) mode s ≡ Err e
+  fails : (before : List Stated) (mode : PrivateMode) (s : List ℕ) (e : Unread) → private_turn (value_of marks before) mode s ≡ Err e
       → read marks before mode s ≡ Err e
   fails before mode s e h = refused private_turn BadCharStrings private_shortens marks before mode s e h
 
@@ -279,13 +279,13 @@ module _ (marks : Marks) where
             ∙ glyphs_read.items_read marks items first.after behind left are fits w;
       }
 
-  key_lacks : (f : Refusal → Refusal) (left : List ℕ) (lacks : Lacks f left) (still : Bool) (v : FontValue) (k : KeyStart) (s : List ℕ) → IsKeyStart k
+  key_lacks : (f : Unread → Unread) (left : List ℕ) (lacks : Lacks f left) (still : Bool) (v : FontValue) (k : KeyStart) (s : List ℕ) → IsKeyStart k
       → IsWritten s (key_start_pieces k) left → private_turn v (mode_of still) s ≡ Err (f (missing_value k))
   key_lacks f left lacks still v no_key s is h = rw h (turn_lacks f left lacks v (mode_of still))
   key_lacks f left lacks still v (key_name k run) s is h =
       name_is still v s run left (last_token s (name run) left h) ∙ key_of v k run left is ∙ value_lacks f left lacks k run
 
-  subr_lacks : (f : Refusal → Refusal) (left : List ℕ) (lacks : Lacks f left) (k : SubrStart) (before : List Stated) (s : List ℕ) → IsSubrStart k
+  subr_lacks : (f : Unread → Unread) (left : List ℕ) (lacks : Lacks f left) (k : SubrStart) (before : List Stated) (s : List ℕ) → IsSubrStart k
       → IsWritten s (subr_start_pieces k) left → read marks before Subrs s ≡ Err (f (missing_subr k))
   unfolding dup_turn
   subr_lacks f left lacks no_subr before s is h = fails before Subrs s (f BadCharStrings) (rw h (turn_lacks f left lacks (value_of marks before) Subrs))
@@ -297,7 +297,7 @@ module _ (marks : Marks) where
       fails before Subrs s (f BadSubrs) (subr_fails (value_of marks before) n number s h.0 h.2.0 (f BadSubrs) is.0 is.1 h.1 h.2.1
       (charstring_lacks f left lacks BadSubrs c h.2.0 is.2 h.2.2))
 
-  glyph_lacks : (f : Refusal → Refusal) (left : List ℕ) (lacks : Lacks f left) (k : GlyphStart) (before : List Stated) (s : List ℕ) → IsGlyphStart k
+  glyph_lacks : (f : Unread → Unread) (left : List ℕ) (lacks : Lacks f left) (k : GlyphStart) (before : List Stated) (s : List ℕ) → IsGlyphStart k
       → length (firsts same_name (names_of before ++ glyph_start_names k)) ≤ 65535 → IsWritten s (glyph_start_pieces k) left
       → private_turn (value_of marks before) Glyphs s ≡ Err (f BadCharStrings)
   glyph_lacks f left lacks no_glyph before s is few h = rw h (turn_lacks f left lacks (value_of marks before) Glyphs)
@@ -305,7 +305,7 @@ module _ (marks : Marks) where
       glyph_fails (value_of marks before) run s h.0 (f BadCharStrings) (has_room marks before run [] few) h.1
       (charstring_lacks f left lacks BadCharStrings c h.0 is h.2)
 
-  lacking : (f : Refusal → Refusal) (b : Begun) (before : List Stated) (s left : List ℕ) → Lacks f left → AreBegun b → StatesNoCharstring before
+  lacking : (f : Unread → Unread) (b : Begun) (before : List Stated) (s left : List ℕ) → Lacks f left → AreBegun b → StatesNoCharstring before
       → IsWritten s (begun_pieces b) left → read marks before Outside s ≡ Err (f (missing b))
   lacking f (in_keys o k) before s left lacks are none h =
       let a = parts s (opening_pieces o) (key_start_pieces k) left h in
@@ -348,7 +348,7 @@ unclosed_token marks before b s left none is broken = lacking marks (λ _. Unclo
 -- An entry whose charstring is refused.
 module _ (marks : Marks) (before : List Stated) (none : StatesNoCharstring before) where
   subr_refused : (front : List PrivateItem) (n : ℕ) (count : Plain) (items : List SubrItem) (i : ℕ) (number : Plain) (c : CharstringStart) (s left : List ℕ)
-      (e : Refusal) → IsBegun (among_subrs front n count items (subr_number i number c)) s left
+      (e : Unread) → IsBegun (among_subrs front n count items (subr_number i number c)) s left
       → ((mid : List ℕ) → IsWritten mid (charstring_start_pieces c) left → charstring_at BadSubrs mid ≡ Err e) → private_of marks before s ≡ Err e
   unfolding private_of_by
   subr_refused front n count items i number c s left e is h =
@@ -360,7 +360,7 @@ module _ (marks : Marks) (before : List Stated) (none : StatesNoCharstring befor
       first.is ∙ fails marks first.after Subrs b.left e
       (subr_fails (value_of marks first.after) i number b.left w.0 w.2.0 e good.0 good.1 w.1 w.2.1 (h w.2.0 w.2.2))
 
-  glyph_refused : (o : Opening) (count : Plain) (items : List GlyphItem) (run : List ℕ) (c : CharstringStart) (s left : List ℕ) (e : Refusal)
+  glyph_refused : (o : Opening) (count : Plain) (items : List GlyphItem) (run : List ℕ) (c : CharstringStart) (s left : List ℕ) (e : Unread)
       → IsBegun (among_glyphs o count items (glyph_name run c)) s left
       → ((mid : List ℕ) → IsWritten mid (charstring_start_pieces c) left → charstring_at BadCharStrings mid ≡ Err e) → private_of marks before s ≡ Err e
   unfolding private_of_by

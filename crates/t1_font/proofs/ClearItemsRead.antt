@@ -9,7 +9,7 @@ use Rattle.t1_font.specs.declared.encoding.Encoding.TheVariants.{Standard, Custo
 use Rattle.t1_font.specs.declared.key.Key.{Key}
 use Rattle.t1_font.specs.declared.mode.ClearMode.{ClearMode}
 use Rattle.t1_font.specs.declared.mode.ClearMode.TheVariants.{Outside, Codes}
-use Rattle.t1_font.specs.declared.refusal.Refusal.TheVariants.{NoEexec}
+use Rattle.t1_font.specs.declared.unread.Unread.TheVariants.{NoEexec}
 use Rattle.t1_font.specs.Keys.{all_notes, clear_key, clear_note, same_name}
 use Rattle.t1_font.specs.Fonts.{Stated, Marks, FontValue, value_of, plain, encoding}
 use Rattle.t1_font.specs.TextTurns.{TextTurn, over, goes, stated_in}

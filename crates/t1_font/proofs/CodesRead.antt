@@ -5,8 +5,8 @@ use Rattle.t1_scan.specs.Spelling.{Plain, name, word, spelled, meant}
 use Rattle.t1_scan.specs.Texts.{BeginsWith}
 use Rattle.t1_font.specs.declared.mode.ClearMode.{ClearMode}
 use Rattle.t1_font.specs.declared.mode.ClearMode.TheVariants.{Outside, Codes}
-use Rattle.t1_font.specs.declared.refusal.Refusal.{Refusal}
-use Rattle.t1_font.specs.declared.refusal.Refusal.TheVariants.{NoEexec}
+use Rattle.t1_font.specs.declared.unread.Unread.{Unread}
+use Rattle.t1_font.specs.declared.unread.Unread.TheVariants.{NoEexec}
 use Rattle.t1_font.specs.Tokens.{is_name_kind, is_number_kind}
 use Rattle.t1_font.specs.Fonts.{Stated, Marks, FontValue, value_of, code, bad_code}
 use Rattle.t1_font.specs.TextTurns.{TextTurn, TextRead, goes, with_one, stated_in}
@@ -128,7 +128,7 @@ unfolding code_turn
 lone_is items s left none w = ap (found_or s) (lone_at items s left none w)
 
 module _ (marks : Marks) where
-  abbrev read : List Stated → ClearMode → List ℕ → Result TextRead Refusal
+  abbrev read : List Stated → ClearMode → List ℕ → Result TextRead Unread
   read before mode s = stated_in clear_turn NoEexec marks before mode s
 
   on : (before : List Stated) (s : List ℕ) (e : Option Stated) (next : ClearMode) (left : List ℕ) → clear_turn (value_of marks before) Codes s

@@ -1,21 +1,21 @@
 -- What holds of what is read next, by what holds of what was read first.
 use Rattle.std.proofs.Common.{Bool, true, false, cond, Option, Some, None, Result, Ok, Err, IfOk, IfSome}
-use Rattle.t1_font.specs.declared.refusal.Refusal.{Refusal}
+use Rattle.t1_font.specs.declared.unread.Unread.{Unread}
 use Rattle.t1_font.specs.Readings.{◌>>=◌}
 use Rattle.t1_font.specs.Tokens.{◌>?◌}
 
 -- What follows something that was read.
-pub bind : {A B : Type 0} (P : A → Type 0) (Q : B → Type 0) (r : Result A Refusal) (f : A → Result B Refusal) → IfOk r P → ((x : A) → P x → IfOk (f x) Q)
+pub bind : {A B : Type 0} (P : A → Type 0) (Q : B → Type 0) (r : Result A Unread) (f : A → Result B Unread) → IfOk r P → ((x : A) → P x → IfOk (f x) Q)
     → IfOk (r >>= f) Q
 bind P Q (Ok x) f h k = k x h
 bind P Q (Err e) f h k = tt
 
 -- What follows something that was read, whatever it is.
-pub next : {A B : Type 0} (Q : B → Type 0) (r : Result A Refusal) (f : A → Result B Refusal) → ((x : A) → IfOk (f x) Q) → IfOk (r >>= f) Q
+pub next : {A B : Type 0} (Q : B → Type 0) (r : Result A Unread) (f : A → Result B Unread) → ((x : A) → IfOk (f x) Q) → IfOk (r >>= f) Q
 next Q (Ok x) f k = k x
 next Q (Err e) f k = tt
 
-pub either : {A : Type 0} (Q : A → Type 0) (b : Bool) (x y : Result A Refusal) → IfOk x Q → IfOk y Q → IfOk (cond b x y) Q
+pub either : {A : Type 0} (Q : A → Type 0) (b : Bool) (x y : Result A Unread) → IfOk x Q → IfOk y Q → IfOk (cond b x y) Q
 either Q true x y h k = h
 either Q false x y h k = k
 
@@ -43,5 +43,5 @@ pub found_or : {A : Type 0} (Q : A → Type 0) (r : Option A) (y : A) → IfSome
 found_or Q (Some x) y h k = h
 found_or Q None y h k = k
 
-pub ok_is : {A : Type 0} (Q : A → Type 0) (x : A) → Q x → IfOk {E = Refusal} (Ok x) Q
+pub ok_is : {A : Type 0} (Q : A → Type 0) (x : A) → Q x → IfOk {E = Unread} (Ok x) Q
 ok_is Q x h = h

@@ -3,7 +3,7 @@ use Rattle.std.proofs.Common.{◌≡◌, ℕ, Result, Ok, List, [], ◌∷◌, �
 use Rattle.std.proofs.lemmas.Grind.{flat_map-append}
 use Rattle.t1_scan.specs.Texts.{lexeme_of}
 use Rattle.t1_font.specs.declared.encoding.Encoding.TheVariants.{Standard}
-use Rattle.t1_font.specs.declared.refusal.Refusal.{Refusal}
+use Rattle.t1_font.specs.declared.unread.Unread.{Unread}
 use Rattle.t1_font.specs.Fonts.{Stated, Marks, value_of, plain, encoding, code, size, subr, glyph, size_of, glyph_of}
 use Rattle.t1_font.specs.TextTurns.{TextRead}
 use Rattle.t1_font.specs.ClearText.{clear_of}
@@ -16,7 +16,7 @@ use Rattle.t1_font.proofs.ClearItemsRead.{reads_usual_clear}
 use Rattle.t1_font.proofs.PrivateRead.{reads_usual_private}
 
 -- The value of what a text is read as.
-value_is : (marks : Marks) (r : Result TextRead Refusal) (es : List Stated) (rest : List ℕ) → r ≡ Ok (record { stated = es; rest = rest })
+value_is : (marks : Marks) (r : Result TextRead Unread) (es : List Stated) (rest : List ℕ) → r ≡ Ok (record { stated = es; rest = rest })
     → font_value_of marks r ≡ Ok (value_of marks es)
 value_is marks r es rest h = ap (font_value_of marks) h
 

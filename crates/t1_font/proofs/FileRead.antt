@@ -7,25 +7,25 @@ use Rattle.t1_seal.specs.SealError.{is_memory as is_seal_memory}
 use Rattle.t1_seal.specs.Eexec.{private_text_of}
 use Rattle.t1_seal.specs.Segments.{JoinedText}
 use Rattle.t1_font.specs.ClearText.{clear_of}
-use Rattle.t1_font.specs.FontFiles.{IsUnread, as_unread, marks_in, of_refusal, of_seal_error, private_next, section_next, text_in}
+use Rattle.t1_font.specs.FontFiles.{IsUnread, marks_in, of_seal_error, private_next, section_next, text_in}
 use Rattle.t1_font.specs.Fonts.{Stated, Marks, FontValue, value_of}
 use Rattle.t1_font.specs.Texts.{ClearValue, clear_value_of, clear_read, font_read}
 use Rattle.t1_font.specs.TextTurns.{TextRead}
-use Rattle.t1_font.specs.declared.refusal.Refusal.{Refusal}
-use Rattle.t1_font.specs.declared.refusal.Refusal.TheVariants.{Memory}
+use Rattle.t1_font.specs.declared.unread.Unread.{Unread}
+use Rattle.t1_font.specs.declared.unread.Unread.TheVariants.{Memory}
 use Rattle.t1_font.specs.Readings.{is_memory}
 
 -- The clear text that was read.
-record IsClearOf (marks : Marks) (read : Result TextRead Refusal) (clear : ClearValue) : Type 0 where
+record IsClearOf (marks : Marks) (read : Result TextRead Unread) (clear : ClearValue) : Type 0 where
   text : TextRead
   is : read ≡ Ok text
   font : clear.font ≡ value_of marks text.stated
 
-cleared : (marks : Marks) (s : List ℕ) (read : Result TextRead Refusal) (clear : ClearValue) → clear_value_of marks s read ≡ Ok clear
+cleared : (marks : Marks) (s : List ℕ) (read : Result TextRead Unread) (clear : ClearValue) → clear_value_of marks s read ≡ Ok clear
     → IsClearOf marks read clear
 cleared marks s (Err e) clear h = cc
 cleared marks s (Ok text) clear h =
-    let same = ap (λ (r : Result ClearValue Refusal). elim r [ Ok c ↦ c.font | Err e ↦ value_of marks text.stated ]) h in
+    let same = ap (λ (r : Result ClearValue Unread). elim r [ Ok c ↦ c.font | Err e ↦ value_of marks text.stated ]) h in
     record { text = text; is = refl; font = sym same }
 
 -- What comes after the clear text: the encrypted section.
@@ -54,15 +54,15 @@ pub font_found : (joined : JoinedText) (clear : ClearValue) → clear_read (mark
     → text_in joined ≡ Ok font
 font_found joined clear is behind text font opened h =
     let section = at_section joined clear is behind in
-    section.is ∙ ap (private_next (marks_in joined) section.stated) opened ∙ ap as_unread (h (marks_in joined) section.stated section.font)
+    section.is ∙ ap (private_next (marks_in joined) section.stated) opened ∙ h (marks_in joined) section.stated section.font
 
 -- Where a part is refused, the font isn't read for that reason, unless memory ran out.
-no_text : (marks : Marks) (s : List ℕ) (read : Result TextRead Refusal) (e : Refusal) → clear_value_of marks s read ≡ Err e → read ≡ Err e
+no_text : (marks : Marks) (s : List ℕ) (read : Result TextRead Unread) (e : Unread) → clear_value_of marks s read ≡ Err e → read ≡ Err e
 no_text marks s (Err x) e h = cc
 no_text marks s (Ok text) e h = cc
 
-pub no_clear : (joined : JoinedText) (e : Refusal) → Unless (is_memory e) (clear_read (marks_in joined) joined.bytes ≡ Err e)
-    → IsUnread (of_refusal e) (text_in joined)
+pub no_clear : (joined : JoinedText) (e : Unread) → Unless (is_memory e) (clear_read (marks_in joined) joined.bytes ≡ Err e)
+    → IsUnread e (text_in joined)
 no_clear joined Memory h = inl refl
 no_clear joined e h =
     inr (ap (section_next (marks_in joined)) (no_text (marks_in joined) joined.bytes (clear_of (marks_in joined) joined.bytes) e h))
@@ -75,9 +75,9 @@ no_section joined clear is behind e h =
 
 pub no_font : (joined : JoinedText) (clear : ClearValue) → clear_read (marks_in joined) joined.bytes ≡ Ok clear → IsBehind joined clear
     → (text : List ℕ) → private_text_of (drop clear.after joined.bytes) ≡ Ok text
-    → (e : Refusal) → ((m : Marks) (before : List Stated) → clear.font ≡ value_of m before → Unless (is_memory e) (font_read m before text ≡ Err e))
-    → IsUnread (of_refusal e) (text_in joined)
+    → (e : Unread) → ((m : Marks) (before : List Stated) → clear.font ≡ value_of m before → Unless (is_memory e) (font_read m before text ≡ Err e))
+    → IsUnread e (text_in joined)
 no_font joined clear is behind text opened Memory h = inl refl
 no_font joined clear is behind text opened e h =
     let section = at_section joined clear is behind in
-    inr (section.is ∙ ap (private_next (marks_in joined) section.stated) opened ∙ ap as_unread (h (marks_in joined) section.stated section.font))
+    inr (section.is ∙ ap (private_next (marks_in joined) section.stated) opened ∙ h (marks_in joined) section.stated section.font)

@@ -6,7 +6,7 @@ use Rattle.t1_scan.specs.declared.token.Kind.TheVariants.{Name}
 use Rattle.t1_scan.specs.Spelling.{Plain, name, word, spelled, meant}
 use Rattle.t1_scan.specs.Texts.{BeginsWith}
 use Rattle.t1_font.specs.declared.mode.PrivateMode.TheVariants.{Glyphs}
-use Rattle.t1_font.specs.declared.refusal.Refusal.TheVariants.{BadCharStrings}
+use Rattle.t1_font.specs.declared.unread.Unread.TheVariants.{BadCharStrings}
 use Rattle.t1_font.specs.Keys.{same_name}
 use Rattle.t1_font.specs.Tokens.{is_word_kind}
 use Rattle.t1_font.specs.Fonts.{Stated, Marks, FontValue, value_of, glyph, firsts}

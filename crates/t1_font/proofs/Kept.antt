@@ -5,8 +5,8 @@ use Rattle.t1_font.specs.declared.mode.ClearMode.{ClearMode}
 use Rattle.t1_font.specs.declared.mode.ClearMode.TheVariants as clear_modes
 use Rattle.t1_font.specs.declared.mode.PrivateMode.{PrivateMode}
 use Rattle.t1_font.specs.declared.mode.PrivateMode.TheVariants.{Outside}
-use Rattle.t1_font.specs.declared.refusal.Refusal.{Refusal}
-use Rattle.t1_font.specs.declared.refusal.Refusal.TheVariants.{BadCharStrings, NoEexec}
+use Rattle.t1_font.specs.declared.unread.Unread.{Unread}
+use Rattle.t1_font.specs.declared.unread.Unread.TheVariants.{BadCharStrings, NoEexec}
 use Rattle.t1_font.specs.Readings.{◌>>=◌}
 use Rattle.t1_font.specs.Fonts.{Stated, Marks, FontValue, value_of}
 use Rattle.t1_font.specs.Puts.{put}
@@ -34,7 +34,7 @@ HoldsOf holds marks read = holds (value_of marks read.stated)
 
 module _ (holds : FontValue → Type 0) (fits : FontValue → Stated → Type 0)
     (put_holds : (v : FontValue) (e : Stated) → holds v → fits v e → holds (put v e)) where
-  module _ {M : Type 0} (turn : Reader M) (ended : Refusal) (marks : Marks)
+  module _ {M : Type 0} (turn : Reader M) (ended : Unread) (marks : Marks)
       (turn_fits : (v : FontValue) (mode : M) (s : List ℕ) → IfOk (turn v mode s) (StatesFitting (fits v))) where
     one_holds : (before : List Stated) (e : Option Stated) → holds (value_of marks before) → FitsOne (fits (value_of marks before)) e
         → holds (value_of marks (with_one before e))
@@ -70,7 +70,7 @@ module _ (holds : FontValue → Type 0) (fits : FontValue → Stated → Type 0)
     unfolding private_of_by
     private_holds marks before s w = text_holds private_turn BadCharStrings marks private_fits (suc (length s)) before Outside s w
 
-    value_holds : (marks : Marks) (read : Result TextRead Refusal) → IfOk read (HoldsOf holds marks) → IfOk (font_value_of marks read) holds
+    value_holds : (marks : Marks) (read : Result TextRead Unread) → IfOk read (HoldsOf holds marks) → IfOk (font_value_of marks read) holds
     value_holds marks (Ok read) w = w
     value_holds marks (Err e) w = tt
 

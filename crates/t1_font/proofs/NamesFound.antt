@@ -7,8 +7,8 @@ use Rattle.t1_scan.specs.Lengths.{token_len, run_len, blank_len}
 use Rattle.t1_scan.specs.Numbers.{number_of}
 use Rattle.t1_scan.specs.Tokens.{Found, cut, first_of, kind_of, number_or_word, token_of}
 use Rattle.t1_scan.proofs.Prefixes.{prefix_all}
-use Rattle.t1_font.specs.declared.refusal.Refusal.{Refusal}
-use Rattle.t1_font.specs.declared.refusal.Refusal.TheVariants.{Unclosed}
+use Rattle.t1_font.specs.declared.unread.Unread.{Unread}
+use Rattle.t1_font.specs.declared.unread.Unread.TheVariants.{Unclosed}
 use Rattle.t1_font.specs.Tokens.{is_name_kind, token_at, wanted}
 
 abbrev pub NamedFound : Found → Type 0
@@ -65,7 +65,7 @@ first_named (b ∷ s) =
       | inr n ↦ cut_other b s (token_len b s) n
     ]
 
-pub wanted_named : (ended : Refusal) (s : List ℕ) → IfOk (wanted ended s) NamedFound
+pub wanted_named : (ended : Unread) (s : List ℕ) → IfOk (wanted ended s) NamedFound
 unfolding wanted token_at
 wanted_named ended s =
     elim (token_of s) as (λ r. IfOk r NamedIf

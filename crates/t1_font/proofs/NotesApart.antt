@@ -12,8 +12,8 @@ use Rattle.t1_font.specs.declared.mode.ClearMode.{ClearMode}
 use Rattle.t1_font.specs.declared.mode.ClearMode.TheVariants as clear_modes
 use Rattle.t1_font.specs.declared.mode.PrivateMode.{PrivateMode}
 use Rattle.t1_font.specs.declared.mode.PrivateMode.TheVariants.{Outside, Subrs, Glyphs}
-use Rattle.t1_font.specs.declared.refusal.Refusal.{Refusal}
-use Rattle.t1_font.specs.declared.refusal.Refusal.TheVariants.{BadCharStrings, BadSubrs, NoEexec}
+use Rattle.t1_font.specs.declared.unread.Unread.{Unread}
+use Rattle.t1_font.specs.declared.unread.Unread.TheVariants.{BadCharStrings, BadSubrs, NoEexec}
 use Rattle.t1_font.specs.ClearText.{array_at, begins, begins_as_font, clear_of_by, clear_outside_by, clear_turn_by, clear_value, code_at, code_statement, code_token, code_turn, encoding_at, encoding_turn}
 use Rattle.t1_font.specs.Fonts.{FontValue, Marks, Stated, plain, encoding, code, bad_code, size, subr, glyph, glyph_of, last_of, size_of, table_of, value_of}
 use Rattle.t1_font.specs.Keys.{all_notes, no_notes, clear_key, clear_note, index_of, private_key, private_note, same_name, taken_keys}
@@ -39,7 +39,7 @@ abbrev turn_without : {M : Type 0} → TextTurn M → TextTurn M
 turn_without (over rest) = over rest
 turn_without (goes e mode left) = goes (unless_note e) mode left
 
-abbrev all_without : {M : Type 0} → Result (TextTurn M) Refusal → Result (TextTurn M) Refusal
+abbrev all_without : {M : Type 0} → Result (TextTurn M) Unread → Result (TextTurn M) Unread
 all_without (Ok t) = Ok (turn_without t)
 all_without (Err e) = Err e
 
@@ -48,13 +48,13 @@ abbrev IsTaken : Key → Type 0
 IsTaken k = nat_le taken_keys (index_of k) ≡ false
 
 -- Two ways, each of which stays.
-either_stays : {M : Type 0} (b b' : Bool) (x y x' y' : Result (TextTurn M) Refusal) → b ≡ b' → x ≡ all_without x' → y ≡ all_without y'
+either_stays : {M : Type 0} (b b' : Bool) (x y x' y' : Result (TextTurn M) Unread) → b ≡ b' → x ≡ all_without x' → y ≡ all_without y'
     → cond b x y ≡ all_without (cond b' x' y')
 either_stays true b' x y x' y' same h k = rw (sym same) h
 either_stays false b' x y x' y' same h k = rw (sym same) k
 
 -- What follows a token.
-then_stays : {M : Type 0} {A : Type 0} (r : Result A Refusal) (f g : A → Result (TextTurn M) Refusal) → ((x : A) → f x ≡ all_without (g x))
+then_stays : {M : Type 0} {A : Type 0} (r : Result A Unread) (f g : A → Result (TextTurn M) Unread) → ((x : A) → f x ≡ all_without (g x))
     → (r >>= f) ≡ all_without (r >>= g)
 then_stays (Ok x) f g h = h x
 then_stays (Err e) f g h = refl
@@ -187,7 +187,7 @@ dup_turn_stays : (s : List ℕ) → dup_turn s ≡ all_without (dup_turn s)
 unfolding dup_turn
 dup_turn_stays s = by_ahead (token_ahead s)
   where
-    dup_by : Option Found → Result (TextTurn PrivateMode) Refusal
+    dup_by : Option Found → Result (TextTurn PrivateMode) Unread
     dup_by r = elim r [
       | None ↦ Ok (pass Outside s)
       | Some t ↦ if is_number_kind t.kind then subr_at t.kind t.rest else Ok (pass Outside s)
@@ -251,7 +251,7 @@ with_stays before (Some e) =
     by_note true = sym (append-nil (without_notes before))
     by_note false = refl
 
-module _ {M : Type 0} (turn other : Reader M) (ended : Refusal) (marks : Marks)
+module _ {M : Type 0} (turn other : Reader M) (ended : Unread) (marks : Marks)
     (stays : (before : List Stated) (mode : M) (s : List ℕ)
     → turn (value_of marks (without_notes before)) mode s ≡ all_without (other (value_of marks before) mode s)) where
   text_stays : (n : ℕ) (before : List Stated) (mode : M) (s : List ℕ)
@@ -264,7 +264,7 @@ module _ {M : Type 0} (turn other : Reader M) (ended : Refusal) (marks : Marks)
     where
       by_turn : ((es : List Stated) (next : M) (left : List ℕ)
           → stated_within turn ended marks n (without_notes es) next left ≡ read_without (stated_within other ended marks n es next left))
-          → (r : Result (TextTurn M) Refusal) → (all_without r >>= follow (stated_within turn ended marks n) (without_notes before))
+          → (r : Result (TextTurn M) Unread) → (all_without r >>= follow (stated_within turn ended marks n) (without_notes before))
           ≡ read_without (r >>= follow (stated_within other ended marks n) before)
       by_turn more (Err e) = refl
       by_turn more (Ok (over rest)) = refl

@@ -8,21 +8,20 @@ use Rattle.t1_seal.specs.declared.errors.SealError.{SealError}
 use Rattle.t1_seal.specs.declared.errors.SealError.TheVariants as seal
 use Rattle.t1_seal.proofs.SegmentFaults.{joined_of-refused}
 use Rattle.t1_font.specs.ClearText.{clear_of}
-use Rattle.t1_font.specs.FontFiles.{of_seal_error, of_refusal, marks_in, as_unread, private_next, section_next, clear_next, font_in}
+use Rattle.t1_font.specs.FontFiles.{of_seal_error, marks_in, private_next, section_next, clear_next, font_in}
 use Rattle.t1_font.specs.Fonts.{Stated, Marks, FontValue}
 use Rattle.t1_font.specs.Texts.{font_read}
 use Rattle.t1_font.specs.TextTurns.{TextRead}
-use Rattle.t1_font.specs.Laws.Parts.{IsOfText, IsOfSection, IsOfTexts, IsOfJoined, RefusedByPart, NeverForMemory}
+use Rattle.t1_font.specs.Laws.Parts.{IsOfSection, IsOfTexts, IsOfJoined, RefusedByPart, NeverForMemory}
 use Rattle.t1_font.specs.Laws.Refusals.{IsClearRefusal, IsPrivateRefusal}
-use Rattle.t1_font.specs.declared.refusal.Refusal.{Refusal}
-use Rattle.t1_font.specs.declared.refusal.Refusal.TheVariants as refusal
+use Rattle.t1_font.specs.declared.unread.Unread.{Unread}
 use Rattle.t1_font.specs.declared.unread.Unread.TheVariants.{Memory}
 use Rattle.t1_font.proofs.Refused.{clear_refusals, font_read_refusals}
 
 -- Each part, over what it is read as.
-private_refused : (read : Result FontValue Refusal) → ((e : Refusal) → read ≡ Err e → IsPrivateRefusal e) → IfErr (as_unread read) (IsOfText IsPrivateRefusal)
+private_refused : (read : Result FontValue Unread) → ((e : Unread) → read ≡ Err e → IsPrivateRefusal e) → IfErr read IsPrivateRefusal
 private_refused (Ok font) h = tt
-private_refused (Err e) h = (e, (h e refl, refl))
+private_refused (Err e) h = h e refl
 
 section_refused : (marks : Marks) (before : List Stated) (section : Result (List ℕ) SealError) → ((e : SealError) → section ≡ Err e → e ≡ seal.TooShort)
     → IfErr (private_next marks before section) (IsOfSection section)
@@ -37,10 +36,10 @@ too_short : (bytes : List ℕ) (e : SealError) → private_text_of bytes ≡ Err
 unfolding private_text_of opened
 too_short bytes e h = chosen (nat_lt (length (cipher_bytes (section_of bytes))) 4) _ e h
 
-texts_refused : (marks : Marks) (read : Result TextRead Refusal) → ((e : Refusal) → read ≡ Err e → IsClearRefusal e)
+texts_refused : (marks : Marks) (read : Result TextRead Unread) → ((e : Unread) → read ≡ Err e → IsClearRefusal e)
     → IfErr (section_next marks read) (IsOfTexts read)
 texts_refused marks (Ok clear) h = section_refused marks clear.stated (private_text_of clear.rest) (too_short clear.rest)
-texts_refused marks (Err e) h = (e, (h e refl, refl))
+texts_refused marks (Err e) h = h e refl
 
 joined_refused : (joined : Result JoinedText SealError) → ((e : SealError) → joined ≡ Err e → IsSegmentFault e) → IfErr (clear_next joined) (IsOfJoined joined)
 joined_refused (Ok joined) h = texts_refused (marks_in joined) (clear_of (marks_in joined) joined.bytes) (clear_refusals (marks_in joined) joined.bytes)
@@ -61,24 +60,13 @@ no_segments seal.CutShort h named = cc
 no_segments seal.TooShort h named = h
 no_segments seal.Memory h named = h
 
-no_text : (kind : Refusal → Type 0) → (kind refusal.Memory → ⊥) → (e : Refusal) → kind e → Memory ≡ of_refusal e → ⊥
-no_text kind never refusal.NoEexec h named = cc
-no_text kind never refusal.Unclosed h named = cc
-no_text kind never refusal.BadSubrs h named = cc
-no_text kind never refusal.BadCharStrings h named = cc
-no_text kind never refusal.BadLenIv h named = cc
-no_text kind never refusal.PastLimit h named = cc
-no_text kind never refusal.SecondSubrs h named = cc
-no_text kind never refusal.MultipleMaster h named = cc
-no_text kind never refusal.Memory h named = never h
-
 no_section : (section : Result (List ℕ) SealError) → IsOfSection section Memory → ⊥
-no_section (Ok text) h = no_text IsPrivateRefusal (λ none. none) h.0 h.1.0 h.1.1
+no_section (Ok text) h = h
 no_section (Err e) h = cc
 
-no_texts : (read : Result TextRead Refusal) → IsOfTexts read Memory → ⊥
+no_texts : (read : Result TextRead Unread) → IsOfTexts read Memory → ⊥
 no_texts (Ok clear) h = no_section (private_text_of clear.rest) h
-no_texts (Err e) h = no_text IsClearRefusal (λ none. none) h.0 h.1.0 h.1.1
+no_texts (Err e) h = h
 
 no_joined : (joined : Result JoinedText SealError) → IsOfJoined joined Memory → ⊥
 no_joined (Ok joined) h = no_texts (clear_of (marks_in joined) joined.bytes) h

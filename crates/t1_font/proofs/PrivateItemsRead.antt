@@ -11,8 +11,8 @@ use Rattle.t1_font.specs.declared.key.Key.{Key}
 use Rattle.t1_font.specs.declared.key.Key.TheVariants.{LenIv}
 use Rattle.t1_font.specs.declared.mode.PrivateMode.{PrivateMode}
 use Rattle.t1_font.specs.declared.mode.PrivateMode.TheVariants.{Outside, Subrs}
-use Rattle.t1_font.specs.declared.refusal.Refusal.{Refusal}
-use Rattle.t1_font.specs.declared.refusal.Refusal.TheVariants.{BadCharStrings, BadLenIv}
+use Rattle.t1_font.specs.declared.unread.Unread.{Unread}
+use Rattle.t1_font.specs.declared.unread.Unread.TheVariants.{BadCharStrings, BadLenIv}
 use Rattle.t1_font.specs.Keys.{all_notes, private_key, private_note, same_name}
 use Rattle.t1_font.specs.Tokens.{is_word_kind, is_name_kind}
 use Rattle.t1_font.specs.Fonts.{Stated, Marks, FontValue, value_of, plain}
@@ -122,7 +122,7 @@ mode_of true = Subrs
 mode_of false = Outside
 
 module _ (marks : Marks) where
-  abbrev pub read : List Stated → PrivateMode → List ℕ → Result TextRead Refusal
+  abbrev pub read : List Stated → PrivateMode → List ℕ → Result TextRead Unread
   read before mode s = stated_in private_turn BadCharStrings marks before mode s
 
   pub on : (before : List Stated) (mode : PrivateMode) (s : List ℕ) (e : Option Stated) (next : PrivateMode) (left : List ℕ)

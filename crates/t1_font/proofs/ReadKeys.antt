@@ -3,9 +3,9 @@ use Rattle.std.proofs.Common.{◌≡◌, ℕ, Result, Ok, Err, IfOk, List}
 use Rattle.t1_seal.specs.Eexec.{private_text_of}
 use Rattle.t1_seal.specs.Segments.{JoinedText, joined_of}
 use Rattle.t1_seal.specs.declared.errors.SealError.{SealError}
-use Rattle.t1_font.specs.declared.refusal.Refusal.{Refusal}
+use Rattle.t1_font.specs.declared.unread.Unread.{Unread}
 use Rattle.t1_font.specs.ClearText.{clear_of}
-use Rattle.t1_font.specs.FontFiles.{as_unread, clear_next, font_in, marks_in, private_next, section_next}
+use Rattle.t1_font.specs.FontFiles.{clear_next, font_in, marks_in, private_next, section_next}
 use Rattle.t1_font.specs.Fonts.{Marks}
 use Rattle.t1_font.specs.Laws.Keys.{FontsHaveDistinctKeys, HasDistinctKeys}
 use Rattle.t1_font.specs.PrivateText.{private_of}
@@ -13,7 +13,7 @@ use Rattle.t1_font.specs.Texts.{font_value_of}
 use Rattle.t1_font.specs.TextTurns.{TextRead}
 use Rattle.t1_font.proofs.DifferentKeys.{none_stands_twice}
 
-of_stated : (marks : Marks) (read : Result TextRead Refusal) → IfOk (as_unread (font_value_of marks read)) HasDistinctKeys
+of_stated : (marks : Marks) (read : Result TextRead Unread) → IfOk (font_value_of marks read) HasDistinctKeys
 of_stated marks (Ok read) = none_stands_twice marks read.stated
 of_stated marks (Err e) = tt
 
@@ -21,7 +21,7 @@ of_section : (marks : Marks) (clear : TextRead) (section : Result (List ℕ) Sea
 of_section marks clear (Ok text) = of_stated marks (private_of marks clear.stated text)
 of_section marks clear (Err e) = tt
 
-of_clear : (marks : Marks) (clear : Result TextRead Refusal) → IfOk (section_next marks clear) HasDistinctKeys
+of_clear : (marks : Marks) (clear : Result TextRead Unread) → IfOk (section_next marks clear) HasDistinctKeys
 of_clear marks (Ok clear) = of_section marks clear (private_text_of clear.rest)
 of_clear marks (Err e) = tt
 

@@ -3,8 +3,8 @@ use Rattle.std.proofs.Common.{◌≡◌, ◌≤◌, ◌-◌, ℕ, suc, true, fal
 use Rattle.std.proofs.Math.Seq.{drop-append_seam}
 use Rattle.t1_font.specs.declared.mode.ClearMode.TheVariants as clear_modes
 use Rattle.t1_font.specs.declared.mode.PrivateMode.TheVariants.{Outside}
-use Rattle.t1_font.specs.declared.refusal.Refusal.{Refusal}
-use Rattle.t1_font.specs.declared.refusal.Refusal.TheVariants.{NoEexec, Unclosed, BadSubrs, BadCharStrings, BadLenIv, PastLimit, SecondSubrs, MultipleMaster, Memory}
+use Rattle.t1_font.specs.declared.unread.Unread.{Unread}
+use Rattle.t1_font.specs.declared.unread.Unread.TheVariants.{NoEexec, BadCharStrings, Memory}
 use Rattle.t1_font.specs.Readings.{is_memory}
 use Rattle.t1_seal.specs.Readings.{RefusesBy}
 use Rattle.t1_font.specs.Fonts.{Stated, Marks, FontValue, value_of}
@@ -36,39 +36,25 @@ rest_by_place s rest h =
     let place : length s - length rest ≡ length h.front = omega (arith, e, length-append h.front rest) in
     rw (place, h.whole) (sym (drop-append_seam h.front rest))
 
-ok_value : {X : Type 0} (a b : X) → ◌≡◌ {A = Result X Refusal} (Ok a) (Ok b) → a ≡ b
-ok_value {X} a b h = ap (λ (r : Result X Refusal). elim r [ Ok x ↦ x | Err e ↦ a ]) h
+ok_value : {X : Type 0} (a b : X) → ◌≡◌ {A = Result X Unread} (Ok a) (Ok b) → a ≡ b
+ok_value {X} a b h = ap (λ (r : Result X Unread). elim r [ Ok x ↦ x | Err e ↦ a ]) h
 
-clear_by_rest : (marks : Marks) (s : List ℕ) (read : Result TextRead Refusal) (v : FontValue) (rest : List ℕ)
+clear_by_rest : (marks : Marks) (s : List ℕ) (read : Result TextRead Unread) (v : FontValue) (rest : List ℕ)
     → value_read marks read ≡ Ok (record { value = v; rest = rest }) → clear_value_of marks s read ≡ Ok (record { font = v; after = length s - length rest })
 clear_by_rest marks s (Err e) v rest given = cc
 clear_by_rest marks s (Ok read) v rest given = ap (λ (r : FontRead). Ok (record { font = r.value; after = length s - length r.rest })) (ok_value _ _ given)
 
 -- What the fold over a text yields, by what is stated in it.
-alone_read : (marks : Marks) (read : Result TextRead Refusal) → value_alone (value_read marks read) ≡ font_value_of marks read
+alone_read : (marks : Marks) (read : Result TextRead Unread) → value_alone (value_read marks read) ≡ font_value_of marks read
 alone_read marks (Ok read) = refl
 alone_read marks (Err e) = refl
 
-clear_error : (marks : Marks) (s : List ℕ) (read : Result TextRead Refusal) (e : Refusal) → RefusesBy is_memory e (value_read marks read)
+clear_error : (marks : Marks) (s : List ℕ) (read : Result TextRead Unread) (e : Unread) → RefusesBy is_memory e (value_read marks read)
     → RefusesBy is_memory e (clear_value_of marks s read)
-clear_error marks s (Ok read) NoEexec given = cc
-clear_error marks s (Ok read) Unclosed given = cc
-clear_error marks s (Ok read) BadSubrs given = cc
-clear_error marks s (Ok read) BadCharStrings given = cc
-clear_error marks s (Ok read) BadLenIv given = cc
-clear_error marks s (Ok read) PastLimit given = cc
-clear_error marks s (Ok read) SecondSubrs given = cc
-clear_error marks s (Ok read) MultipleMaster given = cc
 clear_error marks s (Ok read) Memory given = tt
-clear_error marks s (Err x) NoEexec given = cc
-clear_error marks s (Err x) Unclosed given = cc
-clear_error marks s (Err x) BadSubrs given = cc
-clear_error marks s (Err x) BadCharStrings given = cc
-clear_error marks s (Err x) BadLenIv given = cc
-clear_error marks s (Err x) PastLimit given = cc
-clear_error marks s (Err x) SecondSubrs given = cc
-clear_error marks s (Err x) MultipleMaster given = cc
+clear_error marks s (Ok read) _ given = cc
 clear_error marks s (Err x) Memory given = tt
+clear_error marks s (Err x) _ given = cc
 
 pub clear_is_read : (marks : Marks) (text s rest : List ℕ) (old v : FontValue) → text ≡ s → old ≡ value_of marks [] → begins_as_font text ≡ true
     → run_of clear_turn NoEexec old clear_modes.Outside text ≡ Ok (record { value = v; rest = rest })
@@ -79,7 +65,7 @@ clear_is_read marks text s rest old v same start begins given =
     rw (← same, begins) (clear_by_rest marks text (stated_in clear_turn NoEexec marks [] clear_modes.Outside text) v rest run)
 
 -- What follows the word eexec follows the place that is returned.
-clear_rest : (marks : Marks) (read : Result TextRead Refusal) (v : FontValue) (rest : List ℕ) → value_read marks read ≡ Ok (record { value = v; rest = rest })
+clear_rest : (marks : Marks) (read : Result TextRead Unread) (v : FontValue) (rest : List ℕ) → value_read marks read ≡ Ok (record { value = v; rest = rest })
     → (found : TextRead) → read ≡ Ok found → found.rest ≡ rest
 clear_rest marks read v rest given found is =
     let both : ◌≡◌ {A = FontRead} (record { value = value_of marks found.stated; rest = found.rest }) (record { value = v; rest = rest }) =
@@ -97,7 +83,7 @@ clear_is_behind marks text s rest old v same start begins given found is =
     ∙ rest_by_place text rest (clear_ends text rest old v given)
     ∙ ap (drop (length text - length rest)) same
 
-pub clear_is_refused : (marks : Marks) (text s : List ℕ) (old : FontValue) (e : Refusal) → text ≡ s → old ≡ value_of marks [] → begins_as_font text ≡ true
+pub clear_is_refused : (marks : Marks) (text s : List ℕ) (old : FontValue) (e : Unread) → text ≡ s → old ≡ value_of marks [] → begins_as_font text ≡ true
     → RefusesBy is_memory e (run_of clear_turn NoEexec old clear_modes.Outside text) → RefusesBy is_memory e (clear_read marks s)
 unfolding clear_of_by
 clear_is_refused marks text s old e same start begins given =
@@ -119,6 +105,6 @@ pub font_is_read : (marks : Marks) (before : List Stated) (s : List ℕ) (old v 
     → value_alone (run_of private_turn BadCharStrings old Outside s) ≡ Ok v → font_read marks before s ≡ Ok v
 font_is_read marks before s old v start given = sym (font_run marks before s old start) ∙ given
 
-pub font_is_refused : (marks : Marks) (before : List Stated) (s : List ℕ) (old : FontValue) (e : Refusal) → old ≡ value_of marks before
+pub font_is_refused : (marks : Marks) (before : List Stated) (s : List ℕ) (old : FontValue) (e : Unread) → old ≡ value_of marks before
     → RefusesBy is_memory e (value_alone (run_of private_turn BadCharStrings old Outside s)) → RefusesBy is_memory e (font_read marks before s)
 font_is_refused marks before s old e start given = rw (font_run marks before s old start) at given

@@ -8,8 +8,8 @@ use Rattle.t1_font.specs.declared.mode.ClearMode.{ClearMode}
 use Rattle.t1_font.specs.declared.mode.ClearMode.TheVariants as clear_modes
 use Rattle.t1_font.specs.declared.mode.PrivateMode.{PrivateMode}
 use Rattle.t1_font.specs.declared.mode.PrivateMode.TheVariants.{Outside, Subrs, Glyphs}
-use Rattle.t1_font.specs.declared.refusal.Refusal.{Refusal}
-use Rattle.t1_font.specs.declared.refusal.Refusal.TheVariants.{Unclosed, BadSubrs, BadCharStrings, BadLenIv, NoEexec, PastLimit}
+use Rattle.t1_font.specs.declared.unread.Unread.{Unread}
+use Rattle.t1_font.specs.declared.unread.Unread.TheVariants.{Unclosed, BadSubrs, BadCharStrings, BadLenIv, NoEexec, PastLimit}
 use Rattle.t1_font.specs.Readings.{◌>>=◌}
 use Rattle.t1_font.specs.Keys.{private_key, clear_key, all_notes}
 use Rattle.t1_font.specs.Tokens.{token_at, wanted, token_ahead, whole, natural, is_word_kind, is_number_kind, name_of, spells, raw_of, some_raw, past_word, charstring_at}
@@ -24,24 +24,24 @@ use Rattle.t1_font.specs.Laws.Refusals.{IsClearRefusal, IsPrivateRefusal, ClearR
 use Rattle.t1_font.proofs.Running.{follow}
 
 -- What is read next, too, is refused so.
-then_refused : {A B : Type 0} (P : Refusal → Type 0) (r : Result A Refusal) (f : A → Result B Refusal) → IfErr r P → ((x : A) → IfErr (f x) P)
+then_refused : {A B : Type 0} (P : Unread → Type 0) (r : Result A Unread) (f : A → Result B Unread) → IfErr r P → ((x : A) → IfErr (f x) P)
     → IfErr (r >>= f) P
 then_refused P (Ok x) f h k = k x
 then_refused P (Err e) f h k = h
 
-either_refused : {A : Type 0} (P : Refusal → Type 0) (b : Bool) (x y : Result A Refusal) → IfErr x P → IfErr y P → IfErr (cond b x y) P
+either_refused : {A : Type 0} (P : Unread → Type 0) (b : Bool) (x y : Result A Unread) → IfErr x P → IfErr y P → IfErr (cond b x y) P
 either_refused P true x y h k = h
 either_refused P false x y h k = k
 
 -- Tokens are refused as unclosed, or as `bad` says.
-module _ (P : Refusal → Type 0) (bad : Refusal) (unclosed : P Unclosed) (told : P bad) where
+module _ (P : Unread → Type 0) (bad : Unread) (unclosed : P Unclosed) (told : P bad) where
   wanted_refused : (s : List ℕ) → IfErr (wanted bad s) P
   unfolding wanted
   wanted_refused s =
-      elim (token_at s) as (λ r. IfErr {T = Found} {E = Refusal}
+      elim (token_at s) as (λ r. IfErr {T = Found} {E = Unread}
       (elim r [ Err _ ↦ Err Unclosed | Ok found ↦ elim found [ None ↦ Err bad | Some t ↦ Ok t ] ]) P) [
         | Err _ ↦ unclosed
-        | Ok found ↦ elim found as (λ r. IfErr {T = Found} {E = Refusal} (elim r [ None ↦ Err bad | Some t ↦ Ok t ]) P) [
+        | Ok found ↦ elim found as (λ r. IfErr {T = Found} {E = Unread} (elim r [ None ↦ Err bad | Some t ↦ Ok t ]) P) [
           | None ↦ told
           | Some t ↦ tt
         ]
@@ -59,7 +59,7 @@ module _ (P : Refusal → Type 0) (bad : Refusal) (unclosed : P Unclosed) (told 
     natural_refused : (limit : ℕ) (kind : Kind) → IfErr (natural bad limit kind) P
     unfolding natural
     natural_refused limit kind =
-        elim (whole kind) as (λ r. IfErr {T = ℕ} {E = Refusal} (elim r [ None ↦ Err bad | Some n ↦ if nat_lt limit n then Err PastLimit else Ok n ]) P) [
+        elim (whole kind) as (λ r. IfErr {T = ℕ} {E = Unread} (elim r [ None ↦ Err bad | Some n ↦ if nat_lt limit n then Err PastLimit else Ok n ]) P) [
           | None ↦ told
           | Some n ↦ either_refused P (nat_lt limit n) (Err PastLimit) (Ok n) past tt
         ]
@@ -175,7 +175,7 @@ private_turn_refused v Glyphs s = then_refused IsPrivateRefusal (wanted BadCharS
     (λ t. glyphs_token_refused v t.kind t.text t.rest)
 
 -- A text whose turns are refused so.
-module _ {M : Type 0} (P : Refusal → Type 0) (turn : Reader M) (ended : Refusal) (told : P ended) (turns : (v : FontValue) (mode : M) (s : List ℕ)
+module _ {M : Type 0} (P : Unread → Type 0) (turn : Reader M) (ended : Unread) (told : P ended) (turns : (v : FontValue) (mode : M) (s : List ℕ)
     → IfErr (turn v mode s) P) where
   text_refused : (marks : Marks) (n : ℕ) (before : List Stated) (mode : M) (s : List ℕ) → IfErr (stated_within turn ended marks n before mode s) P
   unfolding stated_within
@@ -207,16 +207,16 @@ unfolding private_of_by
 private_is_refused marks before s = text_refused IsPrivateRefusal private_turn BadCharStrings tt private_turn_refused marks (suc (length s)) before Outside s
 
 -- Readers refuse as the texts do.
-clear_value_is_refused : (marks : Marks) (s : List ℕ) (read : Result TextRead Refusal) → IfErr read IsClearRefusal
+clear_value_is_refused : (marks : Marks) (s : List ℕ) (read : Result TextRead Unread) → IfErr read IsClearRefusal
     → IfErr (clear_value_of marks s read) IsClearRefusal
 clear_value_is_refused marks s (Ok read) h = tt
 clear_value_is_refused marks s (Err e) h = h
 
-font_value_is_refused : (marks : Marks) (read : Result TextRead Refusal) → IfErr read IsPrivateRefusal → IfErr (font_value_of marks read) IsPrivateRefusal
+font_value_is_refused : (marks : Marks) (read : Result TextRead Unread) → IfErr read IsPrivateRefusal → IfErr (font_value_of marks read) IsPrivateRefusal
 font_value_is_refused marks (Ok read) h = tt
 font_value_is_refused marks (Err e) h = h
 
-value_alone_is_refused : (read : Result FontRead Refusal) → IfErr read IsPrivateRefusal → IfErr (value_alone read) IsPrivateRefusal
+value_alone_is_refused : (read : Result FontRead Unread) → IfErr read IsPrivateRefusal → IfErr (value_alone read) IsPrivateRefusal
 value_alone_is_refused (Ok read) h = tt
 value_alone_is_refused (Err e) h = h
 

@@ -1,7 +1,7 @@
 -- A text is read turn by turn, whatever its turns are, if each takes a byte.
 use Rattle.std.proofs.Common.{◌≡◌, ◌<◌, ℕ, zero, suc, Option, Some, None, Result, Ok, Err, IfOk, List, [], ◌∷◌, ◌++◌, length, refl, ap, sym, ◌∙◌, arith, append_assoc, length-append}
-use Rattle.t1_font.specs.declared.refusal.Refusal.{Refusal}
-use Rattle.t1_font.specs.declared.refusal.Refusal.TheVariants.{NoEexec, Unclosed, BadSubrs, BadCharStrings, BadLenIv, PastLimit, SecondSubrs, MultipleMaster, Memory}
+use Rattle.t1_font.specs.declared.unread.Unread.{Unread}
+use Rattle.t1_font.specs.declared.unread.Unread.TheVariants.{Memory}
 use Rattle.t1_font.specs.Readings.{◌>>=◌, is_memory}
 use Rattle.t1_seal.specs.Readings.{RefusesBy}
 use Rattle.t1_font.specs.Fonts.{Stated, Marks, FontValue, value_of}
@@ -46,11 +46,11 @@ is_end_behind s left rest h e = record {
   whole = h.whole ∙ ap (λ x. h.front ++ x) e.whole ∙ sym (append_assoc h.front e.front rest);
 }
 
-mapped_ok : {A : Type 0} (P Q : A → Type 0) (r : Result A Refusal) → ((x : A) → P x → Q x) → IfOk r P → IfOk r Q
+mapped_ok : {A : Type 0} (P Q : A → Type 0) (r : Result A Unread) → ((x : A) → P x → Q x) → IfOk r P → IfOk r Q
 mapped_ok P Q (Ok x) f h = f x h
 mapped_ok P Q (Err e) f h = tt
 
-module _ {M : Type 0} (turn : Reader M) (ended : Refusal) (shortens : Shortens turn) where
+module _ {M : Type 0} (turn : Reader M) (ended : Unread) (shortens : Shortens turn) where
   pub enough : (n m : ℕ) (v : FontValue) (mode : M) (s : List ℕ) → length s < n → length s < m → run_within turn ended n v mode s
       ≡ run_within turn ended m v mode s
   unfolding run_within
@@ -76,7 +76,7 @@ module _ {M : Type 0} (turn : Reader M) (ended : Refusal) (shortens : Shortens t
         ]
       ] (shortens.less v mode s)
 
-  pub run_fails : (v : FontValue) (mode : M) (s : List ℕ) (e : Refusal) → turn v mode s ≡ Err e → run_of turn ended v mode s ≡ Err e
+  pub run_fails : (v : FontValue) (mode : M) (s : List ℕ) (e : Unread) → turn v mode s ≡ Err e → run_of turn ended v mode s ≡ Err e
   run_fails v mode s e h = run_step v mode s ∙ ap (λ r. r >>= go_on (run_of turn ended) v) h
 
   pub run_over : (v : FontValue) (mode : M) (s rest : List ℕ) → turn v mode s ≡ Ok (over rest) → run_of turn ended v mode s
@@ -106,14 +106,14 @@ module _ {M : Type 0} (turn : Reader M) (ended : Refusal) (shortens : Shortens t
       ] (shortens.less v mode s)
 
 -- What is stated when a turn was taken: `after` says it of the rest.
-abbrev pub follow : {M : Type 0} → (List Stated → M → List ℕ → Result TextRead Refusal) → List Stated → TextTurn M → Result TextRead Refusal
+abbrev pub follow : {M : Type 0} → (List Stated → M → List ℕ → Result TextRead Unread) → List Stated → TextTurn M → Result TextRead Unread
 follow after before t = elim t [
   | over rest ↦ Ok (record { stated = before; rest = rest })
   | goes e next left ↦ after (with_one before e) next left
 ]
 
 -- The value that is kept is that of all that was stated, looked up afterwards.
-module _ {M : Type 0} (turn : Reader M) (ended : Refusal) (marks : Marks)
+module _ {M : Type 0} (turn : Reader M) (ended : Unread) (marks : Marks)
     (step : (es : List Stated) (e : Stated) → value_of marks (es ++ e ∷ []) ≡ put (value_of marks es) e) where
   one_step : (es : List Stated) (e : Option Stated) → put_one (value_of marks es) e ≡ value_of marks (with_one es e)
   one_step es None = refl
@@ -135,13 +135,6 @@ module _ {M : Type 0} (turn : Reader M) (ended : Refusal) (marks : Marks)
       ]
 
 -- A refusal that was read is the one that is returned.
-pub fails : {Y : Type 0} (e : Refusal) (read : Result Y Refusal) → read ≡ Err e → RefusesBy is_memory e read
-fails NoEexec read h = h
-fails Unclosed read h = h
-fails BadSubrs read h = h
-fails BadCharStrings read h = h
-fails BadLenIv read h = h
-fails PastLimit read h = h
-fails SecondSubrs read h = h
-fails MultipleMaster read h = h
+pub fails : {Y : Type 0} (e : Unread) (read : Result Y Unread) → read ≡ Err e → RefusesBy is_memory e read
 fails Memory read h = tt
+fails _ read h = h

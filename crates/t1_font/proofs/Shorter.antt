@@ -13,8 +13,8 @@ use Rattle.t1_font.specs.declared.mode.ClearMode.{ClearMode}
 use Rattle.t1_font.specs.declared.mode.ClearMode.TheVariants as clear_modes
 use Rattle.t1_font.specs.declared.mode.PrivateMode.{PrivateMode}
 use Rattle.t1_font.specs.declared.mode.PrivateMode.TheVariants.{Outside, Subrs, Glyphs}
-use Rattle.t1_font.specs.declared.refusal.Refusal.{Refusal}
-use Rattle.t1_font.specs.declared.refusal.Refusal.TheVariants.{BadCharStrings, BadSubrs, NoEexec, Unclosed}
+use Rattle.t1_font.specs.declared.unread.Unread.{Unread}
+use Rattle.t1_font.specs.declared.unread.Unread.TheVariants.{BadCharStrings, BadSubrs, NoEexec, Unclosed}
 use Rattle.t1_font.specs.Readings.{◌>>=◌}
 use Rattle.t1_font.specs.Tokens.{token_at, wanted, token_ahead, natural, is_number_kind, is_name_kind, name_of, spells, past_word, charstring_at, raw_of, some_raw, ◌>?◌}
 use Rattle.t1_font.specs.Fonts.{FontValue, size, glyph}
@@ -34,7 +34,7 @@ PairBehind whole p = IsBehind whole p.1
 abbrev pub Any : {A : Type 0} → A → Type 0
 Any x = Unit {0}
 
-any : {A : Type 0} (r : Result A Refusal) → IfOk r Any
+any : {A : Type 0} (r : Result A Unread) → IfOk r Any
 any (Ok x) = tt
 any (Err e) = tt
 
@@ -49,7 +49,7 @@ token_behind s t h =
     let e : length s ≡ length ((begins.gap ++ spelled read.token) ++ t.rest) = ap length whole in
     record { front = begins.gap ++ spelled read.token; whole = whole; some = omega (arith, less, e, length-append (begins.gap ++ spelled read.token) t.rest) }
 
-wanted_first : (e : Refusal) (s : List ℕ) → IfOk (wanted e s) (RestBehind s)
+wanted_first : (e : Unread) (s : List ℕ) → IfOk (wanted e s) (RestBehind s)
 unfolding wanted
 wanted_first e s = elim (token_at s) as (λ r. token_at s ≡ r
     → IfOk (elim r [ Err _ ↦ Err Unclosed | Ok found ↦ elim found [ None ↦ Err e | Some t ↦ Ok t ] ]) (RestBehind s)) [
@@ -73,11 +73,11 @@ ahead_first s = elim (token_at s) as (λ r. token_at s ≡ r → IfSome (elim r 
 further : (whole s : List ℕ) (t : Found) → IsBehind whole s → IsBehind s t.rest → IsBehind whole t.rest
 further whole s t lt h = is_behind_rest whole s h.front t.rest lt h.whole
 
-weaken : (s whole : List ℕ) → IsBehind whole s → (r : Result Found Refusal) → IfOk r (RestBehind s) → IfOk r (RestBehind whole)
+weaken : (s whole : List ℕ) → IsBehind whole s → (r : Result Found Unread) → IfOk r (RestBehind s) → IfOk r (RestBehind whole)
 weaken s whole lt (Ok t) h = further whole s t lt h
 weaken s whole lt (Err x) h = tt
 
-wanted_less : (e : Refusal) (s : List ℕ) (whole : List ℕ) → IsBehind whole s → IfOk (wanted e s) (RestBehind whole)
+wanted_less : (e : Unread) (s : List ℕ) (whole : List ℕ) → IsBehind whole s → IfOk (wanted e s) (RestBehind whole)
 wanted_less e s whole lt = weaken s whole lt (wanted e s) (wanted_first e s)
 
 weaken_ahead : (s whole : List ℕ) → IsBehind whole s → (r : Option Found) → IfSome r (RestBehind s) → IfSome r (RestBehind whole)
@@ -87,12 +87,12 @@ weaken_ahead s whole lt None h = tt
 ahead_less : (s : List ℕ) (whole : List ℕ) → IsBehind whole s → IfSome (token_ahead s) (RestBehind whole)
 ahead_less s whole lt = weaken_ahead s whole lt (token_ahead s) (ahead_first s)
 
-past_less : (e : Refusal) (word s : List ℕ) (whole : List ℕ) → IsBehind whole s → IfOk (past_word e word s) (IsBehind whole)
+past_less : (e : Unread) (word s : List ℕ) (whole : List ℕ) → IsBehind whole s → IfOk (past_word e word s) (IsBehind whole)
 unfolding past_word
 past_less e word s whole lt = bind (RestBehind whole) (IsBehind whole) (wanted e s) _ (wanted_less e s whole lt)
     (λ t h. either (IsBehind whole) _ (Ok t.rest) (Err e) h tt)
 
-raw_less : (e : Refusal) (len : ℕ) (s : List ℕ) (whole : List ℕ) → IsBehind whole s → IfOk (some_raw e (raw_of len s)) (PairBehind whole)
+raw_less : (e : Unread) (len : ℕ) (s : List ℕ) (whole : List ℕ) → IsBehind whole s → IfOk (some_raw e (raw_of len s)) (PairBehind whole)
 unfolding raw_of
 raw_less e len s whole lt =
     elim (nat_lt (length s) (1 + len)) as (λ b. IfOk (some_raw e (cond b None (Some (take len (drop 1 s), drop (1 + len) s)))) (PairBehind whole)) [
@@ -100,7 +100,7 @@ raw_less e len s whole lt =
       | false ↦ is_behind_rest whole s (take (1 + len) s) (drop (1 + len) s) lt (sym (take-append-drop (1 + len) s))
     ]
 
-charstring_less : (e : Refusal) (s : List ℕ) (whole : List ℕ) → IsBehind whole s → IfOk (charstring_at e s) (PairBehind whole)
+charstring_less : (e : Unread) (s : List ℕ) (whole : List ℕ) → IsBehind whole s → IfOk (charstring_at e s) (PairBehind whole)
 unfolding charstring_at
 charstring_less e s whole lt =
     bind (RestBehind whole) (PairBehind whole) (wanted e s) _ (wanted_less e s whole lt) (λ count h.

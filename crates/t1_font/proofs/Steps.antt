@@ -9,8 +9,8 @@ use Rattle.t1_font.specs.declared.mode.ClearMode.{ClearMode}
 use Rattle.t1_font.specs.declared.mode.ClearMode.TheVariants as clear_modes
 use Rattle.t1_font.specs.declared.mode.PrivateMode.{PrivateMode}
 use Rattle.t1_font.specs.declared.mode.PrivateMode.TheVariants.{Outside, Subrs, Glyphs}
-use Rattle.t1_font.specs.declared.refusal.Refusal.{Refusal}
-use Rattle.t1_font.specs.declared.refusal.Refusal.TheVariants.{NoEexec, BadCharStrings, Unclosed}
+use Rattle.t1_font.specs.declared.unread.Unread.{Unread}
+use Rattle.t1_font.specs.declared.unread.Unread.TheVariants.{NoEexec, BadCharStrings, Unclosed}
 use Rattle.t1_font.specs.Keys.{same_name}
 use Rattle.t1_font.specs.Readings.{◌>>=◌}
 use Rattle.t1_font.specs.Tokens.{token_at, wanted}
@@ -22,7 +22,7 @@ use Rattle.t1_font.specs.Laws.UsualTexts.{BlanksPass, BlanksPassInPrivate, DupPa
 use Rattle.t1_font.proofs.Running.{follow, Leaves, Shortens, is_shorter}
 use Rattle.t1_font.proofs.Shorter.{clear_shortens, private_shortens}
 
-module _ {M : Type 0} (turn : Reader M) (ended : Refusal) (shortens : Shortens turn) (marks : Marks) where
+module _ {M : Type 0} (turn : Reader M) (ended : Unread) (shortens : Shortens turn) (marks : Marks) where
   enough : (n m : ℕ) (before : List Stated) (mode : M) (s : List ℕ) → length s < n → length s < m → stated_within turn ended marks n before mode s
       ≡ stated_within turn ended marks m before mode s
   unfolding stated_within
@@ -60,7 +60,7 @@ module _ {M : Type 0} (turn : Reader M) (ended : Refusal) (shortens : Shortens t
       → stated_in turn ended marks before mode s ≡ stated_in turn ended marks before mode text
   same_turn before mode s text h = step before mode s ∙ ap (λ r. r >>= follow (stated_in turn ended marks) before) h ∙ sym (step before mode text)
 
-  pub refused : (before : List Stated) (mode : M) (s : List ℕ) (e : Refusal) → turn (value_of marks before) mode s ≡ Err e
+  pub refused : (before : List Stated) (mode : M) (s : List ℕ) (e : Unread) → turn (value_of marks before) mode s ≡ Err e
       → stated_in turn ended marks before mode s ≡ Err e
   refused before mode s e h = step before mode s ∙ ap (λ r. r >>= follow (stated_in turn ended marks) before) h
 
@@ -68,7 +68,7 @@ module _ {M : Type 0} (turn : Reader M) (ended : Refusal) (shortens : Shortens t
       → stated_in turn ended marks before mode s ≡ Ok (record { stated = before; rest = rest })
   is_over before mode s rest h = step before mode s ∙ ap (λ r. r >>= follow (stated_in turn ended marks) before) h
 
-pub found : (ended : Refusal) (s : List ℕ) (t : Found) → token_of s ≡ Ok (Some t) → wanted ended s ≡ Ok t
+pub found : (ended : Unread) (s : List ℕ) (t : Found) → token_of s ≡ Ok (Some t) → wanted ended s ≡ Ok t
 unfolding wanted token_at
 found ended s t h =
     ap (λ (r : Result (Option Found) ScanError). elim r [
@@ -77,7 +77,7 @@ found ended s t h =
     ]) h
 
 -- Blanks and comments before what is due.
-wanted_behind : (ended : Refusal) (gap s : List ℕ) → is_gap false gap ≡ true → wanted ended (gap ++ s) ≡ wanted ended s
+wanted_behind : (ended : Unread) (gap s : List ℕ) → is_gap false gap ≡ true → wanted ended (gap ++ s) ≡ wanted ended s
 unfolding wanted token_at
 wanted_behind ended gap s h =
     ap (λ (r : Result (Option Found) ScanError). elim r [

@@ -11,8 +11,8 @@ use Rattle.t1_scan.specs.Texts.{BeginsWith, are_blanks}
 use Rattle.t1_scan.proofs.TokensFound.{ends_in_blanks}
 use Rattle.t1_font.specs.declared.mode.PrivateMode.{PrivateMode}
 use Rattle.t1_font.specs.declared.mode.PrivateMode.TheVariants.{Outside, Subrs}
-use Rattle.t1_font.specs.declared.refusal.Refusal.{Refusal}
-use Rattle.t1_font.specs.declared.refusal.Refusal.TheVariants.{BadSubrs}
+use Rattle.t1_font.specs.declared.unread.Unread.{Unread}
+use Rattle.t1_font.specs.declared.unread.Unread.TheVariants.{BadSubrs}
 use Rattle.t1_font.specs.Tokens.{token_at, inside_of, is_array_kind, is_number_kind, is_word_kind}
 use Rattle.t1_font.specs.Fonts.{Stated, Marks, FontValue, value_of, size, subr, size_of}
 use Rattle.t1_font.specs.TextTurns.{TextTurn, goes}
@@ -72,7 +72,7 @@ unfolding subr_at
 subr_is n number c s left is small good h = rw (natural_is BadSubrs 65534 n number is small, charstring_is BadSubrs c s left good h) refl
 
 -- A number after a dup begins a Subr.
-abbrev pub behind_dup : List ℕ → Option Found → Result (TextTurn PrivateMode) Refusal
+abbrev pub behind_dup : List ℕ → Option Found → Result (TextTurn PrivateMode) Unread
 behind_dup rest r = elim r [
   | None ↦ Ok (goes None Outside rest)
   | Some t ↦ if is_number_kind t.kind then subr_at t.kind t.rest else Ok (goes None Outside rest)

@@ -11,8 +11,8 @@ use Rattle.t1_font.specs.declared.mode.ClearMode.{ClearMode}
 use Rattle.t1_font.specs.declared.mode.ClearMode.TheVariants as clear_modes
 use Rattle.t1_font.specs.declared.mode.PrivateMode.{PrivateMode}
 use Rattle.t1_font.specs.declared.mode.PrivateMode.TheVariants.{Outside, Subrs, Glyphs}
-use Rattle.t1_font.specs.declared.refusal.Refusal.{Refusal}
-use Rattle.t1_font.specs.declared.refusal.Refusal.TheVariants.{BadCharStrings, BadSubrs, NoEexec, PastLimit}
+use Rattle.t1_font.specs.declared.unread.Unread.{Unread}
+use Rattle.t1_font.specs.declared.unread.Unread.TheVariants.{BadCharStrings, BadSubrs, NoEexec, PastLimit}
 use Rattle.t1_font.specs.Readings.{◌>>=◌}
 use Rattle.t1_font.specs.Keys.{same_name, private_key, clear_key, all_notes, clear_note, private_note}
 use Rattle.t1_font.specs.Tokens.{wanted, token_ahead, natural, whole, whole_up_to, is_number_kind, is_name_kind, is_word_kind, name_of, spells, past_word, charstring_at, ◌>?◌}
@@ -52,10 +52,10 @@ abbrev pub Keeps : {M : Type 0} → FontValue → TextTurn M → Type 0
 Keeps v = StatesFitting (Fits v)
 
 -- A number that was read is at most its limit.
-natural_fits : (bad : Refusal) (limit : ℕ) (kind : Kind) → IfOk (natural bad limit kind) (λ n. n ≤ limit)
+natural_fits : (bad : Unread) (limit : ℕ) (kind : Kind) → IfOk (natural bad limit kind) (λ n. n ≤ limit)
 unfolding natural
 natural_fits bad limit kind = elim (whole kind) as
-    (λ r. IfOk {E = Refusal} (elim r [ None ↦ Err bad | Some n ↦ if nat_lt limit n then Err PastLimit else Ok n ]) (λ n. n ≤ limit)) [
+    (λ r. IfOk {E = Unread} (elim r [ None ↦ Err bad | Some n ↦ if nat_lt limit n then Err PastLimit else Ok n ]) (λ n. n ≤ limit)) [
       | None ↦ tt
       | Some m ↦ (elim (cases_Bool (nat_lt limit m)) [
         | inl y ↦ rw y tt
@@ -177,7 +177,7 @@ module _ (v : FontValue) where
       glance (Keeps v) (array_at t.rest) (λ rest. Some (begins Custom clear_modes.Codes rest)) (λ rest. tt) in
       search (rules, which, custom))
 
-  encoding_turn_fits : (s : List ℕ) → IfOk {E = Refusal} (Ok (encoding_turn s)) (Keeps v)
+  encoding_turn_fits : (s : List ℕ) → IfOk {E = Unread} (Ok (encoding_turn s)) (Keeps v)
   unfolding encoding_turn
   encoding_turn_fits s = found_or (Keeps v) (encoding_at s) (begins Other clear_modes.Outside s) (encoding_at_fits s) tt
 

@@ -11,8 +11,8 @@ use Rattle.t1_scan.specs.Tokens.{Found}
 use Rattle.t1_scan.specs.Spelling.{Plain, word, spelled, meant}
 use Rattle.t1_scan.specs.Texts.{BeginsWith, lexeme_of}
 use Rattle.t1_scan.proofs.TextsRead.{reads_token}
-use Rattle.t1_font.specs.declared.refusal.Refusal.{Refusal}
-use Rattle.t1_font.specs.declared.refusal.Refusal.TheVariants.{PastLimit}
+use Rattle.t1_font.specs.declared.unread.Unread.{Unread}
+use Rattle.t1_font.specs.declared.unread.Unread.TheVariants.{PastLimit}
 use Rattle.t1_font.specs.declared.key.Key.{Key}
 use Rattle.t1_font.specs.Keys.{same_name}
 use Rattle.t1_font.specs.Tokens.{token_at, wanted, token_ahead, whole, whole_up_to, natural, is_word_kind, is_number_kind, past_word, raw_of, charstring_at}
@@ -27,7 +27,7 @@ use Rattle.t1_font.specs.Fonts.{plain}
 abbrev pub seen : Plain → List ℕ → Found
 seen t left = record { kind = meant t; text = spelled t; rest = left }
 
-pub wanted_is : (ended : Refusal) (s : List ℕ) (t : Plain) (left : List ℕ) → BeginsWith s t left → wanted ended s ≡ Ok (seen t left)
+pub wanted_is : (ended : Unread) (s : List ℕ) (t : Plain) (left : List ℕ) → BeginsWith s t left → wanted ended s ≡ Ok (seen t left)
 wanted_is ended s t left h = found ended s (seen t left) (reads_token s t left h)
 
 -- A noted key with the token behind it, and no key.
@@ -79,7 +79,7 @@ whole_up_to_kind limit n kind h le =
 pub whole_up_to_is : (limit n : ℕ) (t : Plain) → IsWhole t n → n ≤ limit → whole_up_to limit (meant t) ≡ Some n
 whole_up_to_is limit n t h le = whole_up_to_kind limit n (meant t) (whole_is t n h) le
 
-pub natural_is : (bad : Refusal) (limit n : ℕ) (t : Plain) → IsWhole t n → n ≤ limit → natural bad limit (meant t) ≡ Ok n
+pub natural_is : (bad : Unread) (limit n : ℕ) (t : Plain) → IsWhole t n → n ≤ limit → natural bad limit (meant t) ≡ Ok n
 unfolding natural
 natural_is bad limit n t h le =
     let within : nat_lt limit n ≡ false = grind (arith, nat_tests) in
@@ -92,7 +92,7 @@ pub whole_is_no_word : (t : Plain) (n : ℕ) → IsWhole t n → is_word_kind (m
 whole_is_no_word t n h = rw h refl
 
 -- A word that has to be here.
-pub past_word_is : (bad : Refusal) (bytes s left : List ℕ) → BeginsWith s (word bytes) left → past_word bad bytes s ≡ Ok left
+pub past_word_is : (bad : Unread) (bytes s left : List ℕ) → BeginsWith s (word bytes) left → past_word bad bytes s ≡ Ok left
 unfolding past_word
 past_word_is bad bytes s left h = rw (wanted_is bad s (word bytes) left h, name_exact.same bytes) refl
 
@@ -104,7 +104,7 @@ raw_is b bytes left =
     rw (room, one-add (length bytes)) (rw (take-append_seam bytes left, drop-append_seam bytes left) refl)
 
 -- The bytes of a charstring.
-pub charstring_is : (bad : Refusal) (c : Charstring) (s left : List ℕ) → IsCharstring c → IsWritten s (charstring_pieces c) left
+pub charstring_is : (bad : Unread) (c : Charstring) (s left : List ℕ) → IsCharstring c → IsWritten s (charstring_pieces c) left
     → charstring_at bad s ≡ Ok (c.bytes, left)
 unfolding charstring_at
 charstring_is bad c s left is h =

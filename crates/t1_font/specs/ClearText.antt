@@ -8,8 +8,8 @@ use Rattle.t1_font.specs.declared.encoding.Encoding.{Encoding}
 use Rattle.t1_font.specs.declared.encoding.Encoding.TheVariants.{Standard, Custom, Other}
 use Rattle.t1_font.specs.declared.mode.ClearMode.{ClearMode}
 use Rattle.t1_font.specs.declared.mode.ClearMode.TheVariants.{Outside, Codes}
-use Rattle.t1_font.specs.declared.refusal.Refusal.{Refusal}
-use Rattle.t1_font.specs.declared.refusal.Refusal.TheVariants.{NoEexec, MultipleMaster}
+use Rattle.t1_font.specs.declared.unread.Unread.{Unread}
+use Rattle.t1_font.specs.declared.unread.Unread.TheVariants.{NoEexec, MultipleMaster}
 use Rattle.t1_font.specs.Readings.{◌>>=◌}
 use Rattle.t1_font.specs.declared.key.Key.{Key}
 use Rattle.t1_font.specs.Keys.{Notes, all_notes, clear_key, same_name}
@@ -21,7 +21,7 @@ use Rattle.t1_font.specs.Bounds.{code_count}
 use Rattle.t1_scan.specs.Numbers.{billion}
 
 -- A plain key takes the next token as its value, whatever it is; a noted one looks at it.
-unfoldable pub clear_value : Notes → Option Key → List ℕ → List ℕ → Result (TextTurn ClearMode) Refusal
+unfoldable pub clear_value : Notes → Option Key → List ℕ → List ℕ → Result (TextTurn ClearMode) Unread
 clear_value notes None text rest = Ok (goes (noted (notes.clear text) rest) Outside rest)
 clear_value notes (Some k) text rest =
     wanted NoEexec rest >>= λ t.
@@ -52,7 +52,7 @@ unfoldable pub encoding_turn : List ℕ → TextTurn ClearMode
 encoding_turn s = elim (encoding_at s) [ Some t ↦ t | None ↦ begins Other Outside s ]
 
 -- A token outside a custom encoding, and what follows it.
-unfoldable pub clear_outside_by : Notes → Kind → List ℕ → List ℕ → Result (TextTurn ClearMode) Refusal
+unfoldable pub clear_outside_by : Notes → Kind → List ℕ → List ℕ → Result (TextTurn ClearMode) Unread
 clear_outside_by notes kind text rest =
     if spells (codes "eexec") kind text then Ok (over rest)
     else if not (is_name_kind kind) then Ok (pass Outside rest)
@@ -60,7 +60,7 @@ clear_outside_by notes kind text rest =
     else if same_name text (codes "/Encoding") then Ok (encoding_turn rest)
     else clear_value notes (clear_key text) text rest
 
-abbrev pub clear_outside : Kind → List ℕ → List ℕ → Result (TextTurn ClearMode) Refusal
+abbrev pub clear_outside : Kind → List ℕ → List ℕ → Result (TextTurn ClearMode) Unread
 clear_outside kind text rest = clear_outside_by all_notes kind text rest
 
 -- A code with its name; one that isn't whole from 0 to 255 sets nothing.
@@ -91,13 +91,13 @@ code_token kind text rest =
     else pass Codes rest
 
 -- A turn of the clear text, where these keys are noted.
-unfoldable pub clear_turn_by : Notes → FontValue → ClearMode → List ℕ → Result (TextTurn ClearMode) Refusal
+unfoldable pub clear_turn_by : Notes → FontValue → ClearMode → List ℕ → Result (TextTurn ClearMode) Unread
 clear_turn_by notes v mode s = wanted NoEexec s >>= λ t. elim mode [
   | Outside ↦ clear_outside_by notes t.kind t.text t.rest
   | Codes ↦ Ok (code_token t.kind t.text t.rest)
 ]
 
-abbrev pub clear_turn : FontValue → ClearMode → List ℕ → Result (TextTurn ClearMode) Refusal
+abbrev pub clear_turn : FontValue → ClearMode → List ℕ → Result (TextTurn ClearMode) Unread
 clear_turn = clear_turn_by all_notes
 
 -- The bytes begin with %!, as those of a PFA file do.
@@ -105,9 +105,9 @@ abbrev pub begins_as_font : List ℕ → Bool
 begins_as_font = begins_pfa
 
 -- What is stated in the clear text, and what follows the word eexec.
-unfoldable pub clear_of_by : Notes → Marks → List ℕ → Result TextRead Refusal
+unfoldable pub clear_of_by : Notes → Marks → List ℕ → Result TextRead Unread
 clear_of_by notes marks s =
     if begins_as_font s then stated_in (clear_turn_by notes) NoEexec marks [] Outside s else Err NoEexec
 
-abbrev pub clear_of : Marks → List ℕ → Result TextRead Refusal
+abbrev pub clear_of : Marks → List ℕ → Result TextRead Unread
 clear_of marks s = clear_of_by all_notes marks s

@@ -9,10 +9,8 @@ use Rattle.t1_font.specs.ClearText.{clear_of}
 use Rattle.t1_font.specs.Fonts.{Stated, Marks, FontValue}
 use Rattle.t1_font.specs.Texts.{font_read}
 use Rattle.t1_font.specs.TextTurns.{TextRead}
-use Rattle.t1_font.specs.declared.refusal.Refusal.{Refusal}
-use Rattle.t1_font.specs.declared.refusal.Refusal.TheVariants as refusal
 use Rattle.t1_font.specs.declared.unread.Unread.{Unread}
-use Rattle.t1_font.specs.declared.unread.Unread.TheVariants.{NotAFont, BadHeader, CutShort, NoEexec, TooShort, Unclosed, BadSubrs, BadCharStrings, BadLenIv, PastLimit, SecondSubrs, MultipleMaster, Memory}
+use Rattle.t1_font.specs.declared.unread.Unread.TheVariants.{NotAFont, BadHeader, CutShort, TooShort, Memory}
 
 -- A fault of the segments or of the encrypted section.
 abbrev pub of_seal_error : SealError → Unread
@@ -22,36 +20,19 @@ of_seal_error seal.CutShort = CutShort
 of_seal_error seal.TooShort = TooShort
 of_seal_error seal.Memory = Memory
 
--- A fault of the clear text or of the private text.
-abbrev pub of_refusal : Refusal → Unread
-of_refusal refusal.NoEexec = NoEexec
-of_refusal refusal.Unclosed = Unclosed
-of_refusal refusal.BadSubrs = BadSubrs
-of_refusal refusal.BadCharStrings = BadCharStrings
-of_refusal refusal.BadLenIv = BadLenIv
-of_refusal refusal.PastLimit = PastLimit
-of_refusal refusal.SecondSubrs = SecondSubrs
-of_refusal refusal.MultipleMaster = MultipleMaster
-of_refusal refusal.Memory = Memory
-
 -- The marks of the row of segments.
 abbrev pub marks_in : JoinedText → Marks
 marks_in joined = record { no_end = joined.pfb && not joined.end_segment; extra = joined.trailing }
 
--- The font that was read, or the program's word for why none was.
-abbrev pub as_unread : Result FontValue Refusal → Result FontValue Unread
-as_unread (Ok font) = Ok font
-as_unread (Err e) = Err (of_refusal e)
-
 -- The private text, which the encrypted section opens to.
 abbrev pub private_next : Marks → List Stated → Result (List ℕ) SealError → Result FontValue Unread
-private_next marks before (Ok text) = as_unread (font_read marks before text)
+private_next marks before (Ok text) = font_read marks before text
 private_next marks before (Err e) = Err (of_seal_error e)
 
 -- The encrypted section, which follows the word eexec of the clear text.
-abbrev pub section_next : Marks → Result TextRead Refusal → Result FontValue Unread
+abbrev pub section_next : Marks → Result TextRead Unread → Result FontValue Unread
 section_next marks (Ok clear) = private_next marks clear.stated (private_text_of clear.rest)
-section_next marks (Err e) = Err (of_refusal e)
+section_next marks (Err e) = Err e
 
 -- The clear text, with which joined bytes begin.
 abbrev pub text_in : JoinedText → Result FontValue Unread

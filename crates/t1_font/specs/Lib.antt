@@ -11,6 +11,7 @@ pub mod Private
 pub mod PrivateText
 pub mod Puts
 pub mod Readings
+pub mod Refusals
 pub mod Runs
 pub mod TextTurns
 pub mod Texts

@@ -4,8 +4,8 @@ use Rattle.t1_scan.specs.declared.error.ScanError.{ScanError}
 use Rattle.t1_scan.specs.declared.token.Kind.{Kind}
 use Rattle.t1_scan.specs.declared.token.Kind.TheVariants.{Number, Name, Word, Array}
 use Rattle.t1_scan.specs.Tokens.{Found, token_of}
-use Rattle.t1_font.specs.declared.refusal.Refusal.{Refusal}
-use Rattle.t1_font.specs.declared.refusal.Refusal.TheVariants.{Unclosed, PastLimit}
+use Rattle.t1_font.specs.declared.unread.Unread.{Unread}
+use Rattle.t1_font.specs.declared.unread.Unread.TheVariants.{Unclosed, PastLimit}
 use Rattle.t1_font.specs.Readings.{◌>>=◌}
 use Rattle.t1_font.specs.Keys.{same_name}
 use Rattle.t1_font.specs.Bounds.{longest_charstring}
@@ -16,7 +16,7 @@ unfoldable pub token_at : List ℕ → Result (Option Found) ScanError
 token_at s = token_of s
 
 -- A token that is needed. One that isn't closed is refused as such, the end of the text as `ended` says.
-unfoldable pub wanted : Refusal → List ℕ → Result Found Refusal
+unfoldable pub wanted : Unread → List ℕ → Result Found Unread
 wanted ended s = elim (token_at s) [
   | Err _ ↦ Err Unclosed
   | Ok found ↦ elim found [ None ↦ Err ended | Some t ↦ Ok t ]
@@ -63,7 +63,7 @@ unfoldable pub whole_up_to : ℕ → Kind → Option ℕ
 whole_up_to limit kind = whole kind >? λ n. if nat_lt limit n then None else Some n
 
 -- A whole number of 0 or more that is needed, at most this limit.
-unfoldable pub natural : Refusal → ℕ → Kind → Result ℕ Refusal
+unfoldable pub natural : Unread → ℕ → Kind → Result ℕ Unread
 natural bad limit kind = elim (whole kind) [
   | None ↦ Err bad
   | Some n ↦ if nat_lt limit n then Err PastLimit else Ok n
@@ -73,7 +73,7 @@ natural bad limit kind = elim (whole kind) [
 unfoldable pub raw_of : ℕ → List ℕ → Option (List ℕ × List ℕ)
 raw_of len s = if nat_lt (length s) (1 + len) then None else Some (take len (drop 1 s), drop (1 + len) s)
 
-abbrev pub some_raw : Refusal → Option (List ℕ × List ℕ) → Result (List ℕ × List ℕ) Refusal
+abbrev pub some_raw : Unread → Option (List ℕ × List ℕ) → Result (List ℕ × List ℕ) Unread
 some_raw bad None = Err bad
 some_raw bad (Some p) = Ok p
 
@@ -82,11 +82,11 @@ abbrev pub spells : List ℕ → Kind → List ℕ → Bool
 spells word kind text = is_word_kind kind && same_name text word
 
 -- What follows a word that has to be here.
-unfoldable pub past_word : Refusal → List ℕ → List ℕ → Result (List ℕ) Refusal
+unfoldable pub past_word : Unread → List ℕ → List ℕ → Result (List ℕ) Unread
 past_word bad word s = wanted bad s >>= λ t. if spells word t.kind t.text then Ok t.rest else Err bad
 
 -- The bytes of a charstring: their count, any word, one byte, and so many; and the rest.
-unfoldable pub charstring_at : Refusal → List ℕ → Result (List ℕ × List ℕ) Refusal
+unfoldable pub charstring_at : Unread → List ℕ → Result (List ℕ × List ℕ) Unread
 charstring_at bad s =
     wanted bad s >>= λ count. natural bad longest_charstring count.kind >>= λ len.
     wanted bad count.rest >>= λ word.

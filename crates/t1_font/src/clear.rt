@@ -10,7 +10,7 @@ ghost use Rattle.t1_seal.specs.Joined.{joined_text};
 ghost use Rattle.t1_font.specs.TextTurns.{TextRead};
 
 use crate::font::Font;
-use crate::refusal::Refusal;
+use crate::unread::Unread;
 use crate::texts::{take_clear, take_private};
 use std::alloc::Global;
 use std::marker::Model;
@@ -59,7 +59,7 @@ fn begins_as_font(text: &[u8]) -> bool
 }
 
 /// Reads the clear text of a font, up to its word `eexec`.
-pub fn read_clear<'a>(alloc: Global, joined: &'a Joined) -> Result<Clear<'a>, Refusal>
+pub fn read_clear<'a>(alloc: Global, joined: &'a Joined) -> Result<Clear<'a>, Unread>
     ensures gives { Reads (λ c. c) result (clear_read (marks_in (joined_text joined.now)) joined.now.bytes.items) }
     ensures within { IfOk result (λ clear. clear.after ≤ length joined.now.bytes.items) }
     ensures behind { IfOk result (λ clear. (read : TextRead) →
@@ -68,7 +68,7 @@ pub fn read_clear<'a>(alloc: Global, joined: &'a Joined) -> Result<Clear<'a>, Re
 {
     let text = joined.bytes.as_slice();
     if !begins_as_font(text) {
-        return Err(Refusal::NoEexec);
+        return Err(Unread::NoEexec);
     }
     let no_end = joined.pfb & !joined.end_segment;
     let mut font = Font::new(alloc, no_end, joined.trailing);
@@ -85,7 +85,7 @@ pub fn read_clear<'a>(alloc: Global, joined: &'a Joined) -> Result<Clear<'a>, Re
 
 /// Reads the private text of a font, up to the `end` of its CharStrings, over what its clear text
 /// states. The font's maps grow by the allocator that `read_clear` was given.
-pub fn read_font<'a>(_alloc: Global, clear: Clear<'a>, text: &'a [u8]) -> Result<Font<'a>, Refusal>
+pub fn read_font<'a>(_alloc: Global, clear: Clear<'a>, text: &'a [u8]) -> Result<Font<'a>, Unread>
     ensures run { Reads (λ f. f) result (font_after clear.entry.font text.now) }
     ensures stated { (marks : Marks) (before : List Stated) → clear.entry.font ≡ value_of marks before →
         Reads (λ f. f) result (font_read marks before text.now) }

@@ -12,21 +12,21 @@ use crate::bounds::CODES;
 use crate::encoding::Encoding;
 use crate::key::{clear_key, clear_note};
 use crate::mode::ClearMode;
-use crate::refusal::Refusal;
+use crate::unread::Unread;
 use crate::statement::{Statement, Turn, noted};
 use crate::tokens::{BILLION, is_name, is_number, is_word, name, token_ahead, wanted, whole_up_to};
 use t1_scan::Kind;
 
 /// Takes a plain key's value, whatever it is, and looks at a noted key's.
 #[tactic(auto, unfolding(crate::specs::ClearText::clear_value))]
-fn clear_value<'a>(name: &[u8], text: &'a [u8]) -> Result<Turn<'a, ClearMode>, Refusal>
+fn clear_value<'a>(name: &[u8], text: &'a [u8]) -> Result<Turn<'a, ClearMode>, Unread>
     ensures { Is turn_view result (clear_value all_notes (clear_key name.now) name.now text.now) }
 {
     let Some(key) = clear_key(name) else {
         let value = noted(clear_note(name), text);
         return Ok(Turn::Goes(value, ClearMode::Outside, text));
     };
-    let (value, rest) = wanted(text, Refusal::NoEexec)?;
+    let (value, rest) = wanted(text, Unread::NoEexec)?;
     Ok(Turn::Goes(Some(Statement::Plain(key, value)), ClearMode::Outside, rest))
 }
 
@@ -98,7 +98,7 @@ fn clear_outside<'a>(
     kind: Kind,
     text: &'a [u8],
     rest: &'a [u8],
-) -> Result<Turn<'a, ClearMode>, Refusal>
+) -> Result<Turn<'a, ClearMode>, Unread>
     ensures { Is turn_view result (clear_outside kind text.now rest.now) }
 {
     if is_word(b"eexec", kind, text) {
@@ -108,7 +108,7 @@ fn clear_outside<'a>(
         return Ok(Turn::Goes(None, ClearMode::Outside, rest));
     }
     if text == b"/WeightVector".as_slice() {
-        return Err(Refusal::MultipleMaster);
+        return Err(Unread::MultipleMaster);
     }
     if text == b"/Encoding".as_slice() {
         return Ok(encoding_turn(rest));
@@ -181,10 +181,10 @@ fn code_token<'a>(kind: Kind, text: &'a [u8], rest: &'a [u8]) -> Turn<'a, ClearM
 pub(crate) fn clear_turn<'a>(
     mode: ClearMode,
     text: &'a [u8],
-) -> Result<Turn<'a, ClearMode>, Refusal>
+) -> Result<Turn<'a, ClearMode>, Unread>
     ensures { (v : FontValue) → Is turn_view result (clear_turn v mode text.now) }
 {
-    let (token, rest) = wanted(text, Refusal::NoEexec)?;
+    let (token, rest) = wanted(text, Unread::NoEexec)?;
     match mode {
         ClearMode::Outside => clear_outside(token.kind, token.text, rest),
         ClearMode::Codes => Ok(code_token(token.kind, token.text, rest)),

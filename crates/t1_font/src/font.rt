@@ -14,14 +14,14 @@ ghost use Rattle.t1_font.specs.Private.Statements.{lexeme_of, statement_view, vi
 ghost use Rattle.t1_font.specs.Values.{absent};
 ghost use Rattle.t1_font.specs.Views.{bytes_of, name_pair, number_pair};
 ghost use Rattle.t1_font.specs.declared.key.Key.TheVariants.{LenIv};
-ghost use Rattle.t1_font.specs.declared.refusal.Refusal.TheVariants.{Memory};
+ghost use Rattle.t1_font.specs.declared.unread.Unread.TheVariants.{Memory};
 ghost use Rattle.t1_font.specs.Bounds.{most_glyphs};
 
 use crate::encoding::Encoding;
 use crate::entry::{Entry, value};
 use crate::key::Key;
 use crate::plain_values::PlainValues;
-use crate::refusal::Refusal;
+use crate::unread::Unread;
 use crate::statement::Statement;
 use indexmap::{IndexMap, IndexSet};
 use std::alloc::Global;
@@ -240,7 +240,7 @@ impl<'a> Font<'a> {
 
     /// Takes what a text states. Where memory is wanting the font is of no more use.
     #[inline(always)]
-    pub(crate) fn put_one(&mut self, statement: Option<Statement<'a>>) -> Result<(), Refusal>
+    pub(crate) fn put_one(&mut self, statement: Option<Statement<'a>>) -> Result<(), Unread>
         requires { HasRoomFor self.old (view_if_any statement) }
         ensures ok { OnOk result (self.new ≡ put_one self.old (view_if_any statement.entry)) }
         ensures memory { IfErr result (λ e. e ≡ Memory) }
@@ -252,7 +252,7 @@ impl<'a> Font<'a> {
     }
 
     #[inline(never)]
-    fn put(&mut self, statement: Statement<'a>) -> Result<(), Refusal>
+    fn put(&mut self, statement: Statement<'a>) -> Result<(), Unread>
         requires { HasRoomFor self.old (Some (statement_view statement)) }
         ensures ok { OnOk result (self.new ≡ put self.old (statement_view statement.entry)) }
         ensures memory { IfErr result (λ e. e ≡ Memory) }
@@ -295,7 +295,7 @@ impl<'a> Font<'a> {
     }
 
     #[tactic(auto, using(crate::proofs::FontMaps::number_put))]
-    fn put_code(&mut self, number: u32, name: &'a [u8]) -> Result<(), Refusal>
+    fn put_code(&mut self, number: u32, name: &'a [u8]) -> Result<(), Unread>
         ensures ok { OnOk result (self.new ≡ put self.old (code number name.now)) }
         ensures memory { IfErr result (λ e. e ≡ Memory) }
     {
@@ -303,7 +303,7 @@ impl<'a> Font<'a> {
         Ok(())
     }
 
-    fn put_subr(&mut self, number: u32, bytes: &'a [u8]) -> Result<(), Refusal>
+    fn put_subr(&mut self, number: u32, bytes: &'a [u8]) -> Result<(), Unread>
         ensures ok { OnOk result (self.new ≡ put self.old (subr number bytes.now)) }
         ensures memory { IfErr result (λ e. e ≡ Memory) }
     {
@@ -314,7 +314,7 @@ impl<'a> Font<'a> {
         Ok(())
     }
 
-    fn put_glyph(&mut self, name: &'a [u8], bytes: &'a [u8]) -> Result<(), Refusal>
+    fn put_glyph(&mut self, name: &'a [u8], bytes: &'a [u8]) -> Result<(), Unread>
         requires { HasRoom self.old name.now }
         ensures ok { OnOk result (self.new ≡ put self.old (glyph name.now bytes.now)) }
         ensures memory { IfErr result (λ e. e ≡ Memory) }

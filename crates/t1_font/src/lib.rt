@@ -34,7 +34,6 @@ mod mode;
 mod open_font;
 mod plain_values;
 mod private_text;
-mod refusal;
 mod refusal_laws;
 mod statement;
 mod texts;
@@ -57,11 +56,10 @@ pub use laws::{
 };
 pub use limit_laws::limits_of_fonts;
 pub use open_font::OpenFont;
-pub use refusal::Refusal;
 pub use refusal_laws::{
     each_part_has_its_refusals, early_ends, long_charstrings, refusals_of_texts,
     small_broken_texts, unclosed_tokens,
 };
 pub use tokens::BILLION;
-pub use unread::Unread;
+pub use unread::{RefusalCode, Unread, refusal_text};
 pub use value_laws::lists_by_tokens;

@@ -10,7 +10,7 @@ use crate::bounds::{GREATEST_LEN_IV, MOST_GLYPHS, MOST_SUBRS};
 use crate::font::Font;
 use crate::key::{Key, private_key, private_note};
 use crate::mode::PrivateMode;
-use crate::refusal::Refusal;
+use crate::unread::Unread;
 use crate::statement::{Statement, Turn, noted};
 use crate::tokens::{
     BILLION, charstring, first, inside, is_any_word, is_array, is_name, is_number, is_word, name,
@@ -48,7 +48,7 @@ fn is_len_iv_key(key: Key) -> bool
 
 /// Takes a plain key's value, and looks at a noted key's.
 #[tactic(auto, unfolding(crate::specs::PrivateText::private_value))]
-fn private_value<'a>(name: &[u8], text: &'a [u8]) -> Result<Turn<'a, PrivateMode>, Refusal>
+fn private_value<'a>(name: &[u8], text: &'a [u8]) -> Result<Turn<'a, PrivateMode>, Unread>
     ensures { Is turn_view result (private_value all_notes (private_key name.now) name.now text.now) }
 {
     let Some(key) = private_key(name) else {
@@ -56,13 +56,13 @@ fn private_value<'a>(name: &[u8], text: &'a [u8]) -> Result<Turn<'a, PrivateMode
         return Ok(Turn::Goes(value, PrivateMode::Outside, text));
     };
     let ended = if is_len_iv_key(key) {
-        Refusal::BadLenIv
+        Unread::BadLenIv
     } else {
-        Refusal::BadCharStrings
+        Unread::BadCharStrings
     };
     let (value, rest) = wanted(text, ended)?;
     if is_len_iv_key(key) && !is_len_iv(value.kind) {
-        return Err(Refusal::BadLenIv);
+        return Err(Unread::BadLenIv);
     }
     Ok(Turn::Goes(
         Some(Statement::Plain(key, value)),
@@ -85,28 +85,28 @@ fn is_blank_text(text: &[u8]) -> bool
 
 /// The head of the Subrs: an array with nothing in it, or a count and the word `array`.
 #[tactic(auto, unfolding(crate::specs::PrivateText::subrs_at))]
-fn subrs_at<'a>(text: &'a [u8]) -> Result<Turn<'a, PrivateMode>, Refusal>
+fn subrs_at<'a>(text: &'a [u8]) -> Result<Turn<'a, PrivateMode>, Unread>
     ensures { Is turn_view result (subrs_at text.now) }
 {
-    let (token, rest) = wanted(text, Refusal::BadSubrs)?;
+    let (token, rest) = wanted(text, Unread::BadSubrs)?;
     if is_array(token.kind) {
         if !is_blank_text(inside(token.text)) {
-            return Err(Refusal::BadSubrs);
+            return Err(Unread::BadSubrs);
         }
         return Ok(Turn::Goes(Some(Statement::Size(0)), PrivateMode::Outside, rest));
     }
-    let size = natural(Refusal::BadSubrs, MOST_SUBRS, token.kind)?;
-    let rest = past_word(rest, Refusal::BadSubrs, b"array")?;
+    let size = natural(Unread::BadSubrs, MOST_SUBRS, token.kind)?;
+    let rest = past_word(rest, Unread::BadSubrs, b"array")?;
     Ok(Turn::Goes(Some(Statement::Size(size)), PrivateMode::Subrs, rest))
 }
 
 /// What follows `/Subrs`, which may be there once.
 #[tactic(auto, unfolding(crate::specs::PrivateText::subrs_turn))]
-fn subrs_turn<'a>(font: &Font<'a>, text: &'a [u8]) -> Result<Turn<'a, PrivateMode>, Refusal>
+fn subrs_turn<'a>(font: &Font<'a>, text: &'a [u8]) -> Result<Turn<'a, PrivateMode>, Unread>
     ensures { Is turn_view result (subrs_turn font.now text.now) }
 {
     if font.has_size() {
-        Err(Refusal::SecondSubrs)
+        Err(Unread::SecondSubrs)
     } else {
         subrs_at(text)
     }
@@ -114,14 +114,14 @@ fn subrs_turn<'a>(font: &Font<'a>, text: &'a [u8]) -> Result<Turn<'a, PrivateMod
 
 /// The head of the CharStrings.
 #[tactic(auto, unfolding(crate::specs::PrivateText::glyphs_at))]
-fn glyphs_at<'a>(text: &'a [u8]) -> Result<Turn<'a, PrivateMode>, Refusal>
+fn glyphs_at<'a>(text: &'a [u8]) -> Result<Turn<'a, PrivateMode>, Unread>
     ensures { Is turn_view result (glyphs_at text.now) }
 {
-    let (count, rest) = wanted(text, Refusal::BadCharStrings)?;
-    natural(Refusal::BadCharStrings, MOST_GLYPHS, count.kind)?;
-    let rest = past_word(rest, Refusal::BadCharStrings, b"dict")?;
-    let rest = past_word(rest, Refusal::BadCharStrings, b"dup")?;
-    let rest = past_word(rest, Refusal::BadCharStrings, b"begin")?;
+    let (count, rest) = wanted(text, Unread::BadCharStrings)?;
+    natural(Unread::BadCharStrings, MOST_GLYPHS, count.kind)?;
+    let rest = past_word(rest, Unread::BadCharStrings, b"dict")?;
+    let rest = past_word(rest, Unread::BadCharStrings, b"dup")?;
+    let rest = past_word(rest, Unread::BadCharStrings, b"begin")?;
     Ok(Turn::Goes(None, PrivateMode::Glyphs, rest))
 }
 
@@ -132,7 +132,7 @@ fn private_outside<'a>(
     kind: Kind,
     text: &'a [u8],
     rest: &'a [u8],
-) -> Result<Turn<'a, PrivateMode>, Refusal>
+) -> Result<Turn<'a, PrivateMode>, Unread>
     ensures { Is turn_view result (private_outside font.now kind text.now rest.now) }
 {
     if !is_name(kind) {
@@ -149,11 +149,11 @@ fn private_outside<'a>(
 
 /// A Subr, after its `dup` and its number.
 #[tactic(auto, unfolding(crate::specs::PrivateText::subr_at))]
-fn subr_at<'a>(kind: Kind, text: &'a [u8]) -> Result<Turn<'a, PrivateMode>, Refusal>
+fn subr_at<'a>(kind: Kind, text: &'a [u8]) -> Result<Turn<'a, PrivateMode>, Unread>
     ensures { Is turn_view result (subr_at kind text.now) }
 {
-    let number = natural(Refusal::BadSubrs, LAST_SUBR, kind)?;
-    let (bytes, rest) = charstring(text, Refusal::BadSubrs)?;
+    let number = natural(Unread::BadSubrs, LAST_SUBR, kind)?;
+    let (bytes, rest) = charstring(text, Unread::BadSubrs)?;
     Ok(Turn::Goes(
         Some(Statement::Subr(number, bytes)),
         PrivateMode::Subrs,
@@ -163,7 +163,7 @@ fn subr_at<'a>(kind: Kind, text: &'a [u8]) -> Result<Turn<'a, PrivateMode>, Refu
 
 /// What follows a `dup` of the Subrs: one without a number ends them.
 #[tactic(auto, unfolding(crate::specs::PrivateText::dup_turn, crate::specs::Tokens::token_ahead))]
-fn dup_turn<'a>(text: &'a [u8]) -> Result<Turn<'a, PrivateMode>, Refusal>
+fn dup_turn<'a>(text: &'a [u8]) -> Result<Turn<'a, PrivateMode>, Unread>
     ensures { Is turn_view result (dup_turn text.now) }
 {
     let Ok(Some((token, rest))) = first(text) else {
@@ -182,7 +182,7 @@ fn subrs_token<'a>(
     kind: Kind,
     text: &'a [u8],
     rest: &'a [u8],
-) -> Result<Turn<'a, PrivateMode>, Refusal>
+) -> Result<Turn<'a, PrivateMode>, Unread>
     ensures { Is turn_view result (subrs_token font.now kind text.now rest.now) }
 {
     if is_word(b"dup", kind, text) {
@@ -200,13 +200,13 @@ fn glyph_turn<'a>(
     font: &Font<'a>,
     name: &'a [u8],
     text: &'a [u8],
-) -> Result<Turn<'a, PrivateMode>, Refusal>
+) -> Result<Turn<'a, PrivateMode>, Unread>
     ensures { Is turn_view result (glyph_turn font.now name.now text.now) }
 {
     if font.glyph_count() >= MOST_GLYPHS as usize && !font.has_glyph(name) {
-        return Err(Refusal::PastLimit);
+        return Err(Unread::PastLimit);
     }
-    let (bytes, rest) = charstring(text, Refusal::BadCharStrings)?;
+    let (bytes, rest) = charstring(text, Unread::BadCharStrings)?;
     Ok(Turn::Goes(
         Some(Statement::Glyph(name, bytes)),
         PrivateMode::Glyphs,
@@ -221,7 +221,7 @@ fn glyphs_token<'a>(
     kind: Kind,
     text: &'a [u8],
     rest: &'a [u8],
-) -> Result<Turn<'a, PrivateMode>, Refusal>
+) -> Result<Turn<'a, PrivateMode>, Unread>
     ensures { Is turn_view result (glyphs_token font.now kind text.now rest.now) }
 {
     if is_word(b"end", kind, text) {
@@ -233,7 +233,7 @@ fn glyphs_token<'a>(
     if is_name(kind) {
         return glyph_turn(font, name(text), rest);
     }
-    Err(Refusal::BadCharStrings)
+    Err(Unread::BadCharStrings)
 }
 
 /// One turn of the private text.
@@ -242,10 +242,10 @@ pub(crate) fn private_turn<'a>(
     font: &Font<'a>,
     mode: PrivateMode,
     text: &'a [u8],
-) -> Result<Turn<'a, PrivateMode>, Refusal>
+) -> Result<Turn<'a, PrivateMode>, Unread>
     ensures { Is turn_view result (private_turn font.now mode text.now) }
 {
-    let (token, rest) = wanted(text, Refusal::BadCharStrings)?;
+    let (token, rest) = wanted(text, Unread::BadCharStrings)?;
     match mode {
         PrivateMode::Outside => private_outside(font, token.kind, token.text, rest),
         PrivateMode::Subrs => subrs_token(font, token.kind, token.text, rest),

@@ -3,7 +3,7 @@
 ghost use Rattle.std.specs.Prelude.{◌≡◌, List, OnOk};
 ghost use Rattle.t1_font.specs.declared.mode.ClearMode.TheVariants as clear_modes;
 ghost use Rattle.t1_font.specs.declared.mode.PrivateMode.TheVariants.{Outside};
-ghost use Rattle.t1_font.specs.declared.refusal.Refusal.TheVariants.{BadCharStrings, NoEexec};
+ghost use Rattle.t1_font.specs.declared.unread.Unread.TheVariants.{BadCharStrings, NoEexec};
 ghost use Rattle.t1_font.specs.ClearText.{clear_turn};
 ghost use Rattle.t1_font.specs.PrivateText.{private_turn};
 ghost use Rattle.t1_font.specs.Readings.{Reads};
@@ -14,11 +14,11 @@ use crate::clear_text::clear_turn;
 use crate::font::Font;
 use crate::mode::{ClearMode, PrivateMode};
 use crate::private_text::private_turn;
-use crate::refusal::Refusal;
+use crate::unread::Unread;
 use crate::statement::Turn;
 
 /// Takes what the clear text states, and returns what follows its word `eexec`.
-pub(crate) fn take_clear<'a>(font: &mut Font<'a>, text: &'a [u8]) -> Result<&'a [u8], Refusal>
+pub(crate) fn take_clear<'a>(font: &mut Font<'a>, text: &'a [u8]) -> Result<&'a [u8], Unread>
     ensures { Reads (λ rest. record { value = font.new; rest = rest.now }) result
         (run_of clear_turn NoEexec font.old clear_modes.Outside text.now) }
 {
@@ -37,7 +37,7 @@ pub(crate) fn take_clear<'a>(font: &mut Font<'a>, text: &'a [u8]) -> Result<&'a 
 }
 
 /// Takes what the private text states.
-pub(crate) fn take_private<'a>(font: &mut Font<'a>, text: &'a [u8]) -> Result<(), Refusal>
+pub(crate) fn take_private<'a>(font: &mut Font<'a>, text: &'a [u8]) -> Result<(), Unread>
     ensures { Reads (λ _. font.new) result (font_after font.old text.now) }
 {
     let mut left = text;

@@ -7,7 +7,7 @@ ghost use Rattle.t1_font.specs.Tokens.{charstring_at, inside_of, is_array_kind, 
 ghost use Rattle.t1_font.specs.Private.Tokens.{IsFirst, Sees, found_of};
 
 use crate::bounds::LONGEST_CHARSTRING;
-use crate::refusal::Refusal;
+use crate::unread::Unread;
 use t1_scan::{Kind, ScanError, Scanner, Token};
 
 /// A number's value is counted in billionths.
@@ -32,13 +32,13 @@ pub(crate) fn first<'a>(text: &'a [u8]) -> Result<Option<(Token<'a>, &'a [u8])>,
 /// The token that has to follow; where the text is over, the refusal is `ended`.
 #[tactic(auto, unfolding(crate::specs::Tokens::wanted))]
 #[inline(always)]
-pub(crate) fn wanted<'a>(text: &'a [u8], ended: Refusal) -> Result<(Token<'a>, &'a [u8]), Refusal>
+pub(crate) fn wanted<'a>(text: &'a [u8], ended: Unread) -> Result<(Token<'a>, &'a [u8]), Unread>
     ensures { Is (λ p. found_of p.0 p.1.now) result (wanted ended text.now) }
 {
     match first(text) {
         Ok(Some(found)) => Ok(found),
         Ok(None) => Err(ended),
-        Err(ScanError::Unclosed) => Err(Refusal::Unclosed),
+        Err(ScanError::Unclosed) => Err(Unread::Unclosed),
     }
 }
 
@@ -117,21 +117,21 @@ pub(crate) fn whole_up_to(limit: u32, kind: Kind) -> Option<u32>
 
 /// The whole number of 0 or more, at most the limit, that must be here.
 #[tactic(auto, unfolding(crate::specs::Tokens::natural))]
-pub(crate) fn natural(bad: Refusal, limit: u32, kind: Kind) -> Result<u32, Refusal>
+pub(crate) fn natural(bad: Unread, limit: u32, kind: Kind) -> Result<u32, Unread>
     ensures { Is (λ n. n) result (natural bad limit kind) }
 {
     let Some(whole) = whole(kind) else {
         return Err(bad);
     };
     if whole > u64::from(limit) {
-        return Err(Refusal::PastLimit);
+        return Err(Unread::PastLimit);
     }
     Ok(whole as u32)
 }
 
 /// Skips one byte of any value, and returns so many that follow it, and what is left.
 #[tactic(auto, unfolding(crate::specs::Tokens::raw_of))]
-fn raw<'a>(text: &'a [u8], bad: Refusal, len: u32) -> Result<(&'a [u8], &'a [u8]), Refusal>
+fn raw<'a>(text: &'a [u8], bad: Unread, len: u32) -> Result<(&'a [u8], &'a [u8]), Unread>
     ensures { Is (λ p. (p.0.now, p.1.now)) result (some_raw bad (raw_of len text.now)) }
 {
     let len = len as usize;
@@ -143,7 +143,7 @@ fn raw<'a>(text: &'a [u8], bad: Refusal, len: u32) -> Result<(&'a [u8], &'a [u8]
 
 /// Returns what is left after a word that must be here.
 #[tactic(auto, unfolding(crate::specs::Tokens::past_word))]
-pub(crate) fn past_word<'a>(text: &'a [u8], bad: Refusal, word: &[u8]) -> Result<&'a [u8], Refusal>
+pub(crate) fn past_word<'a>(text: &'a [u8], bad: Unread, word: &[u8]) -> Result<&'a [u8], Unread>
     ensures { Is (λ rest. rest.now) result (past_word bad word.now text.now) }
 {
     let (token, rest) = wanted(text, bad)?;
@@ -156,7 +156,7 @@ pub(crate) fn past_word<'a>(text: &'a [u8], bad: Refusal, word: &[u8]) -> Result
 
 /// The bytes of a charstring, after their count, any word and one byte; and what is left.
 #[tactic(auto, unfolding(crate::specs::Tokens::charstring_at))]
-pub(crate) fn charstring<'a>(text: &'a [u8], bad: Refusal) -> Result<(&'a [u8], &'a [u8]), Refusal>
+pub(crate) fn charstring<'a>(text: &'a [u8], bad: Unread) -> Result<(&'a [u8], &'a [u8]), Unread>
     ensures { Is (λ p. (p.0.now, p.1.now)) result (charstring_at bad text.now) }
 {
     let (count, rest) = wanted(text, bad)?;

@@ -12,7 +12,6 @@ mod files;
 mod limits;
 mod private_texts;
 mod readers;
-mod refusals;
 mod sections;
 mod subrs;
 mod values;

@@ -13,8 +13,8 @@ use Rattle.t1_rules.specs.Book.{code_of, rule_coded, text_of}
 use Rattle.t1_rules.specs.Keys.{key_text_of}
 use Rattle.t1_rules.proofs.Lemmas.RuleCodes.{rule_is_found}
 use Rattle.t1_lines.specs.Lines.{PlaceValue, IsPlace, at_key, at_step, at_waiver, of_fault, of_refusal}
-use Rattle.t1_refusals.specs.declared.refusal.RefusalCode.{RefusalCode}
-use Rattle.t1_refusals.specs.declared.refusal.RefusalCode.TheVariants.{E01, E02, E03, E04, E05, E06, E07, E08, E09, E10, E11, E12, E13, E14, E15}
+use Rattle.t1_font.specs.declared.unread.RefusalCode.{RefusalCode}
+use Rattle.t1_font.specs.declared.unread.RefusalCode.TheVariants.{E01, E02, E03, E04, E05, E06, E07, E08, E09, E10, E11, E12, E13, E14, E15}
 use Rattle.t1_lines.proofs.Cuts.{some_same}
 use Rattle.t1_lines.proofs.KeyTexts.{key-found, key_of}
 use Rattle.t1_forms.specs.Laws.{AnObjectTellsOneLine, AreBytes, DifferentTellingsHaveDifferentObjects, IsPlaceOfBytes, IsWhatOfBytes}

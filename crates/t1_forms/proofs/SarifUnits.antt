@@ -6,8 +6,8 @@ use Rattle.std.proofs.lemmas.List.{get_or-replicate, get_or-set_other, get_or-se
 use Rattle.std.proofs.lemmas.Slice.Eq.{bytes_eq-Decides}
 use Rattle.t1_io.specs.Devices.{one_more}
 use Rattle.t1_lines.specs.Lines.{LineValue, of_fault, of_refusal}
-use Rattle.t1_refusals.specs.declared.refusal.RefusalCode.{RefusalCode}
-use Rattle.t1_refusals.specs.declared.refusal.RefusalCode.TheVariants.{E01, E15}
+use Rattle.t1_font.specs.declared.unread.RefusalCode.{RefusalCode}
+use Rattle.t1_font.specs.declared.unread.RefusalCode.TheVariants.{E01, E15}
 use Rattle.t1_rules.proofs.Lemmas.Book.{in_book, one_rule}
 use Rattle.t1_rules.proofs.Lemmas.RuleCodes.{rule_is_found}
 use Rattle.t1_rules.specs.Book.{code_of, coded_in, last_number, number_of, rule_coded}

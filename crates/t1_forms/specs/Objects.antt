@@ -9,8 +9,8 @@ use Rattle.t1_rules.specs.Book.{code_of, level_of, text_of}
 use Rattle.t1_rules.specs.Keys.{key_text_of}
 use Rattle.t1_rules.specs.Levels.{level_text}
 use Rattle.t1_lines.specs.Lines.{PlaceValue, at_key, at_step, at_waiver, of_fault, of_refusal}
-use Rattle.t1_refusals.specs.declared.refusal.RefusalCode.{RefusalCode}
-use Rattle.t1_refusals.specs.RefusalTexts.{refusal_text_of}
+use Rattle.t1_font.specs.declared.unread.RefusalCode.{RefusalCode}
+use Rattle.t1_font.specs.Refusals.{refusal_text_of}
 use Rattle.t1_forms.specs.Shown.{shown}
 use Rattle.t1_forms.specs.Tellings.{ReasonValue, ToldValue, WhatValue, of_line, of_unchecked}
 

@@ -4,8 +4,8 @@ use Rattle.std.specs.Prelude.{ℕ, ◌+◌, ◌-◌, ◌==◌, nat_lt, Bool, tru
 use Rattle.serde_json.specs.Written.{comma_if, compact_text}
 use Rattle.t1_io.specs.Devices.{one_more}
 use Rattle.t1_lines.specs.Lines.{LineValue, of_fault, of_refusal}
-use Rattle.t1_refusals.specs.declared.refusal.RefusalCode.{RefusalCode}
-use Rattle.t1_refusals.specs.declared.refusal.RefusalCode.TheVariants.{E01, E02, E03, E04, E05, E06, E07, E08, E09, E10, E11, E12, E13, E14, E15}
+use Rattle.t1_font.specs.declared.unread.RefusalCode.{RefusalCode}
+use Rattle.t1_font.specs.declared.unread.RefusalCode.TheVariants.{E01, E02, E03, E04, E05, E06, E07, E08, E09, E10, E11, E12, E13, E14, E15}
 use Rattle.t1_rules.specs.Book.{last_number, number_of}
 use Rattle.t1_forms.specs.PageValues.{PagesValue, pages_value}
 use Rattle.t1_forms.specs.SarifObjects.{fingerprint, notification_object, result_object, tool_object, unit_of}

@@ -15,7 +15,7 @@ use serde_json::{Map, Value, put};
 use std::alloc::{AllocError, Global};
 use t1_io::{Sink, put_all};
 use t1_lines::{FaultLine, Line, Place};
-use t1_refusals::{RefusalCode, refusal_text};
+use t1_font::{RefusalCode, refusal_text};
 use t1_rules::{Level, Rule, key_text, rule_code, rule_level, rule_text};
 
 /// The code of a refusal: `E03`.

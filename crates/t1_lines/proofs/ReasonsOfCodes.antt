@@ -3,13 +3,12 @@ use Rattle.std.proofs.Common.{◌≡◌, inl, inr, Some, refl, sym, ◌∙◌}
 use Rattle.t1_font.specs.declared.unread.Unread.TheVariants.{NotAFont, BadHeader, CutShort, NoEexec, TooShort, Unclosed, BadSubrs, BadCharStrings, BadLenIv, PastLimit, SecondSubrs, MultipleMaster, Memory}
 use Rattle.t1_report.specs.declared.waivers.WaiverError.TheVariants as waivers
 use Rattle.t1_lines.specs.Laws.{EachCodeIsOfAReason, MemoryAloneRefusesNone, NoCodeIsOfTwo}
-use Rattle.t1_refusals.specs.RefusalCodes.{refusal_code_of}
-use Rattle.t1_refusals.specs.declared.refusal.Reason.{Reason}
-use Rattle.t1_refusals.specs.declared.refusal.Reason.TheVariants.{Font, FontTooLarge, Waivers, WaiversTooLarge}
-use Rattle.t1_refusals.specs.declared.refusal.RefusalCode.{RefusalCode}
-use Rattle.t1_refusals.specs.declared.refusal.RefusalCode.TheVariants.{E01, E02, E03, E04, E05, E06, E07, E08, E09, E10, E11, E12, E13, E14, E15}
+use Rattle.t1_report.specs.Refusals.{refusal_code_of, Refusal}
+use Rattle.t1_report.specs.Refusals.Refusal.{Font, FontTooLarge, Waivers, WaiversTooLarge}
+use Rattle.t1_font.specs.declared.unread.RefusalCode.{RefusalCode}
+use Rattle.t1_font.specs.declared.unread.RefusalCode.TheVariants.{E01, E02, E03, E04, E05, E06, E07, E08, E09, E10, E11, E12, E13, E14, E15}
 
-reason_of : RefusalCode → Reason
+reason_of : RefusalCode → Refusal
 reason_of E01 = Font NotAFont
 reason_of E02 = Font BadHeader
 reason_of E03 = Font CutShort
@@ -44,10 +43,10 @@ of_reason E13 = refl
 of_reason E14 = refl
 of_reason E15 = refl
 
-some_reason : (given code : RefusalCode) (reason : Reason) → reason ≡ reason_of given → Some given ≡ Some code → reason ≡ reason_of code
+some_reason : (given code : RefusalCode) (reason : Refusal) → reason ≡ reason_of given → Some given ≡ Some code → reason ≡ reason_of code
 some_reason given code reason is same = cc
 
-is_reason : (reason : Reason) (code : RefusalCode) → refusal_code_of reason ≡ Some code → reason ≡ reason_of code
+is_reason : (reason : Refusal) (code : RefusalCode) → refusal_code_of reason ≡ Some code → reason ≡ reason_of code
 unfolding reason_of
 is_reason (Font NotAFont) code is = some_reason E01 code _ refl is
 is_reason (Font BadHeader) code is = some_reason E02 code _ refl is

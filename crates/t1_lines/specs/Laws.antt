@@ -12,10 +12,9 @@ use Rattle.t1_report.specs.Waivers.{Waiver, waivers_of}
 use Rattle.t1_report.specs.declared.waivers.WaiverError.TheVariants as waivers
 use Rattle.t1_lines.specs.Lines.{IsFaultLine, IsSmall, fault_spelled, line_in}
 use Rattle.t1_lines.specs.Names.{HasNames, HaveNames}
-use Rattle.t1_refusals.specs.RefusalCodes.{refusal_code_of}
-use Rattle.t1_refusals.specs.declared.refusal.Reason.{Reason}
-use Rattle.t1_refusals.specs.declared.refusal.Reason.TheVariants.{Font, Waivers}
-use Rattle.t1_refusals.specs.declared.refusal.RefusalCode.{RefusalCode}
+use Rattle.t1_report.specs.Refusals.{refusal_code_of, Refusal}
+use Rattle.t1_report.specs.Refusals.Refusal.{Font, Waivers}
+use Rattle.t1_font.specs.declared.unread.RefusalCode.{RefusalCode}
 
 -- The line of a fault is one, and is written as it is spelled, ended by byte 10.
 abbrev pub FaultsAreWrittenAsLines : Type 0
@@ -35,14 +34,14 @@ WaiversHaveNames = (edition : Edition) (text : List ℕ) (waivers : List Waiver)
 
 -- Each number of a refusal is that of a reason.
 abbrev pub EachCodeIsOfAReason : Type 0
-EachCodeIsOfAReason = (code : RefusalCode) → (reason : Reason) × (refusal_code_of reason ≡ Some code)
+EachCodeIsOfAReason = (code : RefusalCode) → (reason : Refusal) × (refusal_code_of reason ≡ Some code)
 
 -- No number is that of two.
 abbrev pub NoCodeIsOfTwo : Type 0
 NoCodeIsOfTwo =
-    (a b : Reason) (code : RefusalCode) → refusal_code_of a ≡ Some code → refusal_code_of b ≡ Some code → a ≡ b
+    (a b : Refusal) (code : RefusalCode) → refusal_code_of a ≡ Some code → refusal_code_of b ≡ Some code → a ≡ b
 
 -- A reason without a number is running out of memory, in reading a font or waivers.
 abbrev pub MemoryAloneRefusesNone : Type 0
 MemoryAloneRefusesNone =
-    (reason : Reason) → refusal_code_of reason ≡ None → (reason ≡ Font unread.Memory) ⊎ (reason ≡ Waivers waivers.Memory)
+    (reason : Refusal) → refusal_code_of reason ≡ None → (reason ≡ Font unread.Memory) ⊎ (reason ≡ Waivers waivers.Memory)

@@ -16,8 +16,8 @@ use Rattle.t1_lines.specs.declared.line.Line.{Line}
 use Rattle.t1_lines.specs.declared.line.Line.TheVariants.{Fault, Refusal}
 use Rattle.t1_lines.specs.declared.line.Place.{Place}
 use Rattle.t1_lines.specs.declared.line.Place.TheVariants as places
-use Rattle.t1_refusals.specs.declared.refusal.RefusalCode.{RefusalCode}
-use Rattle.t1_refusals.specs.RefusalTexts.{refusal_text_of}
+use Rattle.t1_font.specs.declared.unread.RefusalCode.{RefusalCode}
+use Rattle.t1_font.specs.Refusals.{refusal_text_of}
 use Rattle.t1_char.specs.Effects.{most_calls}
 
 -- A key of the font, by its number, with an index; a glyph, by its name, with the Subrs that are being

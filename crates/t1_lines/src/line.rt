@@ -1,7 +1,7 @@
 //! What a line says.
 
 use t1_char::Path;
-use t1_refusals::RefusalCode;
+use t1_font::RefusalCode;
 use t1_rules::Rule;
 
 /// What a line says.

@@ -1,12 +1,13 @@
 -- How the check of a font ends, by what is known of its files.
 use Rattle.std.proofs.Common.{◌≡◌, ℕ, Bool, false, List, Result, Ok, Err, Some, inl, inr, refl, sym, ap, subst, ◌∙◌}
+use Rattle.t1_font.specs.declared.unread.RefusalCode.TheVariants.{E05}
 use Rattle.t1_char.specs.declared.edition.Edition.{Edition}
 use Rattle.t1_font.specs.FontFiles.{IsUnread, font_in}
 use Rattle.t1_font.specs.Fonts.{FontValue}
 use Rattle.t1_font.specs.declared.unread.Unread.{Unread}
 use Rattle.t1_io.specs.Devices.{SourceState}
-use Rattle.t1_refusals.specs.declared.refusal.Reason.{Reason}
-use Rattle.t1_refusals.specs.declared.refusal.Reason.TheVariants.{Font, FontTooLarge, Waivers, WaiversTooLarge}
+use Rattle.t1_report.specs.Refusals.{Refusal}
+use Rattle.t1_report.specs.Refusals.Refusal.{Font, FontTooLarge, Waivers, WaiversTooLarge}
 use Rattle.t1_many.specs.Files.{Given, IsFound, given_by}
 use Rattle.t1_many.specs.Files.IsFound.{breaks, breaks_waivers, no_memory, refused, reports, waivers_refused}
 use Rattle.t1_many.specs.Outcomes.{Entry, Outcome, failed, reported}
@@ -40,9 +41,9 @@ ended failure = failed (error_of failure)
 
 -- All that one of them knows, the other does.
 pub record Widens (given wider : Given) : Type 0 where
-  pub reads : (read : Result FontValue Reason) → given.Reads read → wider.Reads read
+  pub reads : (read : Result FontValue Refusal) → given.Reads read → wider.Reads read
   pub breaks : given.Breaks → wider.Breaks
-  pub waives : (waived : Result (List Waiver) Reason) → given.Waives waived → wider.Waives waived
+  pub waives : (waived : Result (List Waiver) Refusal) → given.Waives waived → wider.Waives waived
   pub breaks_waivers : given.BreaksWaivers → wider.BreaksWaivers
 
 found_by : (edition : Edition) (given wider : Given) (outcome : Outcome) → Widens given wider → IsFound edition given outcome
@@ -104,7 +105,7 @@ pub text_of_file : (edition : Edition) (font : FontValue) (asked : Bool) (old ne
 text_of_file edition font asked old new text is = record {
   reads = λ read same. same;
   breaks = λ never. never;
-  waives = λ waived same. (subst (λ (w : Result (List Waiver) Reason). AreWaived edition asked old.left w) same (is.read edition), is.heard);
+  waives = λ waived same. (subst (λ (w : Result (List Waiver) Refusal). AreWaived edition asked old.left w) same (is.read edition), is.heard);
   breaks_waivers = λ never. absurd never;
 }
 
@@ -127,7 +128,7 @@ font_of_bytes edition font bytes asked old new is = record {
 -- ---- its file
 
 pub font_unread : (edition : Edition) (source source' : SourceState) (asked : Bool) (old new : SourceState) (failure : Failure)
-    → source.failed ≡ false → AreUnread 16777216 FontTooLarge source source' failure
+    → source.failed ≡ false → AreUnread 16777216 E05 source source' failure
     → IsFound edition (given_by edition source source' asked old new) (ended failure)
 font_unread edition source source' asked old new failure sound (past bytes consumed large kept is) =
     refused FontTooLarge (font_past source.left source'.left bytes consumed large, kept ∙ sound, past_limit bytes consumed large) (ap ended is)

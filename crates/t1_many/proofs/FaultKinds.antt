@@ -6,11 +6,10 @@ use Rattle.std.proofs.lemmas.List.Elements.{All-head, All-tail}
 use Rattle.std.proofs.lemmas.Option.{none-some, slice_get-get_or}
 use Rattle.std.specs.List.{list_all}
 use Rattle.t1_font.specs.ClearText.{clear_of}
-use Rattle.t1_font.specs.FontFiles.{as_unread, clear_next, font_in, marks_in, private_next, section_next}
+use Rattle.t1_font.specs.FontFiles.{clear_next, font_in, marks_in, private_next, section_next}
 use Rattle.t1_font.specs.Fonts.{FontValue, Marks, glyph_name}
 use Rattle.t1_font.specs.TextTurns.{TextRead}
-use Rattle.t1_font.specs.Texts.{font_read}
-use Rattle.t1_font.specs.declared.refusal.Refusal.{Refusal}
+use Rattle.t1_font.specs.declared.unread.Unread.{Unread}
 use Rattle.t1_lines.proofs.Cuts.{some_same}
 use Rattle.t1_lines.proofs.NamesKept.{fonts_have_names, glyph_named}
 use Rattle.t1_lines.proofs.WaiverNames.{waivers_have_names}
@@ -75,17 +74,13 @@ module _ (font : FontValue) (waivers : List Waiver) where
 
 -- ---- of fonts and waivers that were read
 
-read_so : (r : Result FontValue Refusal) (font : FontValue) → as_unread r ≡ Ok font → r ≡ Ok font
-read_so (Ok f) font is = (let same : f ≡ font = cc in ap Ok same)
-read_so (Err e) font is = cc
-
 private_named : (marks : Marks) (clear : TextRead) (bytes : List ℕ) → clear_of marks bytes ≡ Ok clear → (r : Result (List ℕ) SealError)
     → (font : FontValue) → private_next marks clear.stated r ≡ Ok font → HasNames font
 private_named marks clear bytes is_clear (Ok text) font is =
-    fonts_have_names marks bytes text clear font is_clear (read_so (font_read marks clear.stated text) font is)
+    fonts_have_names marks bytes text clear font is_clear is
 private_named marks clear bytes is_clear (Err e) font is = cc
 
-section_named : (marks : Marks) (bytes : List ℕ) (r : Result TextRead Refusal) → clear_of marks bytes ≡ r → (font : FontValue)
+section_named : (marks : Marks) (bytes : List ℕ) (r : Result TextRead Unread) → clear_of marks bytes ≡ r → (font : FontValue)
     → section_next marks r ≡ Ok font → HasNames font
 section_named marks bytes (Ok clear) is_clear font is = private_named marks clear bytes is_clear (private_text_of clear.rest) font is
 section_named marks bytes (Err e) is_clear font is = cc

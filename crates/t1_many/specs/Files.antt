@@ -3,7 +3,7 @@ use Rattle.std.specs.Prelude.{◌≡◌, ◌+◌, ℕ, Bool, true, false, List, 
 use Rattle.t1_char.specs.declared.edition.Edition.{Edition}
 use Rattle.t1_font.specs.Fonts.{FontValue}
 use Rattle.t1_io.specs.Devices.{SourceState}
-use Rattle.t1_refusals.specs.declared.refusal.Reason.{Reason}
+use Rattle.t1_report.specs.Refusals.{Refusal}
 use Rattle.t1_report.specs.Checked.{checked}
 use Rattle.t1_report.specs.Reports.{IsReport}
 use Rattle.t1_report.specs.Waivers.{Waiver, largest_waivers}
@@ -25,11 +25,11 @@ use Rattle.t1_many.specs.declared.font_files.WaiverFiles.{WaiverFiles}
 -- What is known of the files of a font.
 pub record Given : Type 1 where
   -- The font's file is read so: as a font, or not for a reason.
-  pub Reads : Result FontValue Reason → Type 0
+  pub Reads : Result FontValue Refusal → Type 0
   -- A read of it failed.
   pub Breaks : Type 0
   -- The waivers are read so: those of their file, or none where there is no such file.
-  pub Waives : Result (List Waiver) Reason → Type 0
+  pub Waives : Result (List Waiver) Refusal → Type 0
   -- A read of the file of waivers failed.
   pub BreaksWaivers : Type 0
 
@@ -39,9 +39,9 @@ pub data IsFound (edition : Edition) (given : Given) (outcome : Outcome) : Type 
       (report : Report) → given.Reads (Ok report.font) → given.Waives (Ok report.waivers)
       → report.edition ≡ edition → IsReport (checked report.font edition) report.waivers report.faults → outcome ≡ reported report
       → IsFound edition given outcome
-  refused : (reason : Reason) → given.Reads (Err reason) → outcome ≡ failed (error_of (failure_of reason)) → IsFound edition given outcome
+  refused : (reason : Refusal) → given.Reads (Err reason) → outcome ≡ failed (error_of (failure_of reason)) → IsFound edition given outcome
   waivers_refused :
-      (font : FontValue) → given.Reads (Ok font) → (reason : Reason) → given.Waives (Err reason)
+      (font : FontValue) → given.Reads (Ok font) → (reason : Refusal) → given.Waives (Err reason)
       → outcome ≡ failed (error_of (failure_of reason)) → IsFound edition given outcome
   breaks : given.Breaks → outcome ≡ failed (error_of Broken) → IsFound edition given outcome
   breaks_waivers :

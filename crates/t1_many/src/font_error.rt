@@ -4,7 +4,7 @@ ghost use Rattle.std.specs.Prelude.{◌≡◌};
 ghost use Rattle.t1_many.specs.FontErrors.{error_of, reason_of, unread_text, waivers_unread_text};
 
 use t1_names::Cause;
-use t1_refusals::RefusalCode;
+use t1_font::RefusalCode;
 use t1_run::Failure;
 
 /// Why there is no report of a font.

@@ -15,11 +15,10 @@ use crate::policy::Lost;
 use crate::printer::Printer;
 use crate::reasons::told_text;
 use crate::unchecked::tell_unchecked;
-use t1_font::Font;
+use t1_font::{Font, RefusalCode, refusal_text};
 use t1_io::{Sink, put_parts};
 use t1_reason_texts::ShortText;
 use t1_reasons::ReportReasons;
-use t1_refusals::{RefusalCode, refusal_text};
 use t1_report::{Fault, Waivers, write_fault};
 use t1_summary::FontClass;
 

@@ -5,7 +5,7 @@ use Rattle.std.proofs.lemmas.Option.{get_or_from_slice_get}
 use Rattle.t1_char.proofs.EditionLemmas.{limit_few}
 use Rattle.t1_char.specs.declared.machine.Answer.{Answer}
 use Rattle.t1_char.specs.declared.machine.Answer.TheVariants.{Step}
-use Rattle.t1_char.specs.declared.machine.Numbers.TheVariants.{Told}
+use Rattle.t1_char.specs.declared.machine.Numbers.TheVariants.{Returned}
 use Rattle.t1_char.specs.AnswerViews.{answer_view}
 use Rattle.t1_char.specs.Asking.{IsAsked}
 use Rattle.t1_char.specs.Editions.{limit_of}
@@ -40,11 +40,11 @@ pub record IsTold (old new : MachineView) : Type 0 where
   pub seen : take new.counted (steps_in new) ≡ take old.counted (steps_in old) ++ new.step.step ∷ []
   pub ahead : drop old.counted (steps_in old) ≡ new.step.step ∷ drop new.counted (steps_in new)
 
-pub told : (old new : MachineView) → IsSame old new → IsAsked Told old new (stepped new.step) → IsTold old new
+pub told : (old new : MachineView) → IsSame old new → IsAsked Returned old new (stepped new.step) → IsTold old new
 told old new same asked =
     let steps = steps_of old.font old.glyph in
     let limit = limit_of old.edition in
-    let at : asked.before ≡ old.counted = asked.told refl in
+    let at : asked.before ≡ old.counted = asked.returned refl in
     let next : IsStepped limit steps old.counted new.step = stepped_is limit steps old.counted new.step (asked.turn ∙ ap (turn_at limit steps) at) in
     let counted : new.counted ≡ old.counted + 1 = asked.counted ∙ ap (counted_after limit steps) at ∙ next.counted in
     let below : old.counted < limit = omega (arith, next.within, length-take limit steps) in
@@ -82,11 +82,11 @@ pub record IsOver (old new : MachineView) : Type 0 where
   pub all : length (steps_in old) ≤ old.counted
   pub more : old.counted ≤ new.counted
 
-pub over : (old new : MachineView) (answer : Answer) → IsSame old new → (answer ≡ Step → ⊥) → IsAsked Told old new (answer_view answer new.step) → IsOver old new
+pub over : (old new : MachineView) (answer : Answer) → IsSame old new → (answer ≡ Step → ⊥) → IsAsked Returned old new (answer_view answer new.step) → IsOver old new
 over old new answer same other asked =
     let steps = steps_of old.font old.glyph in
     let limit = limit_of old.edition in
-    let at : asked.before ≡ old.counted = asked.told refl in
+    let at : asked.before ≡ old.counted = asked.returned refl in
     let whole : take old.counted (steps_in old) ≡ steps_in old =
     answered_over limit steps old.counted answer new.step other (asked.turn ∙ ap (turn_at limit steps) at) in
     record {

@@ -73,7 +73,7 @@ impl<'a> Outline<'a> {
                 self.given += 1;
                 return Some(drawn);
             }
-            match self.machine.go_on(Numbers::Told) {
+            match self.machine.go_on(Numbers::Returned) {
                 Answer::Step => self.drawn = self.pen.draw(self.machine.current()).segments,
                 _ => return None,
             }

@@ -2,7 +2,7 @@
 use Rattle.std.proofs.Common.{◌≡◌, ℕ, zero, suc, ◌+◌, ◌-◌, ◌<◌, ◌≤◌, Bool, true, false, cond, nat_lt, Option, None, Some, List, [], ◌∷◌, drop, length, slice_get, take, refl, sym, ap, subst, ◌∙◌, arith}
 use Rattle.std.proofs.lemmas.Bool.{ltb-true}
 use Rattle.std.proofs.lemmas.Option.{slice_get_within}
-use Rattle.t1_char.specs.declared.machine.Numbers.TheVariants.{Told}
+use Rattle.t1_char.specs.declared.machine.Numbers.TheVariants.{Returned}
 use Rattle.t1_char.specs.Asking.{IsAsked}
 use Rattle.t1_char.specs.Editions.{limit_of}
 use Rattle.t1_char.specs.Steps.{NumberedStep, StepView, steps_of}
@@ -40,11 +40,11 @@ past_counted limit steps n all = by_test (is_told limit steps n) refl
     by_test true told = omega (arith, ltb-true (answered limit steps) n told)
     by_test false not = omega (arith, all)
 
-pub in_hand_over : (old new : MachineView) (answer : TurnValue) → IsOver old new → IsAsked Told old new answer → IsInHand new
+pub in_hand_over : (old new : MachineView) (answer : TurnValue) → IsOver old new → IsAsked Returned old new answer → IsInHand new
 in_hand_over old new answer is asked step some get =
     let past : length (steps_in old) < new.counted =
     subst (λ (n : ℕ). length (steps_in old) < n)
-    (sym (asked.counted ∙ ap (counted_after (limit_of old.edition) (steps_of old.font old.glyph)) (asked.told refl)))
+    (sym (asked.counted ∙ ap (counted_after (limit_of old.edition) (steps_of old.font old.glyph)) (asked.returned refl)))
     (past_counted (limit_of old.edition) (steps_of old.font old.glyph) old.counted is.all) in
     let within : new.counted - 1 < length (steps_in old) =
     slice_get_within (steps_in old) (new.counted - 1) step (rw (same_steps old new is.same) at get) in
@@ -57,15 +57,15 @@ no_more limit steps n = by_test (is_told limit steps n)
     by_test true = omega arith
     by_test false = omega arith
 
-pub all_seen : (old new : MachineView) (answer : TurnValue) → IsOver old new → IsAsked Told old new answer → AreAllSeen old new
+pub all_seen : (old new : MachineView) (answer : TurnValue) → IsOver old new → IsAsked Returned old new answer → AreAllSeen old new
 all_seen old new answer is asked = record {
   all = is.all;
   more = is.more;
   most = subst (λ (n : ℕ). n ≤ old.counted + 1)
-      (sym (asked.counted ∙ ap (counted_after (limit_of old.edition) (steps_of old.font old.glyph)) (asked.told refl)))
+      (sym (asked.counted ∙ ap (counted_after (limit_of old.edition) (steps_of old.font old.glyph)) (asked.returned refl)))
       (no_more (limit_of old.edition) (steps_of old.font old.glyph) old.counted);
   past = subst (λ (n : ℕ). length (steps_in old) < n)
-      (sym (asked.counted ∙ ap (counted_after (limit_of old.edition) (steps_of old.font old.glyph)) (asked.told refl)))
+      (sym (asked.counted ∙ ap (counted_after (limit_of old.edition) (steps_of old.font old.glyph)) (asked.returned refl)))
       (past_counted (limit_of old.edition) (steps_of old.font old.glyph) old.counted is.all);
 }
 
@@ -96,20 +96,20 @@ limited_long : (limit : ℕ) (steps : List StepView) (step : NumberedStep) (o : 
 limited_long limit steps step None is past = cc
 limited_long limit steps step (Some next) is past = slice_get_within steps limit next is
 
-pub ends_within : (old new : MachineView) → IsOver old new → IsAsked Told old new ended → length (steps_of old.font old.glyph) ≤ limit_of old.edition
+pub ends_within : (old new : MachineView) → IsOver old new → IsAsked Returned old new ended → length (steps_of old.font old.glyph) ≤ limit_of old.edition
 ends_within old new is asked =
     let limit = limit_of old.edition in
     let steps = steps_of old.font old.glyph in
     ended_short limit steps (slice_get steps limit) refl
-    (asked.turn ∙ ap (turn_at limit steps) (asked.told refl) ∙ last_turn limit steps old.counted is.all)
+    (asked.turn ∙ ap (turn_at limit steps) (asked.returned refl) ∙ last_turn limit steps old.counted is.all)
 
-pub goes_past : (old new : MachineView) (step : NumberedStep) → IsOver old new → IsAsked Told old new (limited step)
+pub goes_past : (old new : MachineView) (step : NumberedStep) → IsOver old new → IsAsked Returned old new (limited step)
     → limit_of old.edition < length (steps_of old.font old.glyph)
 goes_past old new step is asked =
     let limit = limit_of old.edition in
     let steps = steps_of old.font old.glyph in
     limited_long limit steps step (slice_get steps limit) refl
-    (asked.turn ∙ ap (turn_at limit steps) (asked.told refl) ∙ last_turn limit steps old.counted is.all)
+    (asked.turn ∙ ap (turn_at limit steps) (asked.returned refl) ∙ last_turn limit steps old.counted is.all)
 
 -- ---- directions
 

@@ -1,8 +1,9 @@
 -- The lines below the drawing.
 use Rattle.std.specs.Prelude.{ℕ, ◌==◌, nat_lt, if◌then◌else◌, Bool, true, false, not, Option, None, Some, List, [], ◌∷◌, ◌++◌, codes}
 use Rattle.std.specs.Fmt.{decimal}
+use Rattle.t1_char.specs.Editions.{digit_of}
 use Rattle.t1_char.specs.declared.edition.Edition.{Edition}
-use Rattle.t1_char.specs.declared.edition.Edition.TheVariants.{One, Three, Two}
+use Rattle.t1_char.specs.declared.edition.Edition.TheVariants.{One}
 use Rattle.t1_font.specs.Fonts.{glyph_name}
 use Rattle.t1_picture.specs.Drawings.{DrawingView}
 use Rattle.t1_picture.specs.Marks.{FaultsView}
@@ -16,8 +17,7 @@ title_of s = codes "glyph " ++ legible (glyph_name s.font s.glyph)
 
 abbrev pub title_line : Edition → List ℕ → List ℕ
 title_line One title = title
-title_line Two title = title ++ codes ", edition 2"
-title_line Three title = title ++ codes ", edition 3"
+title_line edition title = title ++ (codes ", edition " ++ digit_of edition)
 
 -- The last step that was requested.
 abbrev pub step_line : ℕ → Option (List ℕ) → List ℕ

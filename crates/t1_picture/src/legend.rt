@@ -52,8 +52,10 @@ fn title_line(alloc: Global, edition: Edition, title: &str) -> Result<String, Al
 {
     match edition {
         Edition::One => String::from_str(alloc, title),
-        Edition::Two => format!(in alloc; "{title}, edition 2"),
-        Edition::Three => format!(in alloc; "{title}, edition 3"),
+        Edition::Two | Edition::Three => {
+            let digit = edition.digit();
+            format!(in alloc; "{title}, edition {digit}")
+        }
     }
 }
 

@@ -63,7 +63,7 @@ impl<'a> Run<'a> {
         ensures same { IsOfSameGlyph self.old self.new }
         ensures gives { GivesNext self.old self.new result }
     {
-        match self.machine.go_on(Numbers::Told) {
+        match self.machine.go_on(Numbers::Returned) {
             Answer::Step => Next::Step(self.pen.draw(self.machine.current())),
             Answer::Ended => Next::Ended,
             Answer::Limit => Next::Limit,

@@ -1,8 +1,8 @@
 -- Pictures that are handed over, and why there are none.
 use Rattle.std.proofs.Common.{◌≡◌, ◌∙◌, ℕ, true, false, Global, List, String, string_bytes, Option, None, Some, Result, Ok, Err, inl, inr, refl, subst, sym}
 use Rattle.t1_picture.specs.Subjects.{ShownValue, one_fault}
-use Rattle.t1_refusals.specs.declared.refusal.Reason.{Reason}
-use Rattle.t1_refusals.specs.declared.refusal.RefusalCode.{RefusalCode}
+use Rattle.t1_report.specs.Refusals.{Refusal}
+use Rattle.t1_font.specs.declared.unread.RefusalCode.{RefusalCode}
 use Rattle.t1_report.specs.Faults.{FaultValue}
 use Rattle.t1_run.specs.declared.failure.Failure.{Failure}
 use Rattle.t1_run.specs.declared.failure.Failure.TheVariants.{Refused}
@@ -17,13 +17,13 @@ use Rattle.t1_pieces.specs.declared.extent.Extent.{Extent}
 use Rattle.t1_pieces.specs.declared.extent.Extent.TheVariants.{Fault}
 use Rattle.t1_pieces.specs.declared.picture_result.PictureResult.{PictureResult}
 
-pub refused_drawn : (name : List ℕ) (extent : Extent) (read : Result Input Reason) (room : List ℕ) (result : PictureResult) (failure : Failure)
+pub refused_drawn : (name : List ℕ) (extent : Extent) (read : Result Input Refusal) (room : List ℕ) (result : PictureResult) (failure : Failure)
     (code : RefusalCode) → IsFailureOf read failure → failure ≡ Refused code → IsRefusedBy code room result → IsDrawing name extent read room result
 refused_drawn name extent (Err reason) room result failure code (inl so) is by = refused code (coded reason code (sym so ∙ is)) by
 refused_drawn name extent (Err reason) room result failure code (inr memory) is by = absurd (never failure code is memory)
 refused_drawn name extent (Ok input) room result failure code memory is by = absurd (never failure code is memory)
 
-pub picture_drawn : (name : List ℕ) (extent : Extent) (read : Result Input Reason) (text : String Global) (room : List ℕ) (result : PictureResult)
+pub picture_drawn : (name : List ℕ) (extent : Extent) (read : Result Input Refusal) (text : String Global) (room : List ℕ) (result : PictureResult)
     → IsReadDrawn name extent read (drawn.Picture text) → IsTextIn (string_bytes text) room result → IsDrawing name extent read room result
 picture_drawn name extent (Err reason) text room result has fits = absurd has
 picture_drawn name extent (Ok input) text room result has fits = picture (string_bytes text) has fits

@@ -7,10 +7,9 @@ use Rattle.t1_font.specs.FontFiles.{IsUnread, font_in}
 use Rattle.t1_font.specs.Fonts.{FontValue}
 use Rattle.t1_font.specs.declared.unread.Unread.{Unread}
 use Rattle.t1_forms.specs.PageValues.{PagesValue}
-use Rattle.t1_refusals.specs.RefusalCodes.{refusal_code_of}
-use Rattle.t1_refusals.specs.declared.refusal.Reason.{Reason}
-use Rattle.t1_refusals.specs.declared.refusal.Reason.TheVariants.{Font, Waivers, WaiversTooLarge}
-use Rattle.t1_refusals.specs.declared.refusal.RefusalCode.{RefusalCode}
+use Rattle.t1_report.specs.Refusals.{refusal_code_of, Refusal}
+use Rattle.t1_report.specs.Refusals.Refusal.{Font, Waivers, WaiversTooLarge}
+use Rattle.t1_font.specs.declared.unread.RefusalCode.{RefusalCode}
 use Rattle.t1_report.specs.WaiverViews.{IsReadAs}
 use Rattle.t1_report.specs.Waivers.{Waiver, waivers_of}
 use Rattle.t1_report.specs.declared.marks.Mark.{Mark}
@@ -38,13 +37,13 @@ pub failed_so : {X : Type 0} (result : Result X Failure) (failure : Failure) (P 
 failed_so (Ok x) failure P is holds = absurd is
 failed_so (Err f) failure P is holds = subst P (sym is) holds
 
-pub by_memory : {A : Type 0} (read : Result A Reason) (failure : Failure) → failure ≡ Memory → IsFailureOf read failure
+pub by_memory : {A : Type 0} (read : Result A Refusal) (failure : Failure) → failure ≡ Memory → IsFailureOf read failure
 by_memory (Ok value) failure is = is
 by_memory (Err reason) failure is = inr is
 
-pub fails_for : {A : Type 0} (read : Result A Reason) (reason : Reason) (failure : Failure) → read ≡ Err reason → failure ≡ failure_of reason
+pub fails_for : {A : Type 0} (read : Result A Refusal) (reason : Refusal) (failure : Failure) → read ≡ Err reason → failure ≡ failure_of reason
     → IsFailureOf read failure
-fails_for {A} read reason failure is so = subst (λ (r : Result A Reason). IsFailureOf r failure) (sym is) (inl so)
+fails_for {A} read reason failure is so = subst (λ (r : Result A Refusal). IsFailureOf r failure) (sym is) (inl so)
 
 -- ---- a font
 
@@ -56,7 +55,7 @@ unread_fails read unread (inr is) = fails_for (with_reason read) (Font unread) (
 pub font_fails : (bytes : List ℕ) (unread : Unread) → length bytes ≤ 16777216 → IsUnread unread (font_in bytes)
     → IsFailureOf (font_of bytes) (failure_of (Font unread))
 font_fails bytes unread small is =
-    subst (λ (r : Result FontValue Reason). IsFailureOf r (failure_of (Font unread))) (sym (font_of-small bytes small))
+    subst (λ (r : Result FontValue Refusal). IsFailureOf r (failure_of (Font unread))) (sym (font_of-small bytes small))
     (unread_fails (font_in bytes) unread is)
 
 -- ---- waivers
@@ -89,20 +88,20 @@ by_code : (code : RefusalCode) (found : Option RefusalCode) → refused_by found
 by_code code None is = cc
 by_code code (Some c) is = cc
 
-pub coded : (reason : Reason) (code : RefusalCode) → failure_of reason ≡ Refused code → refusal_code_of reason ≡ Some code
+pub coded : (reason : Refusal) (code : RefusalCode) → failure_of reason ≡ Refused code → refusal_code_of reason ≡ Some code
 coded reason code is = by_code code (refusal_code_of reason) is
 
 pub never : (failure : Failure) (code : RefusalCode) → failure ≡ Refused code → failure ≡ Memory → ⊥
 never failure code is memory = cc
 
-pub refused_piece : (form : Form) (read : Result Input Reason) (mark mark' : Mark) (room : List ℕ) (piece : Piece) (failure : Failure)
+pub refused_piece : (form : Form) (read : Result Input Refusal) (mark mark' : Mark) (room : List ℕ) (piece : Piece) (failure : Failure)
     (code : RefusalCode) → IsFailureOf read failure → failure ≡ Refused code → mark' ≡ mark → IsRefusalBy code room piece
     → IsPiece form read mark mark' room piece
 refused_piece form (Err reason) mark mark' room piece failure code (inl so) is kept by = refused code (coded reason code (sym so ∙ is)) by kept
 refused_piece form (Err reason) mark mark' room piece failure code (inr memory) is kept by = absurd (never failure code is memory)
 refused_piece form (Ok input) mark mark' room piece failure code memory is kept by = absurd (never failure code is memory)
 
-pub refused_document : (name : List ℕ) (pages : PagesValue) (read : Result Input Reason) (reached reached' : Reached) (room : List ℕ) (piece : Piece)
+pub refused_document : (name : List ℕ) (pages : PagesValue) (read : Result Input Refusal) (reached reached' : Reached) (room : List ℕ) (piece : Piece)
     (failure : Failure) (code : RefusalCode) → IsFailureOf read failure → failure ≡ Refused code → reached' ≡ reached
     → IsRefusalBy code room piece → IsDocumentPiece (subject_read name pages read) reached reached' room piece
 refused_document name pages (Err reason) reached reached' room piece failure code (inl so) is kept by =

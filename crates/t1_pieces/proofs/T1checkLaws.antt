@@ -5,9 +5,8 @@ use Rattle.t1_answer.specs.Told.{program, told_of}
 use Rattle.t1_answer.specs.Waived.{asks_waivers}
 use Rattle.t1_answer.specs.declared.asked.Options.{Options}
 use Rattle.t1_font.specs.Fonts.{FontValue}
-use Rattle.t1_refusals.specs.RefusalCodes.{refusal_code_of}
-use Rattle.t1_refusals.specs.declared.refusal.Reason.{Reason}
-use Rattle.t1_refusals.specs.declared.refusal.RefusalCode.{RefusalCode}
+use Rattle.t1_report.specs.Refusals.{refusal_code_of, Refusal}
+use Rattle.t1_font.specs.declared.unread.RefusalCode.{RefusalCode}
 use Rattle.t1_report.specs.Checked.{checked}
 use Rattle.t1_report.specs.Faults.{FaultValue}
 use Rattle.t1_report.specs.Laws.Reports.{HasNoOtherReport}
@@ -21,7 +20,7 @@ use Rattle.t1_pieces.specs.T1check.{AskAll, IsRefusedFor, T1checkRefusesThem, T1
 asked : (options : Options) (text : List ℕ) → asks_waivers options ≡ true → waived_by options text ≡ waivers_in options.edition text
 asked options text is = ap (λ (b : Bool). if b then waivers_in options.edition text else Ok []) is
 
-untraced : (options : Options) (font : FontValue) (waived : Result (List Waiver) Reason) (answer : Answer) → options.trace ≡ None
+untraced : (options : Options) (font : FontValue) (waived : Result (List Waiver) Refusal) (answer : Answer) → options.trace ≡ None
     → IsShown options font waived (option_map string_bytes options.trace) answer → IsReported options font waived answer
 untraced options font waived answer none shown =
     subst (λ (trace : Option (List ℕ)). IsShown options font waived trace answer) (ap (option_map string_bytes) none) shown
@@ -32,30 +31,30 @@ whole options faults all =
 
 pub writes : HasNoOtherReport → T1checkWritesThem
 writes no_other options bytes text font waivers faults answer all of_font of_waivers report is =
-    let waived = subst (λ (w : Result (List Waiver) Reason). IsAnswerTo options (font_of bytes) w answer)
+    let waived = subst (λ (w : Result (List Waiver) Refusal). IsAnswerTo options (font_of bytes) w answer)
     (asked options text all.waivers ∙ of_waivers) is in
-    let read = subst (λ (r : Result FontValue Reason). IsAnswerTo options r (Ok waivers) answer) of_font waived in
+    let read = subst (λ (r : Result FontValue Refusal). IsAnswerTo options r (Ok waivers) answer) of_font waived in
     let shown = untraced options font (Ok waivers) answer all.trace read in
     let same = no_other (checked font options.edition) waivers shown.0 faults shown.1.0 report in
     ap (λ (a : Answer). a.output) shown.1.1
     ∙ ap (λ (fs : List FaultValue). (reported font waivers fs).output) (whole options shown.0 all ∙ same)
 
 -- A refusal that is printed.
-told : (reason : Reason) (code : RefusalCode) (answer : Answer) → refusal_code_of reason ≡ Some code → answer ≡ refused (told_of reason)
+told : (reason : Refusal) (code : RefusalCode) (answer : Answer) → refusal_code_of reason ≡ Some code → answer ≡ refused (told_of reason)
     → answer.told ≡ refusal_line code
 told reason code answer coded is =
     ap (λ (a : Answer). a.told) is ∙ ap (λ (c : Option RefusalCode). failure_line program (refused_by c)) coded
 
-by_read : (options : Options) (read : Result FontValue Reason) (waived : Result (List Waiver) Reason) (reason : Reason) (code : RefusalCode)
+by_read : (options : Options) (read : Result FontValue Refusal) (waived : Result (List Waiver) Refusal) (reason : Refusal) (code : RefusalCode)
     (answer : Answer) → options.trace ≡ None → IsRefusedFor read waived reason → refusal_code_of reason ≡ Some code
     → IsAnswerTo options read waived answer → answer.told ≡ refusal_line code
 by_read options (Err why) waived reason code answer none is coded answered =
-    told reason code answer coded (answered ∙ ap (λ (r : Reason). refused (told_of r)) is)
+    told reason code answer coded (answered ∙ ap (λ (r : Refusal). refused (told_of r)) is)
 by_read options (Ok font) (Err why) reason code answer none is coded answered =
-    told reason code answer coded (untraced options font (Err why) answer none answered ∙ ap (λ (r : Reason). refused (told_of r)) is)
+    told reason code answer coded (untraced options font (Err why) answer none answered ∙ ap (λ (r : Refusal). refused (told_of r)) is)
 by_read options (Ok font) (Ok waivers) reason code answer none is coded answered = absurd is
 
 pub refuses : T1checkRefusesThem
 refuses options bytes text reason code answer all why coded is =
     by_read options (font_of bytes) (waivers_in options.edition text) reason code answer all.trace why coded
-    (subst (λ (w : Result (List Waiver) Reason). IsAnswerTo options (font_of bytes) w answer) (asked options text all.waivers) is)
+    (subst (λ (w : Result (List Waiver) Refusal). IsAnswerTo options (font_of bytes) w answer) (asked options text all.waivers) is)

@@ -6,7 +6,7 @@ use Rattle.t1_forms.specs.SarifDocuments.{after_one}
 use Rattle.t1_forms.specs.SarifObjects.{unit_of}
 use Rattle.t1_forms.specs.Tellings.{ToldValue, what_spelled}
 use Rattle.t1_lines.specs.Lines.{line_in, of_fault}
-use Rattle.t1_refusals.specs.declared.refusal.Reason.{Reason}
+use Rattle.t1_report.specs.Refusals.{Refusal}
 use Rattle.t1_printers.specs.Formatting.{told_fault}
 use Rattle.t1_report.specs.Checked.{CheckedFont}
 use Rattle.t1_report.specs.Faults.{FaultValue}
@@ -36,7 +36,7 @@ abbrev pub subject_for : DocumentRequest → CheckedFont → List Waiver → Sub
 subject_for request font waivers = record { name = request.name.now; pages = pages_value request.pages; font = font; waivers = waivers }
 
 -- By what the font and the waivers are read as.
-abbrev pub subject_read : List ℕ → PagesValue → Result Input Reason → Result Subject Reason
+abbrev pub subject_read : List ℕ → PagesValue → Result Input Refusal → Result Subject Refusal
 subject_read name pages (Err reason) = Err reason
 subject_read name pages (Ok input) = Ok (record { name = name; pages = pages; font = input.font; waivers = input.waivers })
 
@@ -151,11 +151,11 @@ IsDocumentPieceOf subject reached reached' room piece =
     → IsPartOf (start_at subject reached state mark) reached reached' room piece
 
 -- By what the font and the waivers are read as.
-abbrev pub IsDocumentPiece : Result Subject Reason → Reached → Reached → List ℕ → Piece → Type 0
+abbrev pub IsDocumentPiece : Result Subject Refusal → Reached → Reached → List ℕ → Piece → Type 0
 IsDocumentPiece (Err reason) reached reached' room piece = IsRefusalFor reason reached reached' room piece
 IsDocumentPiece (Ok subject) reached reached' room piece = IsDocumentPieceOf subject reached reached' room piece
 
 -- The same without refusals, which are put into the room later.
-abbrev pub IsReadDocumentPiece : Result Subject Reason → Reached → Reached → List ℕ → Piece → Type 0
+abbrev pub IsReadDocumentPiece : Result Subject Refusal → Reached → Reached → List ℕ → Piece → Type 0
 IsReadDocumentPiece (Err reason) reached reached' room piece = ⊥
 IsReadDocumentPiece (Ok subject) reached reached' room piece = IsDocumentPieceOf subject reached reached' room piece

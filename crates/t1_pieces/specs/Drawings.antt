@@ -3,10 +3,9 @@ use Rattle.std.specs.Prelude.{◌≡◌, ◌≤◌, ◌<◌, ◌⊎◌, ◌+◌,
 use Rattle.t1_font.specs.Fonts.{FontValue}
 use Rattle.t1_picture.specs.Pictures.{IsPictureOf}
 use Rattle.t1_picture.specs.Subjects.{ShownValue, everything, one_fault, up_to}
-use Rattle.t1_refusals.specs.RefusalCodes.{refusal_code_of}
-use Rattle.t1_refusals.specs.RefusalTexts.{refusal_text_of}
-use Rattle.t1_refusals.specs.declared.refusal.Reason.{Reason}
-use Rattle.t1_refusals.specs.declared.refusal.RefusalCode.{RefusalCode}
+use Rattle.t1_report.specs.Refusals.{refusal_code_of, Refusal}
+use Rattle.t1_font.specs.Refusals.{refusal_text_of}
+use Rattle.t1_font.specs.declared.unread.RefusalCode.{RefusalCode}
 use Rattle.t1_report.specs.Faults.{FaultValue}
 use Rattle.t1_report.specs.Lines.{IsInFont}
 use Rattle.t1_report.specs.Waivers.{Waiver}
@@ -96,16 +95,16 @@ pub data IsDrawn (name : List ℕ) (extent : Extent) (input : Input) (room : Lis
   no_memory : drawn ≡ Memory → IsDrawn name extent input room drawn
 
 -- They are refused for this reason, or memory ran out.
-pub data IsRefused (reason : Reason) (room : List ℕ) (drawn : PictureResult) : Type 0 where
+pub data IsRefused (reason : Refusal) (room : List ℕ) (drawn : PictureResult) : Type 0 where
   refused : (code : RefusalCode) → refusal_code_of reason ≡ Some code → IsRefusedBy code room drawn → IsRefused reason room drawn
   no_memory : drawn ≡ Memory → IsRefused reason room drawn
 
 -- By what the font and the waivers are read as.
-abbrev pub IsDrawing : List ℕ → Extent → Result Input Reason → List ℕ → PictureResult → Type 0
+abbrev pub IsDrawing : List ℕ → Extent → Result Input Refusal → List ℕ → PictureResult → Type 0
 IsDrawing name extent (Err reason) room drawn = IsRefused reason room drawn
 IsDrawing name extent (Ok input) room drawn = IsDrawn name extent input room drawn
 
 -- Before it is put into the room, without refusals.
-abbrev pub IsReadDrawn : List ℕ → Extent → Result Input Reason → Drawn → Type 0
+abbrev pub IsReadDrawn : List ℕ → Extent → Result Input Refusal → Drawn → Type 0
 IsReadDrawn name extent (Err reason) drawn = ⊥
 IsReadDrawn name extent (Ok input) drawn = IsDrawnAs name extent input drawn

@@ -6,10 +6,9 @@ use Rattle.t1_font.specs.Fonts.{FontValue}
 use Rattle.t1_font.specs.Values.{Value, numbers}
 use Rattle.t1_font.specs.declared.key.Key.{Key}
 use Rattle.t1_reason_texts.specs.Decimals.{exact_text, value_of}
-use Rattle.t1_refusals.specs.RefusalCodes.{refusal_code_of}
-use Rattle.t1_refusals.specs.RefusalTexts.{refusal_text_of}
-use Rattle.t1_refusals.specs.declared.refusal.Reason.{Reason}
-use Rattle.t1_refusals.specs.declared.refusal.RefusalCode.{RefusalCode}
+use Rattle.t1_report.specs.Refusals.{refusal_code_of, Refusal}
+use Rattle.t1_font.specs.Refusals.{refusal_text_of}
+use Rattle.t1_font.specs.declared.unread.RefusalCode.{RefusalCode}
 use Rattle.t1_rules.specs.Keys.{value_at}
 use Rattle.t1_pieces.specs.declared.entry_result.EntryResult.{EntryResult}
 use Rattle.t1_pieces.specs.declared.entry_result.EntryResult.TheVariants.{Memory, NoNumbers, NoRoom, Numbers, Refused}
@@ -52,16 +51,16 @@ pub data AreNumbers (key : Key) (font : FontValue) (room : List ℕ) (result : E
   no_memory : result ≡ Memory → AreNumbers key font room result
 
 -- It is refused for this reason, or memory ran out.
-pub data IsEntryRefused (reason : Reason) (room : List ℕ) (result : EntryResult) : Type 0 where
+pub data IsEntryRefused (reason : Refusal) (room : List ℕ) (result : EntryResult) : Type 0 where
   refused : (code : RefusalCode) → refusal_code_of reason ≡ Some code → IsEntryRefusedBy code room result → IsEntryRefused reason room result
   no_memory : result ≡ Memory → IsEntryRefused reason room result
 
 -- By what the font is read as.
-abbrev pub IsNumbersPiece : Key → Result FontValue Reason → List ℕ → EntryResult → Type 0
+abbrev pub IsNumbersPiece : Key → Result FontValue Refusal → List ℕ → EntryResult → Type 0
 IsNumbersPiece key (Err reason) room result = IsEntryRefused reason room result
 IsNumbersPiece key (Ok font) room result = AreNumbers key font room result
 
 -- Before it is put into the room, without refusals.
-abbrev pub IsReadNumbers : Key → Result FontValue Reason → Option (List ℕ) → Type 0
+abbrev pub IsReadNumbers : Key → Result FontValue Refusal → Option (List ℕ) → Type 0
 IsReadNumbers key (Err reason) text = ⊥
 IsReadNumbers key (Ok font) text = text ≡ entry_numbers (value_at font key)

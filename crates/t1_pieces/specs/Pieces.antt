@@ -1,9 +1,8 @@
 -- What a call hands over of a font's report: the lines after a mark, or why there are none.
 use Rattle.std.specs.Prelude.{◌≡◌, ◌≤◌, ◌<◌, ◌+◌, ℕ, List, length, take, Some, Result, Ok, Err}
-use Rattle.t1_refusals.specs.RefusalCodes.{refusal_code_of}
-use Rattle.t1_refusals.specs.RefusalTexts.{refusal_text_of}
-use Rattle.t1_refusals.specs.declared.refusal.Reason.{Reason}
-use Rattle.t1_refusals.specs.declared.refusal.RefusalCode.{RefusalCode}
+use Rattle.t1_report.specs.Refusals.{refusal_code_of, Refusal}
+use Rattle.t1_font.specs.Refusals.{refusal_text_of}
+use Rattle.t1_font.specs.declared.unread.RefusalCode.{RefusalCode}
 use Rattle.t1_report.specs.Faults.{FaultValue}
 use Rattle.t1_report.specs.Laws.Walks.{LeadTo}
 use Rattle.t1_report.specs.Walks.{HasNoneLater, IsNext}
@@ -45,18 +44,18 @@ IsRefusalBy code room (Refused n) = (n ≤ length room) × (take n room ≡ refu
 IsRefusalBy code room Memory = ⊥
 
 -- A call refuses for this reason, or memory ran out. The mark, or how far a document was handed over, stays.
-pub data IsRefusalFor {P : Type 0} (reason : Reason) (mark mark' : P) (room : List ℕ) (piece : Piece) : Type 0 where
+pub data IsRefusalFor {P : Type 0} (reason : Refusal) (mark mark' : P) (room : List ℕ) (piece : Piece) : Type 0 where
   refused :
       (code : RefusalCode) → refusal_code_of reason ≡ Some code → IsRefusalBy code room piece → mark' ≡ mark
       → IsRefusalFor reason mark mark' room piece
   no_memory : piece ≡ Memory → mark' ≡ mark → IsRefusalFor reason mark mark' room piece
 
 -- What a call hands over, by what the font and the waivers are read as.
-abbrev pub IsPiece : Form → Result Input Reason → Mark → Mark → List ℕ → Piece → Type 0
+abbrev pub IsPiece : Form → Result Input Refusal → Mark → Mark → List ℕ → Piece → Type 0
 IsPiece form (Err reason) mark mark' room piece = IsRefusalFor reason mark mark' room piece
 IsPiece form (Ok input) mark mark' room piece = IsPieceOf form input mark mark' room piece
 
 -- The same without refusals, which are put into the room later.
-abbrev pub IsReadPiece : Form → Result Input Reason → Mark → Mark → List ℕ → Piece → Type 0
+abbrev pub IsReadPiece : Form → Result Input Refusal → Mark → Mark → List ℕ → Piece → Type 0
 IsReadPiece form (Err reason) mark mark' room piece = ⊥
 IsReadPiece form (Ok input) mark mark' room piece = IsPieceOf form input mark mark' room piece

@@ -2,7 +2,7 @@
 use Rattle.std.specs.Prelude.{◌≡◌, ◌⊎◌, ℕ, List, Result, Ok, Err}
 use Rattle.t1_char.specs.declared.edition.Edition.{Edition}
 use Rattle.t1_font.specs.Fonts.{FontValue}
-use Rattle.t1_refusals.specs.declared.refusal.Reason.{Reason}
+use Rattle.t1_report.specs.Refusals.{Refusal}
 use Rattle.t1_report.specs.Checked.{CheckedFont, checked}
 use Rattle.t1_report.specs.Waivers.{Waiver}
 use Rattle.t1_run.specs.Failures.{failure_of}
@@ -17,16 +17,16 @@ pub record Input : Type 0 where
   pub waivers : List Waiver
 
 -- What they are read as: why the font isn't read comes first.
-abbrev pub input_of : Edition → Result FontValue Reason → Result (List Waiver) Reason → Result Input Reason
+abbrev pub input_of : Edition → Result FontValue Refusal → Result (List Waiver) Refusal → Result Input Refusal
 input_of edition (Err reason) waivers = Err reason
 input_of edition (Ok font) (Err reason) = Err reason
 input_of edition (Ok font) (Ok waivers) = Ok (record { font = checked font edition; waivers = waivers })
 
 -- What the bytes of a font and a text of waivers are read as.
-abbrev pub input_in : Edition → List ℕ → List ℕ → Result Input Reason
+abbrev pub input_in : Edition → List ℕ → List ℕ → Result Input Refusal
 input_in edition font text = input_of edition (font_of font) (waivers_in edition text)
 
 -- Memory ran out, or the bytes are refused for their reason.
-abbrev pub IsFailureOf : {A : Type 0} → Result A Reason → Failure → Type 0
+abbrev pub IsFailureOf : {A : Type 0} → Result A Refusal → Failure → Type 0
 IsFailureOf (Ok value) failure = failure ≡ Memory
 IsFailureOf (Err reason) failure = (failure ≡ failure_of reason) ⊎ (failure ≡ Memory)

@@ -4,9 +4,8 @@ use Rattle.t1_answer.specs.Answers.{Answer, IsAnswer}
 use Rattle.t1_answer.specs.Waived.{asks_waivers}
 use Rattle.t1_answer.specs.declared.asked.Options.{Options}
 use Rattle.t1_font.specs.Fonts.{FontValue}
-use Rattle.t1_refusals.specs.RefusalCodes.{refusal_code_of}
-use Rattle.t1_refusals.specs.declared.refusal.Reason.{Reason}
-use Rattle.t1_refusals.specs.declared.refusal.RefusalCode.{RefusalCode}
+use Rattle.t1_report.specs.Refusals.{refusal_code_of, Refusal}
+use Rattle.t1_font.specs.declared.unread.RefusalCode.{RefusalCode}
 use Rattle.t1_pieces.specs.Forms.{lines_as}
 use Rattle.t1_pieces.specs.declared.form.Form.TheVariants.{Text}
 use Rattle.t1_report.specs.Checked.{checked}
@@ -33,13 +32,13 @@ T1checkWritesThem =
     → answer.output ≡ lines_as Text (checked font options.edition) waivers faults
 
 -- For the reason why they aren't it prints the same code and text.
-abbrev pub IsRefusedFor : {A B : Type 0} → Result A Reason → Result B Reason → Reason → Type 0
+abbrev pub IsRefusedFor : {A B : Type 0} → Result A Refusal → Result B Refusal → Refusal → Type 0
 IsRefusedFor (Err why) waived reason = why ≡ reason
 IsRefusedFor (Ok font) (Err why) reason = why ≡ reason
 IsRefusedFor (Ok font) (Ok waivers) reason = ⊥
 
 abbrev pub T1checkRefusesThem : Type 0
 T1checkRefusesThem =
-    (options : Options) (bytes text : List ℕ) (reason : Reason) (code : RefusalCode) (answer : Answer)
+    (options : Options) (bytes text : List ℕ) (reason : Refusal) (code : RefusalCode) (answer : Answer)
     → AskAll options → IsRefusedFor (font_of bytes) (waivers_in options.edition text) reason → refusal_code_of reason ≡ Some code
     → IsAnswer options bytes text answer → answer.told ≡ refusal_line code

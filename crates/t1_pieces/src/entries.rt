@@ -14,9 +14,8 @@ use crate::reading::open;
 use crate::room::put_after;
 use std::alloc::{AllocError, Global};
 use std::fmt::Write;
-use t1_font::Entry;
+use t1_font::{Entry, RefusalCode, refusal_text};
 use t1_reason_texts::value;
-use t1_refusals::{RefusalCode, refusal_text};
 use t1_run::Failure;
 
 /// Hands over the numbers of an entry that is a list: how many there are, and the first 16 of them, as decimals, each behind a blank.

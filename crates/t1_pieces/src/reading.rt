@@ -12,8 +12,7 @@ use crate::refusal::refuse;
 use crate::request::Request;
 use std::alloc::Global;
 use t1_char::Edition;
-use t1_font::{Font, OpenFont};
-use t1_refusals::Reason;
+use t1_font::{Font, OpenFont, RefusalCode};
 use t1_report::{LARGEST_WAIVERS, Mark, Waivers};
 use t1_rules::Sidebearings;
 use t1_run::{Failure, LARGEST_FILE};
@@ -85,7 +84,7 @@ pub(crate) fn open(alloc: Global, bytes: &[u8]) -> Result<OpenFont, Failure>
     ensures failed { IfErr result (IsFailureOf (font_of bytes.now)) }
 {
     if bytes.len() > LARGEST_FILE {
-        return Err(Failure::from(Reason::FontTooLarge));
+        return Err(Failure::Refused(RefusalCode::E05));
     }
     Ok(OpenFont::open(alloc, bytes)?)
 }
@@ -100,7 +99,7 @@ pub(crate) fn read_waivers(
     ensures failed { IfErr result (IsFailureOf (waivers_in edition text.now)) }
 {
     if text.len() > LARGEST_WAIVERS {
-        return Err(Failure::from(Reason::WaiversTooLarge));
+        return Err(Failure::Refused(RefusalCode::E15));
     }
     Ok(Waivers::read(alloc, text, edition)?)
 }

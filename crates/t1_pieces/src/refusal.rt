@@ -5,7 +5,7 @@ ghost use Rattle.t1_pieces.specs.Pieces.{IsRefusalBy};
 
 use crate::piece::Piece;
 use crate::room::put_after;
-use t1_refusals::{RefusalCode, refusal_text};
+use t1_font::{RefusalCode, refusal_text};
 
 /// Puts the text of a refusal at the beginning of a room.
 pub(crate) fn refuse(code: RefusalCode, room: &mut [u8]) -> Piece

@@ -16,7 +16,7 @@ use Rattle.t1_printers.specs.Units.{NamedUnit, names_of}
 use Rattle.t1_printers.specs.Widths.{width_of}
 use Rattle.t1_printers.specs.Writings.{IsWritten, Wording, command_wording, failure_words, held_after, terminal_wording, text_after, text_of_one}
 use Rattle.t1_io.specs.Devices.{AppendsFront, SinkState}
-use Rattle.t1_refusals.specs.declared.refusal.RefusalCode.{RefusalCode}
+use Rattle.t1_font.specs.declared.unread.RefusalCode.{RefusalCode}
 use Rattle.t1_many.specs.Handing.{Handed, HandsOn, done, failure, line}
 use Rattle.t1_many.specs.Plain.{failure_told, tellings, told_of}
 use Rattle.t1_many.specs.declared.policy.Lost.{Lost}

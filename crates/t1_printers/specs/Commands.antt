@@ -7,7 +7,7 @@ use Rattle.t1_printers.specs.GroupLines.{Writing, rule_head, rule_tail, rule_tai
 use Rattle.t1_lines.specs.Lines.{of_refusal, spelled}
 use Rattle.t1_many.specs.Plain.{IsPut}
 use Rattle.t1_many.specs.declared.policy.Lost.{Lost}
-use Rattle.t1_refusals.specs.declared.refusal.RefusalCode.{RefusalCode}
+use Rattle.t1_font.specs.declared.unread.RefusalCode.{RefusalCode}
 use Rattle.t1_rules.specs.declared.rule.Rule.{Rule}
 
 -- The width of a message.

@@ -4,7 +4,7 @@ use Rattle.t1_forms.specs.Tellings.{ToldValue, of_line, of_unchecked, reason_tol
 use Rattle.t1_forms.specs.declared.told.Told.{Told}
 use Rattle.t1_io.specs.Devices.{PutFailed, SinkState, Wrote}
 use Rattle.t1_lines.specs.Lines.{line_in, of_fault, of_refusal}
-use Rattle.t1_refusals.specs.declared.refusal.RefusalCode.{RefusalCode}
+use Rattle.t1_font.specs.declared.unread.RefusalCode.{RefusalCode}
 use Rattle.t1_many.specs.Handing.{Handed, done, failure, line}
 use Rattle.t1_many.specs.Plain.{IsFlushed}
 use Rattle.t1_many.specs.declared.policy.Lost.{Lost}

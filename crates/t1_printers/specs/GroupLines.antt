@@ -6,7 +6,7 @@ use Rattle.t1_printers.specs.Held.{by_level}
 use Rattle.t1_printers.specs.RuleGroups.{group_of}
 use Rattle.t1_printers.specs.Tails.{tail_text}
 use Rattle.t1_printers.specs.Widths.{width_of}
-use Rattle.t1_refusals.specs.declared.refusal.RefusalCode.{RefusalCode}
+use Rattle.t1_font.specs.declared.unread.RefusalCode.{RefusalCode}
 use Rattle.t1_rules.specs.Book.{code_of, text_of}
 use Rattle.t1_rules.specs.declared.rule.Rule.{Rule}
 

@@ -4,8 +4,8 @@ use Rattle.t1_printers.specs.GroupLines.{Writing, rule_head, rule_tail, rule_tai
 use Rattle.t1_printers.specs.TerminalNames.{terminal_name}
 use Rattle.t1_printers.specs.Widths.{width_of}
 use Rattle.t1_printers.specs.Wrapped.{reason_words, wrapped}
-use Rattle.t1_refusals.specs.RefusalTexts.{refusal_text_of}
-use Rattle.t1_refusals.specs.declared.refusal.RefusalCode.{RefusalCode}
+use Rattle.t1_font.specs.Refusals.{refusal_text_of}
+use Rattle.t1_font.specs.declared.unread.RefusalCode.{RefusalCode}
 use Rattle.t1_rules.specs.Book.{level_of}
 use Rattle.t1_rules.specs.declared.level.Level.{Level}
 use Rattle.t1_rules.specs.declared.level.Level.TheVariants.{Must, Should, Tidy}

@@ -6,7 +6,7 @@ use Rattle.t1_printers.specs.Grouping.{Grouping}
 use Rattle.t1_printers.specs.Held.{HeldLine, held_line, held_text}
 use Rattle.t1_printers.specs.Terminals.{terminal_lines_of, terminal_refusal}
 use Rattle.t1_io.specs.Devices.{AppendsFront}
-use Rattle.t1_refusals.specs.declared.refusal.RefusalCode.{RefusalCode}
+use Rattle.t1_font.specs.declared.unread.RefusalCode.{RefusalCode}
 use Rattle.t1_many.specs.Handing.{Handed, done, failure, line}
 use Rattle.t1_many.specs.Plain.{tellings}
 use Rattle.t1_many.specs.declared.policy.Lost.{Lost}

@@ -9,13 +9,12 @@ use crate::formatter::Formatter;
 use crate::line_text::{set_fault, set_refusal, set_unchecked};
 use crate::telling::give;
 use std::alloc::Global;
-use t1_font::Font;
+use t1_font::{Font, RefusalCode};
 use t1_forms::{OwnReason, Text, What, as_told};
 use t1_io::Sink;
 use t1_lines::{Line, fault_line};
 use t1_many::{FontError, Lost, Printer, tell_unchecked, told_reason};
 use t1_reasons::ReportReasons;
-use t1_refusals::RefusalCode;
 use t1_report::{Fault, Waivers};
 use t1_summary::FontClass;
 

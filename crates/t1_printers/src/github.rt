@@ -18,7 +18,7 @@ use t1_forms::{Text, Told, What, write_command, write_rule_command};
 use t1_io::Sink;
 use t1_lines::Line;
 use t1_many::Lost;
-use t1_refusals::{RefusalCode, refusal_text};
+use t1_font::{RefusalCode, refusal_text};
 use t1_rules::Rule;
 
 /// The width of a message.

@@ -7,11 +7,10 @@ ghost use Rattle.t1_many.specs.declared.policy.Lost.TheVariants.{Memory};
 ghost use Rattle.t1_report.specs.Faults.{fault_value};
 ghost use Rattle.t1_report.specs.Lines.{IsInFont};
 
-use t1_font::Font;
+use t1_font::{Font, RefusalCode, refusal_text};
 use t1_forms::Text;
 use t1_io::{Sink, put_parts};
 use t1_many::Lost;
-use t1_refusals::{RefusalCode, refusal_text};
 use t1_report::{Fault, Waivers, write_fault};
 
 /// Writes the line of a fault, without its end, in the place of what a text has.

@@ -8,7 +8,7 @@ use Rattle.t1_char.specs.declared.edition.Edition.{Edition}
 use Rattle.t1_char.proofs.EditionLemmas.{limit_few}
 use Rattle.t1_char.specs.declared.machine.Answer.{Answer}
 use Rattle.t1_char.specs.declared.machine.Answer.TheVariants.{Step, Ended, Limit}
-use Rattle.t1_char.specs.declared.machine.Numbers.TheVariants.{Told}
+use Rattle.t1_char.specs.declared.machine.Numbers.TheVariants.{Returned}
 use Rattle.t1_char.specs.AnswerViews.{answer_view}
 use Rattle.t1_char.specs.Asking.{IsAsked}
 use Rattle.t1_char.specs.Editions.{limit_of}
@@ -72,11 +72,11 @@ pub record IsTold (old new : MachineView) : Type 0 where
   pub in_hand : IsInHand new
   pub before : take (new.counted - 1) (steps_in new) ≡ take old.counted (steps_in old)
 
-pub told : (old new : MachineView) → IsOfSameGlyph old new → IsAsked Told old new (stepped new.step) → IsTold old new
+pub told : (old new : MachineView) → IsOfSameGlyph old new → IsAsked Returned old new (stepped new.step) → IsTold old new
 told old new same asked =
     let steps = steps_of old.font old.glyph in
     let limit = limit_of old.edition in
-    let at : asked.before ≡ old.counted = asked.told refl in
+    let at : asked.before ≡ old.counted = asked.returned refl in
     let next : IsStepped limit steps old.counted new.step = stepped_is limit steps old.counted new.step (asked.turn ∙ ap (turn_at limit steps) at) in
     let counted : new.counted ≡ old.counted + 1 = asked.counted ∙ ap (counted_after limit steps) at ∙ next.counted in
     let place : new.counted - 1 ≡ old.counted = omega (arith, counted) in
@@ -98,7 +98,7 @@ told old new same asked =
     }
 
 pub step_watched : (old new : MachineView) (kept : StepsBefore) (watches seen : Watches) (broken : Mask) → IsOfSameGlyph old new
-    → IsAsked Told old new (stepped new.step)
+    → IsAsked Returned old new (stepped new.step)
     → StepsStandFor old.edition kept (take old.counted (steps_in old))
     → WatchesStandFor old.edition watches (take old.counted (steps_in old))
     → ((edition : Edition) (before : List StepView) → WatchesStandFor edition watches before → length before < most_steps
@@ -157,11 +157,11 @@ pub record IsOver (old new : MachineView) : Type 0 where
   pub counted : new.counted ≡ length (steps_in old) + 1
 
 pub over : (old new : MachineView) (answer : Answer) → old.counted ≤ length (steps_in old) → (answer ≡ Step → ⊥)
-    → IsAsked Told old new (answer_view answer new.step) → IsOver old new
+    → IsAsked Returned old new (answer_view answer new.step) → IsOver old new
 over old new answer few other asked =
     let steps = steps_of old.font old.glyph in
     let limit = limit_of old.edition in
-    let at : asked.before ≡ old.counted = asked.told refl in
+    let at : asked.before ≡ old.counted = asked.returned refl in
     let whole : take old.counted (steps_in old) ≡ steps_in old =
     answered_over limit steps old.counted answer new.step other (asked.turn ∙ ap (turn_at limit steps) at) in
     let all : old.counted ≡ length (steps_in old) = omega (arith, few, ap length whole, length-take old.counted (steps_in old)) in
@@ -171,13 +171,13 @@ over old new answer few other asked =
     }
 
 over_answer : (old new : MachineView) (answer : Answer) → IsOfSameGlyph old new → IsOver old new → (answer ≡ Step → ⊥)
-    → IsAsked Told old new (answer_view answer new.step) → IsAnswer answer new
+    → IsAsked Returned old new (answer_view answer new.step) → IsAnswer answer new
 over_answer old new Step same is other asked = absurd (other refl)
 over_answer old new Ended same is other asked =
     let limit = limit_of old.edition in
     let steps = steps_of old.font old.glyph in
     let turn : ended ≡ limit_or_end limit (slice_get steps limit) =
-    asked.turn ∙ ap (turn_at limit steps) (asked.told refl) ∙ last_turn limit steps old.counted (omega (arith, is.all)) in (
+    asked.turn ∙ ap (turn_at limit steps) (asked.returned refl) ∙ last_turn limit steps old.counted (omega (arith, is.all)) in (
       rw (same_steps old new same) is.counted,
       rw (same.font, same.glyph, same.edition) (ended_short limit steps (slice_get steps limit) refl turn),
     )
@@ -185,13 +185,13 @@ over_answer old new Limit same is other asked =
     let limit = limit_of old.edition in
     let steps = steps_of old.font old.glyph in
     let turn : limited new.step ≡ limit_or_end limit (slice_get steps limit) =
-    asked.turn ∙ ap (turn_at limit steps) (asked.told refl) ∙ last_turn limit steps old.counted (omega (arith, is.all)) in (
+    asked.turn ∙ ap (turn_at limit steps) (asked.returned refl) ∙ last_turn limit steps old.counted (omega (arith, is.all)) in (
       rw (same_steps old new same) is.counted,
       rw (same.font, same.glyph, same.edition) (limited_long limit steps new.step (slice_get steps limit) refl turn),
     )
 
 pub over_watched : (old new : MachineView) (kept : StepsBefore) (watches : Watches) (broken : Mask) (answer : Answer) → IsOfSameGlyph old new
-    → old.counted ≤ length (steps_in old) → (answer ≡ Step → ⊥) → IsAsked Told old new (answer_view answer new.step)
+    → old.counted ≤ length (steps_in old) → (answer ≡ Step → ⊥) → IsAsked Returned old new (answer_view answer new.step)
     → StepsStandFor old.edition kept (take old.counted (steps_in old))
     → WatchesStandFor old.edition watches (take old.counted (steps_in old))
     → IsWatched new kept watches broken answer

@@ -147,7 +147,7 @@ impl<'a> GlyphReasons<'a> {
             return false;
         }
         see_in_hand(&mut self.before, &self.machine);
-        self.answer = self.machine.go_on(Numbers::Told);
+        self.answer = self.machine.go_on(Numbers::Returned);
         if is_step(self.answer) {
             self.broken = self.watches.see(self.machine.current());
             true

@@ -1,4 +1,4 @@
-//! Tests of reasons: why a rule is broken, of t1_reasons and t1_reason_texts, and why a font is refused, of t1_refusals;
+//! Tests of reasons: why a rule is broken, of t1_reasons and t1_reason_texts, and why a font is refused, of t1_font;
 //! by their public items alone.
 //!
 //! A row of a table has a made font, a place, a rule and the reason that is wanted there. Numbers are at the edge: where a row

@@ -1,12 +1,11 @@
-//! What errors say of why a font isn't read: the same as the line of the refusal. Their texts are derived, so no
-//! contract has them.
+//! What errors say of why a file's bytes aren't opened: the same as the line of the refusal. Their texts are derived, so
+//! no contract has them.
 
 use std::alloc::Global;
 use std::fmt::Display;
 use std::process::Abort;
 use std::test::Fail;
-use t1_font::Refusal;
-use t1_refusals::{RefusalCode, refusal_text};
+use t1_font::{RefusalCode, refusal_text};
 use t1_seal::SealError;
 
 /// Why a file's bytes aren't opened, and what the line of each refusal says.
@@ -30,38 +29,6 @@ const OF_BYTES: &[(SealError, RefusalCode, &str)] = &[
         SealError::TooShort,
         RefusalCode::E06,
         "E06 encrypted part too short",
-    ),
-];
-
-/// Why a font's texts aren't read, and what the line of each refusal says.
-const OF_TEXTS: &[(Refusal, RefusalCode, &str)] = &[
-    (Refusal::NoEexec, RefusalCode::E04, "E04 no eexec"),
-    (
-        Refusal::Unclosed,
-        RefusalCode::E07,
-        "E07 unclosed or too deeply nested token",
-    ),
-    (Refusal::BadSubrs, RefusalCode::E08, "E08 Subrs malformed"),
-    (
-        Refusal::BadCharStrings,
-        RefusalCode::E09,
-        "E09 CharStrings malformed or absent",
-    ),
-    (
-        Refusal::BadLenIv,
-        RefusalCode::E10,
-        "E10 lenIV out of range",
-    ),
-    (
-        Refusal::PastLimit,
-        RefusalCode::E11,
-        "E11 count past its limit",
-    ),
-    (Refusal::SecondSubrs, RefusalCode::E12, "E12 second Subrs"),
-    (
-        Refusal::MultipleMaster,
-        RefusalCode::E13,
-        "E13 multiple master font",
     ),
 ];
 
@@ -93,9 +60,6 @@ fn refusals_say_why(rt: HostRuntime) {
 #[test]
 fn errors_say_what_lines_say(rt: HostRuntime) -> Result<(), Fail> {
     for (error, code, line) in OF_BYTES {
-        assert_reason(&rt, rt.alloc(), error, *code, line)?;
-    }
-    for (error, code, line) in OF_TEXTS {
         assert_reason(&rt, rt.alloc(), error, *code, line)?;
     }
     Ok(())

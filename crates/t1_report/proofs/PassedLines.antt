@@ -287,7 +287,7 @@ over_move what font glyph n taken w before way there so_far calm steady undrawn 
 -- A command that is passed is a line, or, where moves are passed, a move.
 led_kind : (what : Passing) (command : Commands) → is_led what command ≡ true
     → (is_line_command command ≡ true) ⊎ ((is_move_command command ≡ true) × (what ≡ passing.Moves))
-led_kind passing.Told command is = let no : false ≡ true = is in cc
+led_kind passing.Returned command is = let no : false ≡ true = is in cc
 led_kind passing.Numbers command is = let no : false ≡ true = is in cc
 led_kind passing.Lines command is = inl is
 led_kind passing.Moves command is =
@@ -365,20 +365,20 @@ unfolding turns_of_glyph
 turns_few font glyph n few = few
 
 -- What fits watchers.
-fit_calm : (what : Passing) (w : Watches) (taken : ℕ) → IsFit what w → (what ≡ passing.Told → taken ≡ 0) → 0 < taken → IsCalm w
-fit_calm passing.Told w taken fit told some = absurd (omega (arith, told refl, some))
+fit_calm : (what : Passing) (w : Watches) (taken : ℕ) → IsFit what w → (what ≡ passing.Returned → taken ≡ 0) → 0 < taken → IsCalm w
+fit_calm passing.Returned w taken fit told some = absurd (omega (arith, told refl, some))
 fit_calm passing.Numbers w taken fit told some = fit
 fit_calm passing.Lines w taken fit told some = fit.0
 fit_calm passing.Moves w taken fit told some = fit.0
 
 fit_steady : (what : Passing) (w : Watches) → IsFit what w → leads what ≡ true → IsSteady w
-fit_steady passing.Told w fit is = let no : false ≡ true = is in cc
+fit_steady passing.Returned w fit is = let no : false ≡ true = is in cc
 fit_steady passing.Numbers w fit is = let no : false ≡ true = is in cc
 fit_steady passing.Lines w fit is = fit.1
 fit_steady passing.Moves w fit is = fit.1.0
 
 fit_undrawn : (what : Passing) (w : Watches) → IsFit what w → what ≡ passing.Moves → IsUndrawn w
-fit_undrawn passing.Told w fit is = let no : false ≡ true = ap leads is in cc
+fit_undrawn passing.Returned w fit is = let no : false ≡ true = ap leads is in cc
 fit_undrawn passing.Numbers w fit is = let no : false ≡ true = ap leads is in cc
 fit_undrawn passing.Lines w fit is = let no : false ≡ true = ap (λ p. is_led p Rmoveto) is in cc
 fit_undrawn passing.Moves w fit is = fit.1.1
@@ -390,7 +390,7 @@ pub record GoneFar (font : CheckedFont) (glyph unit from before : ℕ) (w : Watc
   pub moves : w.flex.moves < most_steps
   pub point : (n : ℕ) × (IsNear n w.flex.point × (n < most_steps))
 
-gone_of : (what : Passing) (font : CheckedFont) (glyph unit from n taken : ℕ) (w : Watches) (way : Way) → IsFit what w → (what ≡ passing.Told → taken ≡ 0)
+gone_of : (what : Passing) (font : CheckedFont) (glyph unit from n taken : ℕ) (w : Watches) (way : Way) → IsFit what w → (what ≡ passing.Returned → taken ≡ 0)
     → unit ≡ glyph + 1 → glyph < length font.value.glyphs → n ≤ step_limit font → IsRunAt font glyph n w → IsQuiet font unit from (n + 1)
     → PassesSteps what (step_limit font) (steps_of font.value glyph) n taken way
     → GoneFar font glyph unit from (n + taken) (moved_on w way)
@@ -433,7 +433,7 @@ pub gone_far : (what : Passing) (m new : MachineView) (answer : TurnValue) (way 
     → m.counted ≤ step_limit font → (asked : IsAskedFar what m new answer way)
     → GoneFar font glyph unit from (m.counted + asked.taken) (moved_on w way)
 gone_far what m new answer way w font glyph unit from fit of_font of_glyph at run quiet near asked =
-    gone_of what font glyph unit from m.counted asked.taken w way fit asked.told at
+    gone_of what font glyph unit from m.counted asked.taken w way fit asked.returned at
     (subst (λ (f : CheckedFont). glyph < length f.value.glyphs) of_font (subst (λ g. g < length m.font.glyphs) of_glyph run.there))
     near (run_at font glyph m w of_font of_glyph run) quiet (of_machine what m font glyph asked.taken way of_font of_glyph asked.passed)
 

@@ -4,6 +4,7 @@ pub mod Faults
 pub mod Laws
 pub mod Lines
 pub mod Private
+pub mod Refusals
 pub mod Reports
 pub mod Traces
 pub mod UnitFaults

@@ -2,6 +2,7 @@
 
 ghost use Rattle.std.specs.Prelude.{◌≡◌, ◌≤◌, ◌+◌, ℕ, [], ◌&&◌, not, nat_le, length, slice_get};
 ghost use Rattle.indexmap.specs.IndexSet.{index_set_len};
+ghost use Rattle.t1_report.specs.Refusals.{waivers_code};
 ghost use Rattle.t1_report.specs.WaiverViews.{IsReadAs, waiver_if_any, waivers_now};
 ghost use Rattle.t1_report.specs.Waivers.{Waiver, is_waivable, is_waived, line_read, waiver_of, waivers_of, largest_waivers};
 ghost use Rattle.t1_report.specs.declared.waivers.WaiverError.TheVariants.{Memory};
@@ -12,6 +13,7 @@ use indexmap::IndexSet;
 use std::alloc::{AllocError, AllocFailed, Global};
 use std::marker::Model;
 use t1_char::Edition;
+use t1_font::RefusalCode;
 use t1_rules::{Mask, Rule};
 use t1_scan::run_len;
 
@@ -25,6 +27,18 @@ pub enum WaiverError {
     Malformed,
     /// An allocation was refused.
     Memory,
+}
+
+impl WaiverError {
+    /// The number by which the text is refused. Running out of memory refuses none.
+    pub fn code(self) -> Option<RefusalCode>
+        ensures { result ≡ waivers_code self }
+    {
+        match self {
+            WaiverError::Malformed => Some(RefusalCode::E14),
+            WaiverError::Memory => None,
+        }
+    }
 }
 
 impl<T: Drop> From<AllocFailed<T>> for WaiverError {
@@ -46,7 +60,8 @@ pub struct Waivers<'a> {
 
 impl<'a> Model for Waivers<'a> {
     ghost use Rattle.std.specs.Prelude.{◌≤◌, List, length};
-    ghost use Rattle.t1_report.specs.WaiverViews.{kept_waivers};
+    ghost use Rattle.t1_report.specs.Refusals.{waivers_code};
+ghost use Rattle.t1_report.specs.WaiverViews.{kept_waivers};
     ghost use Rattle.t1_report.specs.Waivers.{Waiver};
     ghost use Rattle.t1_report.specs.Waivers.{largest_waivers};
 

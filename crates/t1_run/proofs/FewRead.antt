@@ -5,14 +5,13 @@ use Rattle.std.proofs.lemmas.Bool.Decides.{nat_tests}
 use Rattle.std.specs.Prelude.{option_and_then}
 use Rattle.t1_char.specs.declared.edition.Edition.{Edition}
 use Rattle.t1_font.specs.ClearText.{clear_of}
-use Rattle.t1_font.specs.FontFiles.{as_unread, clear_next, font_in, marks_in, private_next, section_next}
+use Rattle.t1_font.specs.FontFiles.{clear_next, font_in, marks_in, private_next, section_next}
 use Rattle.t1_font.specs.Fonts.{FontValue, Marks}
 use Rattle.t1_font.specs.Laws.Limits.{FontsWithinLimits}
 use Rattle.t1_font.specs.TextTurns.{TextRead}
 use Rattle.t1_font.specs.Texts.{font_read}
-use Rattle.t1_font.specs.declared.refusal.Refusal.{Refusal}
 use Rattle.t1_font.specs.declared.unread.Unread.{Unread}
-use Rattle.t1_refusals.specs.declared.refusal.Reason.TheVariants.{FontTooLarge}
+use Rattle.t1_report.specs.Refusals.Refusal.{FontTooLarge}
 use Rattle.t1_report.specs.Waivers.{Waiver, is_waived, line_read, lines_from, lines_read, text_read, waiver_of, waivers_of, with_waiver, without_return}
 use Rattle.t1_rules.specs.Book.{number_of}
 use Rattle.t1_seal.specs.Eexec.{private_text_of}
@@ -26,7 +25,7 @@ use Rattle.t1_run.specs.WaiverFiles.{as_waivers, waivers_in}
 abbrev pub HasFew : FontValue → Type 0
 HasFew font = length font.glyphs ≤ 65535
 
-of_read : (read : Result FontValue Refusal) → ((font : FontValue) → read ≡ Ok font → HasFew font) → IfOk (as_unread read) HasFew
+of_read : (read : Result FontValue Unread) → ((font : FontValue) → read ≡ Ok font → HasFew font) → IfOk read HasFew
 of_read (Ok font) few = few font refl
 of_read (Err e) few = tt
 
@@ -36,7 +35,7 @@ of_section limits marks text clear is (Ok private) =
     of_read (font_read marks clear.stated private) (λ font read. (limits marks text private clear font is read).glyphs)
 of_section limits marks text clear is (Err e) = tt
 
-of_clear : FontsWithinLimits → (marks : Marks) (text : List ℕ) (clear : Result TextRead Refusal) → clear_of marks text ≡ clear
+of_clear : FontsWithinLimits → (marks : Marks) (text : List ℕ) (clear : Result TextRead Unread) → clear_of marks text ≡ clear
     → IfOk (section_next marks clear) HasFew
 of_clear limits marks text (Ok clear) is = of_section limits marks text clear is (private_text_of clear.rest)
 of_clear limits marks text (Err e) is = tt

@@ -2,13 +2,14 @@
 use Rattle.std.proofs.Common.{◌≡◌, ℕ, ◌<◌, ◌≤◌, nat_lt, Bool, true, false, true≢false, List, [], ◌++◌, Option, None, Some, Result, Ok, Err, length, refl, sym, ap, subst, ◌∙◌, arith, append-nil, length-append}
 use Rattle.std.proofs.lemmas.Bool.Decides.{nat_tests}
 use Rattle.std.specs.Io.KnownBytes.{Consumes, IsAtEnd}
+use Rattle.t1_font.specs.declared.unread.RefusalCode.TheVariants.{E15}
 use Rattle.t1_char.specs.declared.edition.Edition.{Edition}
 use Rattle.t1_font.specs.FontFiles.{font_in}
 use Rattle.t1_font.specs.Fonts.{FontValue}
 use Rattle.t1_font.specs.declared.unread.Unread.{Unread}
 use Rattle.t1_io.specs.Devices.{SourceState}
-use Rattle.t1_refusals.specs.declared.refusal.Reason.{Reason}
-use Rattle.t1_refusals.specs.declared.refusal.Reason.TheVariants.{FontTooLarge, WaiversTooLarge}
+use Rattle.t1_report.specs.Refusals.{Refusal}
+use Rattle.t1_report.specs.Refusals.Refusal.{FontTooLarge, WaiversTooLarge}
 use Rattle.t1_report.specs.Waivers.{Waiver, lines_from, lines_read, waivers_of}
 use Rattle.t1_run.specs.FontFiles.{AreRead, font_of, with_reason}
 use Rattle.t1_run.specs.Input.{AreAll, AreUnread, StopsAt}
@@ -89,20 +90,20 @@ pub not_asked : (old : SourceState) → IsHeard false old old
 not_asked old = record { unasked = λ unasked. refl; failed = refl; whole = λ asked. absurd (true≢false (sym asked)) }
 
 -- What is so of a reading is so of the text that is read so; and what is so of any is.
-pub of-waived : (edition : Edition) (P : Result (List Waiver) Reason → Type 0) (asked : Bool) (text : Option (List ℕ)) (waived : Result (List Waiver) Reason)
+pub of-waived : (edition : Edition) (P : Result (List Waiver) Refusal → Type 0) (asked : Bool) (text : Option (List ℕ)) (waived : Result (List Waiver) Refusal)
     → AreWaived edition asked text waived → P waived → IfWaived edition asked text P
 of-waived edition P false text waived is holds = subst P (sym is) holds
 of-waived edition P true None waived is holds = tt
 of-waived edition P true (Some text) waived is holds = subst P (sym is) holds
 
-pub of-any : (edition : Edition) (P : Result (List Waiver) Reason → Type 0) (asked : Bool) (text : Option (List ℕ))
-    → ((waived : Result (List Waiver) Reason) → P waived) → IfWaived edition asked text P
+pub of-any : (edition : Edition) (P : Result (List Waiver) Refusal → Type 0) (asked : Bool) (text : Option (List ℕ))
+    → ((waived : Result (List Waiver) Refusal) → P waived) → IfWaived edition asked text P
 of-any edition P false text all = all (Ok [])
 of-any edition P true None all = tt
 of-any edition P true (Some text) all = all (waivers_in edition text)
 
-pub waived-weaker : (edition : Edition) (P Q : Result (List Waiver) Reason → Type 0) (asked : Bool) (text : Option (List ℕ))
-    → ((waived : Result (List Waiver) Reason) → P waived → Q waived) → IfWaived edition asked text P → IfWaived edition asked text Q
+pub waived-weaker : (edition : Edition) (P Q : Result (List Waiver) Refusal → Type 0) (asked : Bool) (text : Option (List ℕ))
+    → ((waived : Result (List Waiver) Refusal) → P waived → Q waived) → IfWaived edition asked text P → IfWaived edition asked text Q
 waived-weaker edition P Q false text on holds = on (Ok []) holds
 waived-weaker edition P Q true None on holds = tt
 waived-weaker edition P Q true (Some text) on holds = on (waivers_in edition text) holds
@@ -117,7 +118,7 @@ had old new bytes all = record {
   heard = was_asked old new all.kept (the_end all.end);
 }
 
-pub had_none : (old new : SourceState) (failure : Failure) → AreUnread 1048576 WaiversTooLarge old new failure → IsNoWaiverText true old new failure
+pub had_none : (old new : SourceState) (failure : Failure) → AreUnread 1048576 E15 old new failure → IsNoWaiverText true old new failure
 had_none old new failure (past bytes consumed many kept is) =
     too_large (λ edition. text_past edition old.left new.left bytes consumed many) (was_asked old new kept (past_limit bytes consumed many)) is
 had_none old new failure (broken failed is) = read_failed refl failed is

@@ -7,7 +7,7 @@ use Rattle.t1_font.specs.Fonts.{FontValue}
 use Rattle.t1_font.specs.Laws.Parts as parts
 use Rattle.t1_font.specs.declared.unread.Unread.{Unread}
 use Rattle.t1_font.specs.declared.unread.Unread.TheVariants.{Memory}
-use Rattle.t1_refusals.specs.declared.refusal.Reason.TheVariants.{FontTooLarge, Font}
+use Rattle.t1_report.specs.Refusals.Refusal.{FontTooLarge, Font}
 use Rattle.t1_run.specs.FontFiles.{font_of, with_reason}
 use Rattle.t1_run.specs.Laws.{IsOfSized, IsOfFile, RefusedByPart, NeverForMemory}
 

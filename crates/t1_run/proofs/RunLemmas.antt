@@ -1,11 +1,12 @@
 -- How a run ends, given what its files are read as.
 use Rattle.std.proofs.Common.{◌≡◌, ◌∙◌, ℕ, Bool, true, false, List, [], Some, Result, Ok, Err, inl, inr, ap, refl, subst, sym}
+use Rattle.t1_font.specs.declared.unread.RefusalCode.TheVariants.{E05}
 use Rattle.t1_font.specs.FontFiles.{IsUnread, font_in}
 use Rattle.t1_font.specs.Fonts.{FontValue}
 use Rattle.t1_font.specs.declared.unread.Unread.{Unread}
 use Rattle.t1_io.specs.Devices.{SinkState, SourceState}
-use Rattle.t1_refusals.specs.declared.refusal.Reason.{Reason}
-use Rattle.t1_refusals.specs.declared.refusal.Reason.TheVariants.{Font, FontTooLarge, Waivers, WaiversTooLarge}
+use Rattle.t1_report.specs.Refusals.{Refusal}
+use Rattle.t1_report.specs.Refusals.Refusal.{Font, FontTooLarge, Waivers, WaiversTooLarge}
 use Rattle.t1_report.specs.WaiverViews.{IsReadAs}
 use Rattle.t1_report.specs.Waivers.{Waiver, waivers_of}
 use Rattle.t1_report.specs.declared.waivers.WaiverError.{WaiverError}
@@ -37,7 +38,7 @@ module _ {Options : Type 0} (program : Meaning Options) (options : Options) (fon
   EndsUnread = Ends program options font (record { old = waivers; new = waivers }) sinks result
 
   -- A file that isn't read to its end.
-  pub ungathered_ends : (failure : Failure) → AreUnread 16777216 FontTooLarge font.old font.new failure → Failing failure → EndsUnread
+  pub ungathered_ends : (failure : Failure) → AreUnread 16777216 E05 font.old font.new failure → Failing failure → EndsUnread
   ungathered_ends failure (too_large bytes consumed large kept is) tells =
       font_refused FontTooLarge (font_past font.old.left font.new.left bytes consumed large) (kept ∙ sound) refl same (rw is at tells)
   ungathered_ends failure (broken failed is) tells = read_failed failed refl same (rw is at tells)
@@ -54,7 +55,7 @@ module _ {Options : Type 0} (program : Meaning Options) (options : Options) (fon
 
 -- Where its reading stopped.
 pub ungathered_stops : (name : List ℕ) (old new : SourceState) (errors errors' : SinkState) (failure : Failure) (result : Status)
-    → AreUnread 16777216 FontTooLarge old new failure → Tells (failure_line name failure) (failure_status failure) errors errors' result
+    → AreUnread 16777216 E05 old new failure → Tells (failure_line name failure) (failure_status failure) errors errors' result
     → StopsAt 16777216 old new (Tells (out_of_memory_line name) status.Failed errors errors' result)
 ungathered_stops name old new errors errors' failure result (too_large bytes consumed large kept is) tells = past_limit bytes consumed large
 ungathered_stops name old new errors errors' failure result (broken failed is) tells = fails failed
@@ -79,7 +80,7 @@ module _ {Options : Type 0} (program : Meaning Options) (options : Options) (fon
     heard_as : IsHeard true waivers.old waivers.new → IsHeard (asks_waivers program options) waivers.old waivers.new
     heard_as heard = subst (λ (b : Bool). IsHeard b waivers.old waivers.new) (sym asked) heard
 
-    waived_as : (waived : Result (List Waiver) Reason) → AreWaived (program.edition options) true waivers.old.left waived
+    waived_as : (waived : Result (List Waiver) Refusal) → AreWaived (program.edition options) true waivers.old.left waived
         → AreWaived (program.edition options) (asks_waivers program options) waivers.old.left waived
     waived_as waived are = subst (λ (b : Bool). AreWaived (program.edition options) b waivers.old.left waived) (sym asked) are
 

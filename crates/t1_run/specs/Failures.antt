@@ -1,10 +1,9 @@
 -- Why a run has no result, what is printed of it under a program's name, and its status.
 use Rattle.std.specs.Prelude.{ℕ, List, [], ◌∷◌, Option, None, Some, codes}
 use Rattle.std.specs.List.{concat}
-use Rattle.t1_refusals.specs.RefusalCodes.{refusal_code_of}
-use Rattle.t1_refusals.specs.RefusalTexts.{refusal_text_of}
-use Rattle.t1_refusals.specs.declared.refusal.Reason.{Reason}
-use Rattle.t1_refusals.specs.declared.refusal.RefusalCode.{RefusalCode}
+use Rattle.t1_report.specs.Refusals.{refusal_code_of, Refusal}
+use Rattle.t1_font.specs.Refusals.{refusal_text_of}
+use Rattle.t1_font.specs.declared.unread.RefusalCode.{RefusalCode}
 use Rattle.t1_run.specs.declared.failure.Failure.{Failure}
 use Rattle.t1_run.specs.declared.failure.Failure.TheVariants.{Refused, Broken, Memory}
 use Rattle.t1_run.specs.declared.status.Status.{Status}
@@ -15,7 +14,7 @@ abbrev pub refused_by : Option RefusalCode → Failure
 refused_by (Some code) = Refused code
 refused_by None = Memory
 
-abbrev pub failure_of : Reason → Failure
+abbrev pub failure_of : Refusal → Failure
 failure_of reason = refused_by (refusal_code_of reason)
 
 -- `refused: CODE TEXT`, whatever the program.

@@ -1,11 +1,10 @@
 -- What reading a source to its end returns, and where it stops.
 use Rattle.std.specs.Prelude.{◌≡◌, true, ℕ, ◌<◌, ◌≤◌, ◌+◌, List, length, false}
 use Rattle.std.specs.Io.KnownBytes.{Consumes, IsAtEnd}
+use Rattle.t1_font.specs.declared.unread.RefusalCode.{RefusalCode}
 use Rattle.t1_io.specs.Devices.{SourceState}
-use Rattle.t1_refusals.specs.declared.refusal.Reason.{Reason}
-use Rattle.t1_run.specs.Failures.{failure_of}
 use Rattle.t1_run.specs.declared.failure.Failure.{Failure}
-use Rattle.t1_run.specs.declared.failure.Failure.TheVariants.{Broken, Memory}
+use Rattle.t1_run.specs.declared.failure.Failure.TheVariants.{Broken, Memory, Refused}
 
 -- Known bytes lose at most so many at their beginning, by as many reads as these bytes are, or one more. As a read may bring a single byte, each
 -- brought some but the last, and none followed that one.
@@ -36,10 +35,10 @@ pub record AreAll (most : ℕ) (old new : SourceState) (bytes : List ℕ) : Type
   pub few : length bytes ≤ most
   pub kept : new.failed ≡ old.failed
 
--- Why they weren't: there are too many, which is this reason, a read failed, or memory ran out.
-pub data AreUnread (most : ℕ) (past : Reason) (old new : SourceState) (failure : Failure) : Type 0 where
+-- Why they weren't: there are too many, which is refused by this number, a read failed, or memory ran out.
+pub data AreUnread (most : ℕ) (past : RefusalCode) (old new : SourceState) (failure : Failure) : Type 0 where
   too_large :
       (bytes : List ℕ) → Consumes old.left new.left bytes → most < length bytes → new.failed ≡ old.failed
-      → failure ≡ failure_of past → AreUnread most past old new failure
+      → failure ≡ Refused past → AreUnread most past old new failure
   read_failed : new.failed ≡ true → failure ≡ Broken → AreUnread most past old new failure
   no_memory : new.failed ≡ old.failed → failure ≡ Memory → AreUnread most past old new failure

@@ -5,7 +5,7 @@ use Rattle.clap.specs.Words.{Text}
 use Rattle.t1_char.specs.declared.edition.Edition.{Edition}
 use Rattle.t1_font.specs.Fonts.{FontValue}
 use Rattle.t1_io.specs.Devices.{SourceState}
-use Rattle.t1_refusals.specs.declared.refusal.Reason.{Reason}
+use Rattle.t1_report.specs.Refusals.{Refusal}
 use Rattle.t1_report.specs.Waivers.{Waiver}
 use Rattle.t1_run.specs.Failures.{failure_line, failure_of, failure_status, out_of_memory_line, read_failed_line}
 use Rattle.t1_run.specs.FontFiles.{AreRead}
@@ -44,7 +44,7 @@ pub data EndsWith {Options : Type 0} (program : Meaning Options) (options : Opti
       → EndsWith program options font waivers sinks result
   -- status 2
   waivers_refused :
-      (reason : Reason) → AreWaived (program.edition options) (asks_waivers program options) waivers.old.left (Err reason)
+      (reason : Refusal) → AreWaived (program.edition options) (asks_waivers program options) waivers.old.left (Err reason)
       → IsHeard (asks_waivers program options) waivers.old waivers.new → sinks.new.out ≡ sinks.old.out
       → Tells (failure_line program.name (failure_of reason)) Refused sinks.old.errors sinks.new.errors result
       → EndsWith program options font waivers sinks result
@@ -67,7 +67,7 @@ pub data Ends {Options : Type 0} (program : Meaning Options) (options : Options)
       → EndsWith program options font waivers sinks result → Ends program options source waivers sinks result
   -- status 2
   font_refused :
-      (reason : Reason) → AreRead source.old.left (Err reason) → source.new.failed ≡ false → waivers.new ≡ waivers.old
+      (reason : Refusal) → AreRead source.old.left (Err reason) → source.new.failed ≡ false → waivers.new ≡ waivers.old
       → sinks.new.out ≡ sinks.old.out
       → Tells (failure_line program.name (failure_of reason)) (failure_status (failure_of reason)) sinks.old.errors sinks.new.errors result
       → Ends program options source waivers sinks result

@@ -2,8 +2,8 @@
 use Rattle.std.specs.Prelude.{◌≡◌, ◌≤◌, ℕ, Bool, true, false, nat_lt, if◌then◌else◌, List, [], length, Option, None, Some, Result, Ok, Err}
 use Rattle.t1_char.specs.declared.edition.Edition.{Edition}
 use Rattle.t1_io.specs.Devices.{SourceState}
-use Rattle.t1_refusals.specs.declared.refusal.Reason.{Reason}
-use Rattle.t1_refusals.specs.declared.refusal.Reason.TheVariants.{Waivers, WaiversTooLarge}
+use Rattle.t1_report.specs.Refusals.{Refusal}
+use Rattle.t1_report.specs.Refusals.Refusal.{Waivers, WaiversTooLarge}
 use Rattle.t1_report.specs.Waivers.{Waiver, waivers_of, largest_waivers}
 use Rattle.t1_report.specs.declared.waivers.WaiverError.TheVariants.{Malformed}
 use Rattle.t1_run.specs.Failures.{failure_of}
@@ -11,24 +11,24 @@ use Rattle.t1_run.specs.Input.{StopsAt}
 use Rattle.t1_run.specs.declared.failure.Failure.{Failure}
 use Rattle.t1_run.specs.declared.failure.Failure.TheVariants.{Broken, Memory}
 
-abbrev pub as_waivers : Option (List Waiver) → Result (List Waiver) Reason
+abbrev pub as_waivers : Option (List Waiver) → Result (List Waiver) Refusal
 as_waivers None = Err (Waivers Malformed)
 as_waivers (Some waivers) = Ok waivers
 
 -- The waivers that a text is read as in an edition, or the one reason why it isn't: its size comes first.
-unfoldable pub waivers_in : Edition → List ℕ → Result (List Waiver) Reason
+unfoldable pub waivers_in : Edition → List ℕ → Result (List Waiver) Refusal
 waivers_in edition text =
     if nat_lt largest_waivers (length text) then Err WaiversTooLarge else as_waivers (waivers_of edition text)
 
 -- It is so of what the waivers are read as: of none where they aren't requested, else of those of the text, where it is
 -- known.
-abbrev pub IfWaived : Edition → Bool → Option (List ℕ) → (Result (List Waiver) Reason → Type 0) → Type 0
+abbrev pub IfWaived : Edition → Bool → Option (List ℕ) → (Result (List Waiver) Refusal → Type 0) → Type 0
 IfWaived edition false text P = P (Ok [])
 IfWaived edition true None P = Unit {0}
 IfWaived edition true (Some text) P = P (waivers_in edition text)
 
 -- The waivers are read so.
-abbrev pub AreWaived : Edition → Bool → Option (List ℕ) → Result (List Waiver) Reason → Type 0
+abbrev pub AreWaived : Edition → Bool → Option (List ℕ) → Result (List Waiver) Refusal → Type 0
 AreWaived edition asked text waived = IfWaived edition asked text (λ read. read ≡ waived)
 
 -- No read of the source of waivers failed, and it is as it was unless they are requested.

@@ -1,13 +1,12 @@
 //! Why a run has no result.
 
 ghost use Rattle.std.specs.Prelude.{◌≡◌};
-ghost use Rattle.t1_refusals.specs.declared.refusal.Reason.TheVariants as reason;
-ghost use Rattle.t1_run.specs.Failures.{failure_of};
+ghost use Rattle.t1_report.specs.Refusals.Refusal as refusal;
+ghost use Rattle.t1_run.specs.Failures.{failure_of, refused_by};
 ghost use Rattle.t1_run.specs.declared.failure.Failure.TheVariants.{Memory};
 
 use std::alloc::AllocError;
-use t1_font::Unread;
-use t1_refusals::{Reason, RefusalCode};
+use t1_font::{RefusalCode, Unread};
 use t1_report::WaiverError;
 
 /// Why a run has no result.
@@ -21,11 +20,12 @@ pub enum Failure {
     Memory,
 }
 
-impl From<Reason> for Failure {
-    ghost from_gives = { λ reason failure. failure ≡ failure_of reason };
-
-    fn from(reason: Reason) -> Failure {
-        match RefusalCode::of(reason) {
+impl Failure {
+    /// What is refused by a number, or else memory, which alone refuses by none.
+    fn by(code: Option<RefusalCode>) -> Failure
+        ensures { result ≡ refused_by code }
+    {
+        match code {
             Some(code) => Failure::Refused(code),
             None => Failure::Memory,
         }
@@ -33,18 +33,18 @@ impl From<Reason> for Failure {
 }
 
 impl From<Unread> for Failure {
-    ghost from_gives = { λ unread failure. failure ≡ failure_of (reason.Font unread) };
+    ghost from_gives = { λ unread failure. failure ≡ failure_of (refusal.Font unread) };
 
     fn from(unread: Unread) -> Failure {
-        Failure::from(Reason::Font(unread))
+        Failure::by(unread.code())
     }
 }
 
 impl From<WaiverError> for Failure {
-    ghost from_gives = { λ error failure. failure ≡ failure_of (reason.Waivers error) };
+    ghost from_gives = { λ error failure. failure ≡ failure_of (refusal.Waivers error) };
 
     fn from(error: WaiverError) -> Failure {
-        Failure::from(Reason::Waivers(error))
+        Failure::by(error.code())
     }
 }
 

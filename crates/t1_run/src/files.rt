@@ -1,7 +1,7 @@
 //! Files, read to their end within a limit.
 
 ghost use Rattle.std.specs.Prelude.{◌≡◌, ◌≤◌, ◌+◌, false, MatchResult};
-ghost use Rattle.t1_refusals.specs.declared.refusal.Reason.TheVariants as reason;
+ghost use Rattle.t1_font.specs.declared.unread.RefusalCode.TheVariants.{E05};
 ghost use Rattle.t1_report.specs.Waivers.{largest_waivers};
 ghost use Rattle.t1_run.specs.FontFiles.{largest_file};
 ghost use Rattle.t1_run.specs.Input.{AreAll, AreUnread, ReadsAtMost, TakesAtMost};
@@ -10,7 +10,7 @@ ghost use Rattle.t1_run.specs.WaiverFiles.{IsNoWaiverText, IsWaiverText};
 use crate::failure::Failure;
 use std::alloc::Global;
 use t1_io::Source;
-use t1_refusals::Reason;
+use t1_font::RefusalCode;
 use t1_report::LARGEST_WAIVERS;
 
 /// The greatest size of a font's file, in bytes.
@@ -22,13 +22,13 @@ const ROOM: usize = 16_384;
 /// Reads the bytes of a font's file: all of a source until its end. More than 16,777,216 are refused, by E05.
 pub fn read_font_file<R: Source>(alloc: Global, source: &mut R) -> Result<Vec<u8>, Failure>
     ensures gathers { MatchResult result (λ bytes. AreAll largest_file (R.state source.old) (R.state source.new) bytes.items)
-        (AreUnread largest_file reason.FontTooLarge (R.state source.old) (R.state source.new)) }
+        (AreUnread largest_file E05 (R.state source.old) (R.state source.new)) }
     ensures takes { (R.state source.new).takes ≤ (R.state source.old).takes + (largest_file + 1) }
     ensures taken { TakesAtMost (largest_file + 1) (R.state source.old) (R.state source.new) }
     ensures stops { (R.state source.old).failed ≡ false
         → (R.state source.new).late_takes ≡ (R.state source.old).late_takes }
 {
-    read_all(alloc, source, LARGEST_FILE, Reason::FontTooLarge)
+    read_all(alloc, source, LARGEST_FILE, RefusalCode::E05)
 }
 
 /// Reads a text of waivers if they are requested. Else the source is left alone, and the text is empty. More than
@@ -43,19 +43,19 @@ pub fn read_waivers<R: Source>(
     ensures reads { ReadsAtMost (largest_waivers + 1) (R.state source.old) (R.state source.new) }
 {
     if asked {
-        read_all(alloc, source, LARGEST_WAIVERS, Reason::WaiversTooLarge)
+        read_all(alloc, source, LARGEST_WAIVERS, RefusalCode::E15)
     } else {
         Ok(Vec::new(alloc))
     }
 }
 
 /// Reads to the end of a source, in as few calls as it allows. It reads no further than one byte past `most`, and fails
-/// by `past` then.
+/// by the number `past` then.
 fn read_all<R: Source>(
     alloc: Global,
     source: &mut R,
     most: usize,
-    past: Reason,
+    past: RefusalCode,
 ) -> Result<Vec<u8>, Failure>
     requires most { most ≤ largest_file }
     ensures gathers { MatchResult result (λ bytes. AreAll most (R.state source.old) (R.state source.new) bytes.items)
@@ -77,7 +77,7 @@ fn read_all<R: Source>(
                     return Err(Failure::Memory);
                 }
                 if bytes.len() > most {
-                    return Err(Failure::from(past));
+                    return Err(Failure::Refused(past));
                 }
             }
         }

@@ -7,7 +7,7 @@ use Rattle.t1_pieces.specs.declared.piece.Piece.{Piece}
 use Rattle.t1_pieces.specs.declared.stage.Reached.{Reached}
 use Rattle.t1_pieces.specs.declared.stage.Stage.{Stage}
 use Rattle.t1_pieces.specs.declared.stage.Stage.TheVariants.{Beginning, Nothing, Results}
-use Rattle.t1_refusals.specs.declared.refusal.Reason.{Reason}
+use Rattle.t1_report.specs.Refusals.{Refusal}
 use Rattle.t1_web.specs.Answers.{Answer, IsDocumentHandedOver}
 use Rattle.t1_web.specs.Answers.IsDocumentHandedOver.{handed}
 use Rattle.t1_web.specs.Numbers.{bytes_of, stage_number, stage_of, status_of}
@@ -18,7 +18,7 @@ stage_back Nothing = refl
 stage_back Beginning = refl
 stage_back Results = refl
 
-pub document_handed : (pages : PagesValue) (name name' : List ℕ) (read : Result Input Reason) (old old' new new' : Reached) (answer : Answer)
+pub document_handed : (pages : PagesValue) (name name' : List ℕ) (read : Result Input Refusal) (old old' new new' : Reached) (answer : Answer)
     (piece : Piece) → name' ≡ name → old' ≡ old → new' ≡ new → IsDocumentPiece (subject_read name' pages read) old' new' answer.room piece
     → answer.written ≡ bytes_of piece → answer.status ≡ status_of piece → IsDocumentHandedOver pages name read old new answer
 document_handed pages name name' read old old' new new' answer piece names olds news is bytes_is status_is =

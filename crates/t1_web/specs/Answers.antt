@@ -1,7 +1,7 @@
 -- What an export hands over.
 use Rattle.std.specs.Prelude.{◌≡◌, ℕ, List, Option, None, Some, Result}
 use Rattle.t1_forms.specs.PageValues.{PagesValue}
-use Rattle.t1_refusals.specs.declared.refusal.Reason.{Reason}
+use Rattle.t1_report.specs.Refusals.{Refusal}
 use Rattle.t1_report.specs.declared.marks.Mark.{Mark}
 use Rattle.std.specs.Str.{IsUtf8}
 use Rattle.t1_font.specs.Fonts.{FontValue}
@@ -26,7 +26,7 @@ pub record Answer : Type 0 where
   pub status : ℕ
 
 -- Lines of a font's report, or why there are none. The status is 6 where the name that objects are to have isn't UTF-8.
-pub data AreHandedOver (form : ℕ) (name : List ℕ) (read : Result Input Reason) (mark mark' : Mark) (answer : Answer) : Type 0 where
+pub data AreHandedOver (form : ℕ) (name : List ℕ) (read : Result Input Refusal) (mark mark' : Mark) (answer : Answer) : Type 0 where
   handed :
       (wanted : Form) → IsFormOf form name (Some wanted) → (piece : Piece) → IsPiece wanted read mark mark' answer.room piece
       → answer.written ≡ bytes_of piece → answer.status ≡ status_of piece → AreHandedOver form name read mark mark' answer
@@ -35,7 +35,7 @@ pub data AreHandedOver (form : ℕ) (name : List ℕ) (read : Result Input Reaso
       → AreHandedOver form name read mark mark' answer
 
 -- Pieces of a font's document with these pages, or why there is none.
-pub data IsDocumentHandedOver (pages : PagesValue) (name : List ℕ) (read : Result Input Reason) (reached reached' : Reached) (answer : Answer)
+pub data IsDocumentHandedOver (pages : PagesValue) (name : List ℕ) (read : Result Input Refusal) (reached reached' : Reached) (answer : Answer)
     : Type 0 where
   handed :
       (piece : Piece) → IsDocumentPiece (subject_read name pages read) reached reached' answer.room piece
@@ -45,14 +45,14 @@ pub data IsDocumentHandedOver (pages : PagesValue) (name : List ℕ) (read : Res
       → IsDocumentHandedOver pages name read reached reached' answer
 
 -- A picture of a glyph, or why there is none.
-pub record IsPictureHandedOver (name : List ℕ) (extent : Extent) (read : Result Input Reason) (answer : Answer) : Type 0 where
+pub record IsPictureHandedOver (name : List ℕ) (extent : Extent) (read : Result Input Refusal) (answer : Answer) : Type 0 where
   pub drawn : PictureResult
   pub is_drawing : IsDrawing name extent read answer.room drawn
   pub written_is : answer.written ≡ drawn_bytes drawn
   pub status_is : answer.status ≡ drawn_status drawn
 
 -- The numbers of an entry, or why there are none: the entry isn't there or is no list of numbers, or no such entry has the number.
-pub data IsEntryHandedOver (key : Option Key) (read : Result FontValue Reason) (answer : Answer) : Type 0 where
+pub data IsEntryHandedOver (key : Option Key) (read : Result FontValue Refusal) (answer : Answer) : Type 0 where
   handed_of :
       (wanted : Key) → key ≡ Some wanted → (entry : EntryResult) → IsNumbersPiece wanted read answer.room entry
       → answer.written ≡ entry_bytes entry → answer.status ≡ entry_status entry → IsEntryHandedOver key read answer

@@ -3,7 +3,7 @@ use Rattle.std.proofs.Common.{◌++◌, ℕ, Bool, true, false, List, [], ◌∷
 use Rattle.t1_char.specs.declared.edition.Edition.{Edition}
 use Rattle.t1_font.specs.Fonts.{FontValue}
 use Rattle.t1_font.specs.Laws.Limits.{FontsWithinLimits}
-use Rattle.t1_refusals.specs.declared.refusal.Reason.{Reason}
+use Rattle.t1_report.specs.Refusals.{Refusal}
 use Rattle.t1_picture.specs.Laws.{HasPicture}
 use Rattle.t1_picture.specs.Subjects.{ShownValue}
 use Rattle.t1_picture.specs.Subjects.ShownValue.{everything, one_fault, up_to}
@@ -77,7 +77,7 @@ has_asked has sheet (all_faulty folder) few are =
     let it = has_files has sheet few are in
     (Files it.0, (it.0, (it.1, refl)))
 
-has_to : HasPicture → (wish : Wish) (read : Result FontValue Reason) (waived : Result (List Waiver) Reason) → IfOk read HasFew → IfOk waived AreFew
+has_to : HasPicture → (wish : Wish) (read : Result FontValue Refusal) (waived : Result (List Waiver) Refusal) → IfOk read HasFew → IfOk waived AreFew
     → (answer : Answer) × IsAnswerTo wish read waived answer
 has_to has wish (Err why) waived few are = (NotRead why, refl)
 has_to has wish (Ok font) (Err why) few are = (NotRead why, refl)

@@ -5,7 +5,7 @@ use Rattle.clap.specs.Words.{Text}
 use Rattle.t1_char.specs.declared.edition.Edition.{Edition}
 use Rattle.t1_char.proofs.EditionLemmas.{one_edition}
 use Rattle.t1_font.specs.Fonts.{FontValue}
-use Rattle.t1_refusals.specs.declared.refusal.Reason.{Reason}
+use Rattle.t1_report.specs.Refusals.{Refusal}
 use Rattle.t1_picture.specs.Laws.{HasNoOtherPicture}
 use Rattle.t1_picture.specs.Subjects.{ShownValue}
 use Rattle.t1_picture.specs.Subjects.ShownValue.{everything, one_fault, up_to}
@@ -92,7 +92,7 @@ one_asked no_other sheet (one_glyph name wanted) a b is is' = one_at no_other sh
 one_asked no_other sheet (all_faulty folder) a b (files, (are, at)) (files', (are', at')) =
     at ∙ ap Files (one_files no_other sheet files files' are are') ∙ sym at'
 
-one_to : HasNoOtherPicture → (wish : Wish) (read : Result FontValue Reason) (waived : Result (List Waiver) Reason) (a b : Answer)
+one_to : HasNoOtherPicture → (wish : Wish) (read : Result FontValue Refusal) (waived : Result (List Waiver) Refusal) (a b : Answer)
     → IsAnswerTo wish read waived a → IsAnswerTo wish read waived b → a ≡ b
 one_to no_other wish (Err why) waived a b is is' = is ∙ sym is'
 one_to no_other wish (Ok font) (Err why) a b is is' = is ∙ sym is'

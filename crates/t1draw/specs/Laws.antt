@@ -4,7 +4,7 @@ use Rattle.std.specs.List.{AllByRecursion, list_all}
 use Rattle.clap.specs.Words.{Text}
 use Rattle.t1_char.specs.declared.edition.Edition.{Edition}
 use Rattle.t1_font.specs.Fonts.{FontValue}
-use Rattle.t1_refusals.specs.declared.refusal.Reason.{Reason}
+use Rattle.t1_report.specs.Refusals.{Refusal}
 use Rattle.t1_picture.specs.Pictures.{IsPictureOf}
 use Rattle.t1_picture.specs.Subjects.{ShownValue}
 use Rattle.t1_picture.specs.Subjects.ShownValue.{everything, one_fault, up_to}
@@ -29,7 +29,7 @@ use Rattle.t1draw.specs.declared.options.Options.{Options}
 pub data Answer : Type 0 where
   Picture : List ℕ → Answer
   Files : List FolderFile → Answer
-  Unread : Reason → Answer
+  Unread : Refusal → Answer
   NoGlyph : Answer
   NoFault : Answer
 
@@ -77,14 +77,14 @@ IsAnswerToAsked sheet (all_faulty folder) answer =
     (files : List FolderFile) × (AreFiles sheet.font sheet.edition sheet.waivers files × (answer ≡ Files files))
 
 -- Of what the font's file and the waivers are read as: why the font isn't read comes first.
-abbrev pub IsAnswerTo : Wish → Result FontValue Reason → Result (List Waiver) Reason → Answer → Type 0
+abbrev pub IsAnswerTo : Wish → Result FontValue Refusal → Result (List Waiver) Refusal → Answer → Type 0
 IsAnswerTo wish (Err why) waived answer = answer ≡ Unread why
 IsAnswerTo wish (Ok font) (Err why) answer = answer ≡ Unread why
 IsAnswerTo wish (Ok font) (Ok waivers) answer =
     IsAnswerToAsked (record { font = font; edition = wish.edition; waivers = waivers }) wish.asked answer
 
 -- The waivers of a text, where they are requested; else there are none.
-abbrev pub waived_by : Edition → Bool → List ℕ → Result (List Waiver) Reason
+abbrev pub waived_by : Edition → Bool → List ℕ → Result (List Waiver) Refusal
 waived_by edition asked text = if asked then waivers_in edition text else Ok []
 
 -- This is answered to options, the bytes of the font's file and the text of the waivers.

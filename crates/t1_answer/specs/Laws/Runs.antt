@@ -7,7 +7,7 @@ use Rattle.t1_io.specs.Devices.{AppendsFront, SourceState, one_more}
 use Rattle.t1_answer.specs.declared.asked.Options.{Options}
 use Rattle.t1_run.specs.declared.status.Status.{Status}
 use Rattle.t1_run.specs.declared.status.Status.TheVariants.{Clean, Failed, Faults, Refused}
-use Rattle.t1_refusals.specs.declared.refusal.Reason.{Reason}
+use Rattle.t1_report.specs.Refusals.{Refusal}
 use Rattle.t1_answer.specs.Answers.{Answer, IsAnswerTo}
 use Rattle.t1_answer.specs.Words.{checking}
 use Rattle.t1_run.specs.Opening.{Sinks, Transition}
@@ -26,15 +26,15 @@ pub record Gave (answer : Answer) (result : Status) (sinks : Transition Sinks) :
 
 -- It is so of what the font's file and the waivers are read as, where their bytes are known.
 abbrev pub IfKnown : Options → Option (List ℕ) → Option (List ℕ)
-    → (Result FontValue Reason → Result (List Waiver) Reason → Type 0) → Type 0
+    → (Result FontValue Refusal → Result (List Waiver) Refusal → Type 0) → Type 0
 IfKnown options left text P = IfSome left (λ input. IfWaived options.edition (asks_waivers options) text (P (font_of input)))
 
 -- The answer to files that were read so was printed.
-abbrev pub Answered : Options → Status → Transition Sinks → Result FontValue Reason → Result (List Waiver) Reason → Type 0
+abbrev pub Answered : Options → Status → Transition Sinks → Result FontValue Refusal → Result (List Waiver) Refusal → Type 0
 Answered options result sinks read waived = (answer : Answer) × (IsAnswerTo options read waived answer × Gave answer result sinks)
 
 -- A prefix of the answer's text was written.
-abbrev pub WentOut : Options → Transition Sinks → Result FontValue Reason → Result (List Waiver) Reason → Type 0
+abbrev pub WentOut : Options → Transition Sinks → Result FontValue Refusal → Result (List Waiver) Refusal → Type 0
 WentOut options sinks read waived =
     (answer : Answer)
     × (IsAnswerTo options read waived answer × AppendsFront sinks.old.out.written sinks.new.out.written answer.output)
@@ -43,7 +43,7 @@ WentOut options sinks read waived =
 pub record IsSpared (options : Options) (source waivers : Transition SourceState) : Type 0 where
   pub unasked : asks_waivers options ≡ false → waivers.new ≡ waivers.old
   pub unread : source.new.failed ≡ true → waivers.new ≡ waivers.old
-  pub refused : IfSome source.old.left (λ input. (reason : Reason) → font_of input ≡ Err reason → waivers.new ≡ waivers.old)
+  pub refused : IfSome source.old.left (λ input. (reason : Refusal) → font_of input ≡ Err reason → waivers.new ≡ waivers.old)
 
 -- A read failed, of the font or of the waivers.
 abbrev pub ReadFailed : Transition SourceState → Transition SourceState → Type 0

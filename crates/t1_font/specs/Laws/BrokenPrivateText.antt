@@ -6,8 +6,8 @@ use Rattle.t1_scan.specs.Spelling.{Plain, name, word}
 use Rattle.t1_scan.specs.Texts.{are_blanks, BeginsWith}
 use Rattle.t1_font.specs.declared.key.Key.{Key}
 use Rattle.t1_font.specs.declared.key.Key.TheVariants.{LenIv}
-use Rattle.t1_font.specs.declared.refusal.Refusal.{Refusal}
-use Rattle.t1_font.specs.declared.refusal.Refusal.TheVariants.{BadSubrs, BadCharStrings, BadLenIv}
+use Rattle.t1_font.specs.declared.unread.Unread.{Unread}
+use Rattle.t1_font.specs.declared.unread.Unread.TheVariants.{BadSubrs, BadCharStrings, BadLenIv}
 use Rattle.t1_font.specs.Fonts.{firsts}
 use Rattle.t1_font.specs.Keys.{private_key, same_name}
 use Rattle.t1_font.specs.Laws.Written.{Piece, token, IsWritten, IsWhole}
@@ -174,15 +174,15 @@ pub record IsBegun (b : Begun) (s left : List ℕ) : Type 0 where
   pub written : IsWritten s (begun_pieces b) left
 
 -- The refusal where nothing is left. After a lone dup, which begins no Subr, the CharStrings are missing.
-abbrev pub missing_value : KeyStart → Refusal
+abbrev pub missing_value : KeyStart → Unread
 missing_value (key_name LenIv run) = BadLenIv
 missing_value _ = BadCharStrings
 
-abbrev pub missing_subr : SubrStart → Refusal
+abbrev pub missing_subr : SubrStart → Unread
 missing_subr (subr_number n number c) = BadSubrs
 missing_subr _ = BadCharStrings
 
-abbrev pub missing : Begun → Refusal
+abbrev pub missing : Begun → Unread
 missing (in_keys o k) = missing_value k
 missing (in_subrs front k) = BadSubrs
 missing (among_subrs front n count items k) = missing_subr k

@@ -3,7 +3,7 @@ use Rattle.std.specs.Prelude.{◌≡◌, ◌<◌, ◌≤◌, ℕ, false, true, N
 use Rattle.t1_scan.specs.declared.token.Kind.TheVariants.{Word}
 use Rattle.t1_scan.specs.Spelling.{Plain, meant}
 use Rattle.t1_scan.specs.Texts.{are_blanks, BeginsWith}
-use Rattle.t1_font.specs.declared.refusal.Refusal.TheVariants.{Unclosed, BadSubrs, BadCharStrings, BadLenIv, PastLimit}
+use Rattle.t1_font.specs.declared.unread.Unread.TheVariants.{Unclosed, BadSubrs, BadCharStrings, BadLenIv, PastLimit}
 use Rattle.t1_font.specs.Fonts.{Stated, Marks}
 use Rattle.t1_font.specs.PrivateText.{private_of}
 use Rattle.t1_font.specs.Tokens.{is_number_kind, whole}

@@ -1,6 +1,6 @@
 -- What noted keys change: their own values, and nothing else.
 use Rattle.std.specs.Prelude.{◌≡◌, ◌++◌, Bool, false, not, nat_le, filter, take, Result, Ok, Err, List, [], ◌∷◌, ℕ}
-use Rattle.t1_font.specs.declared.refusal.Refusal.{Refusal}
+use Rattle.t1_font.specs.declared.unread.Unread.{Unread}
 use Rattle.t1_font.specs.ClearText.{clear_of, clear_of_by}
 use Rattle.t1_font.specs.Fonts.{FontValue, Marks, Stated, plain, value_of}
 use Rattle.t1_font.specs.Keys.{index_of, no_notes, taken_keys}
@@ -16,7 +16,7 @@ is_note _ = false
 abbrev pub without_notes : List Stated → List Stated
 without_notes es = filter (λ e. not (is_note e)) es
 
-abbrev pub read_without : Result TextRead Refusal → Result TextRead Refusal
+abbrev pub read_without : Result TextRead Unread → Result TextRead Unread
 read_without (Ok read) = Ok (record { stated = without_notes read.stated; rest = read.rest })
 read_without (Err e) = Err e
 

@@ -5,10 +5,9 @@ use Rattle.t1_seal.specs.Eexec.{private_text_of}
 use Rattle.t1_seal.specs.SealError.{IsSegmentFault}
 use Rattle.t1_seal.specs.declared.errors.SealError.{SealError}
 use Rattle.t1_font.specs.ClearText.{clear_of}
-use Rattle.t1_font.specs.FontFiles.{of_seal_error, of_refusal, marks_in, font_in}
+use Rattle.t1_font.specs.FontFiles.{of_seal_error, marks_in, font_in}
 use Rattle.t1_font.specs.Laws.Refusals.{IsClearRefusal, IsPrivateRefusal}
 use Rattle.t1_font.specs.TextTurns.{TextRead}
-use Rattle.t1_font.specs.declared.refusal.Refusal.{Refusal}
 use Rattle.t1_font.specs.declared.unread.Unread.{Unread}
 use Rattle.t1_font.specs.declared.unread.Unread.TheVariants.{TooShort, Memory}
 
@@ -16,19 +15,15 @@ use Rattle.t1_font.specs.declared.unread.Unread.TheVariants.{TooShort, Memory}
 abbrev pub IsOfSegments : Unread → Type 0
 IsOfSegments unread = (e : SealError) × (IsSegmentFault e × (unread ≡ of_seal_error e))
 
--- Of a text, one of these refusals, by its name in the program.
-abbrev pub IsOfText : (Refusal → Type 0) → Unread → Type 0
-IsOfText kind unread = (e : Refusal) × (kind e × (unread ≡ of_refusal e))
-
 -- After a clear text that was read: E06 where the encrypted section isn't opened, else of the private text:
 -- E07, E08, E09, E10, E11 or E12.
 abbrev pub IsOfSection : Result (List ℕ) SealError → Unread → Type 0
 IsOfSection (Err e) unread = unread ≡ TooShort
-IsOfSection (Ok text) unread = IsOfText IsPrivateRefusal unread
+IsOfSection (Ok text) unread = IsPrivateRefusal unread
 
 -- Of the clear text: E04, E07 or E13; else of what is after it.
-abbrev pub IsOfTexts : Result TextRead Refusal → Unread → Type 0
-IsOfTexts (Err e) unread = IsOfText IsClearRefusal unread
+abbrev pub IsOfTexts : Result TextRead Unread → Unread → Type 0
+IsOfTexts (Err e) unread = IsClearRefusal unread
 IsOfTexts (Ok clear) unread = IsOfSection (private_text_of clear.rest) unread
 
 abbrev pub IsOfJoined : Result JoinedText SealError → Unread → Type 0

@@ -1,6 +1,6 @@
 -- Laws of what texts state.
 use Rattle.std.specs.Prelude.{◌≡◌, ℕ, List, [], ◌∷◌, ◌++◌}
-use Rattle.t1_font.specs.declared.refusal.Refusal.{Refusal}
+use Rattle.t1_font.specs.declared.unread.Unread.{Unread}
 use Rattle.t1_font.specs.Fonts.{Stated, Marks, value_of}
 use Rattle.t1_font.specs.Puts.{put}
 use Rattle.t1_font.specs.TextTurns.{Reader, stated_in}
@@ -13,7 +13,7 @@ OneMore = (marks : Marks) (es : List Stated) (e : Stated) →
 
 -- Reading while a value is kept is looking up afterwards.
 abbrev pub ReadAsStated : Type 0 → Type 0
-ReadAsStated M = (turn : Reader M) (ended : Refusal) (marks : Marks) (before : List Stated) (mode : M)
+ReadAsStated M = (turn : Reader M) (ended : Unread) (marks : Marks) (before : List Stated) (mode : M)
     (s : List ℕ) →
     run_of turn ended (value_of marks before) mode s
     ≡ value_read marks (stated_in turn ended marks before mode s)

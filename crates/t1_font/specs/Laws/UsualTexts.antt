@@ -7,7 +7,7 @@ use Rattle.t1_font.specs.declared.mode.ClearMode.{ClearMode}
 use Rattle.t1_font.specs.declared.mode.ClearMode.TheVariants as clear_modes
 use Rattle.t1_font.specs.declared.mode.PrivateMode.{PrivateMode}
 use Rattle.t1_font.specs.declared.mode.PrivateMode.TheVariants.{Outside, Subrs, Glyphs}
-use Rattle.t1_font.specs.declared.refusal.Refusal.TheVariants.{NoEexec, BadCharStrings}
+use Rattle.t1_font.specs.declared.unread.Unread.TheVariants.{NoEexec, BadCharStrings}
 use Rattle.t1_font.specs.Keys.{same_name}
 use Rattle.t1_font.specs.Fonts.{Stated, Marks, value_of}
 use Rattle.t1_font.specs.TextTurns.{stated_in}

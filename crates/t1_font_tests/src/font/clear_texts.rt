@@ -4,7 +4,7 @@ use super::{CLEAR_LINES, Fact, Value, assert_facts};
 use std::alloc::{AllocError, Global};
 use std::process::Abort;
 use std::test::Fail;
-use t1_font::{Key, Refusal, read_clear};
+use t1_font::{Key, Unread, read_clear};
 use t1_seal::Joined;
 
 /// The bytes of a PFA file.
@@ -18,14 +18,14 @@ pub(super) fn pfa(alloc: Global, text: &[u8]) -> Result<Joined, AllocError> {
 }
 
 /// Why a clear text isn't read, if it isn't. Want of memory is an error.
-fn refusal_of(alloc: Global, text: &[u8]) -> Result<Option<Refusal>, Refusal> {
+fn refusal_of(alloc: Global, text: &[u8]) -> Result<Option<Unread>, Unread> {
     let joined = pfa(alloc, text)?;
     match read_clear(alloc, &joined) {
         Ok(clear) => {
             clear.let_go();
             Ok(None)
         }
-        Err(Refusal::Memory) => Err(Refusal::Memory),
+        Err(Unread::Memory) => Err(Unread::Memory),
         Err(refusal) => Ok(Some(refusal)),
     }
 }
@@ -34,7 +34,7 @@ fn refusal_of(alloc: Global, text: &[u8]) -> Result<Option<Refusal>, Refusal> {
 pub(super) fn assert_clear_refusals(
     rt: &impl Abort,
     alloc: Global,
-    cases: &[(&str, Option<Refusal>)],
+    cases: &[(&str, Option<Unread>)],
 ) -> Result<(), Fail> {
     for (text, refusal) in cases {
         assert_eq!(rt; refusal_of(alloc, text.as_bytes())?, *refusal, "{text}");
@@ -43,33 +43,33 @@ pub(super) fn assert_clear_refusals(
 }
 
 /// Clear texts, and why each is refused, if it is.
-const TEXTS: &[(&str, Option<Refusal>)] = &[
-    ("% eexec", Some(Refusal::NoEexec)),
-    ("%! eexec", Some(Refusal::NoEexec)),
-    ("%!\n", Some(Refusal::NoEexec)),
-    ("%!\nEexec", Some(Refusal::NoEexec)),
-    ("%!\neexecX", Some(Refusal::NoEexec)),
+const TEXTS: &[(&str, Option<Unread>)] = &[
+    ("% eexec", Some(Unread::NoEexec)),
+    ("%! eexec", Some(Unread::NoEexec)),
+    ("%!\n", Some(Unread::NoEexec)),
+    ("%!\nEexec", Some(Unread::NoEexec)),
+    ("%!\neexecX", Some(Unread::NoEexec)),
     ("%!\neexec", None),
     ("%!\neexec(", None),
-    ("%!\n[ eexec ] { eexec } ( eexec )", Some(Refusal::NoEexec)),
-    ("%!\n(", Some(Refusal::Unclosed)),
+    ("%!\n[ eexec ] { eexec } ( eexec )", Some(Unread::NoEexec)),
+    ("%!\n(", Some(Unread::Unclosed)),
     ("%!\n] ) > } eexec (", None),
     (
         "%!\n/WeightVector [1 0] def eexec",
-        Some(Refusal::MultipleMaster),
+        Some(Unread::MultipleMaster),
     ),
     ("%!\neexec /WeightVector", None),
     ("%!\n/FontType /WeightVector eexec", None),
-    ("%!\n/FontType eexec", Some(Refusal::NoEexec)),
+    ("%!\n/FontType eexec", Some(Unread::NoEexec)),
     ("%!\n/FontType eexec eexec", None),
-    ("%!\n/FontType", Some(Refusal::NoEexec)),
-    ("%!\n/FontType (", Some(Refusal::Unclosed)),
+    ("%!\n/FontType", Some(Unread::NoEexec)),
+    ("%!\n/FontType (", Some(Unread::Unclosed)),
     ("%!\n/XUID eexec", None),
-    ("%!\n/XUID", Some(Refusal::NoEexec)),
-    ("%!\n/XUID (", Some(Refusal::Unclosed)),
+    ("%!\n/XUID", Some(Unread::NoEexec)),
+    ("%!\n/XUID (", Some(Unread::Unclosed)),
     (
         "%!\n/XUID /WeightVector eexec",
-        Some(Refusal::MultipleMaster),
+        Some(Unread::MultipleMaster),
     ),
 ];
 

@@ -3,7 +3,7 @@
 use super::clear_texts::assert_clear_refusals;
 use super::{CLEAR_LINES, Fact, Part, assert_facts};
 use std::test::Fail;
-use t1_font::{Encoding, Refusal};
+use t1_font::{Encoding, Unread};
 
 /// The lines of a clear text, and the form of its Encoding.
 const FORMS: &[(&str, Fact)] = &[
@@ -161,12 +161,12 @@ fn bad_codes_are_reported(rt: HostRuntime) -> Result<(), Fail> {
 }
 
 /// Clear texts with an Encoding, and why each is refused, if it is.
-const TEXTS: &[(&str, Option<Refusal>)] = &[
-    ("%!\n/Encoding (", Some(Refusal::Unclosed)),
-    ("%!\n/Encoding 256 (", Some(Refusal::Unclosed)),
+const TEXTS: &[(&str, Option<Unread>)] = &[
+    ("%!\n/Encoding (", Some(Unread::Unclosed)),
+    ("%!\n/Encoding 256 (", Some(Unread::Unclosed)),
     (
         "%!\n/Encoding 256 array dup 65 /A (",
-        Some(Refusal::Unclosed),
+        Some(Unread::Unclosed),
     ),
     ("%!\n/Encoding 256 array dup 65 /A eexec(", None),
     ("%!\n/Encoding 256 array dup 65 eexec(", None),
@@ -176,10 +176,10 @@ const TEXTS: &[(&str, Option<Refusal>)] = &[
     ("%!\n/Encoding 256 array /WeightVector eexec", None),
     (
         "%!\n/Encoding /WeightVector eexec",
-        Some(Refusal::MultipleMaster),
+        Some(Unread::MultipleMaster),
     ),
-    ("%!\n/Encoding 256 array def", Some(Refusal::NoEexec)),
-    ("%!\n/Encoding 256 array dup 65", Some(Refusal::NoEexec)),
+    ("%!\n/Encoding 256 array def", Some(Unread::NoEexec)),
+    ("%!\n/Encoding 256 array dup 65", Some(Unread::NoEexec)),
 ];
 
 /// What is looked at after `dup` is read when its turn comes; nothing after `eexec` is looked at.

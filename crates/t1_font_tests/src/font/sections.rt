@@ -3,11 +3,11 @@
 use super::clear_texts::pfa;
 use std::alloc::Global;
 use std::test::Fail;
-use t1_font::{Refusal, read_clear};
+use t1_font::{Unread, read_clear};
 use t1_seal::{SealError, open_eexec};
 
 /// The place where the encrypted section of a PFA file begins.
-fn section_start(alloc: Global, file: &[u8]) -> Result<usize, Refusal> {
+fn section_start(alloc: Global, file: &[u8]) -> Result<usize, Unread> {
     let joined = pfa(alloc, file)?;
     let clear = read_clear(alloc, &joined)?;
     let after = clear.after();

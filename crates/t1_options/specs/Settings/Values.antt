@@ -2,9 +2,7 @@
 use Rattle.std.specs.Prelude.{◌||◌, ◌==◌, ℕ, ℤ, pos, int_lt, unsigned_abs, Bool, List, [], ◌∷◌, Option, None, Some, if◌then◌else◌, codes, map, option_and_then, option_map}
 use Rattle.std.specs.List.{list_any}
 use Rattle.std.specs.Path.{path_join}
-use Rattle.t1_char.specs.Editions.{edition_numbered}
-use Rattle.t1_char.specs.declared.edition.Edition.{Edition}
-use Rattle.t1_char.specs.declared.edition.Edition.TheVariants.{One, Three, Two}
+use Rattle.t1_char.specs.Editions.{digit_of, edition_numbered}
 use Rattle.toml.specs.Data.{Data, Items, as_array, as_integer, as_str, item, no_items}
 use Rattle.t1_options.specs.Settings.Paths.{glob_below}
 use Rattle.t1_many.specs.Unchecked.{has_line_end}
@@ -42,14 +40,9 @@ abbrev pub file_below : List ℕ → Data → Option (List ℕ)
 file_below folder value = option_map (path_join folder) (option_and_then file_in (text_in value))
 
 -- The number of an edition of the rule book as a text.
-abbrev pub number_text : Edition → List ℕ
-number_text One = codes "1"
-number_text Two = codes "2"
-number_text Three = codes "3"
-
 abbrev pub edition_text : ℤ → Option (List ℕ)
 edition_text number =
-    if int_lt number (pos 0) then None else option_map number_text (edition_numbered (unsigned_abs number))
+    if int_lt number (pos 0) then None else option_map digit_of (edition_numbered (unsigned_abs number))
 
 abbrev pub edition_in : Data → Option (List ℕ)
 edition_in value = option_and_then edition_text (as_integer value)

@@ -2,7 +2,7 @@
 
 ghost use Rattle.std.specs.Prelude.{◌≡◌, IfOk, map, option_and_then, option_map, string_bytes};
 ghost use Rattle.t1_options.specs.Settings.Paths.{glob_below};
-ghost use Rattle.t1_options.specs.Settings.Values.{alone, edition_in, edition_text, file_below, globs_below, is_unfit, list_in, names_in, number_text, some_texts, text_in, texts_in};
+ghost use Rattle.t1_options.specs.Settings.Values.{alone, edition_in, edition_text, file_below, globs_below, is_unfit, list_in, names_in, some_texts, text_in, texts_in};
 ghost use Rattle.toml.specs.View.{items_view, view};
 
 use super::paths::{below, glob_below};
@@ -39,18 +39,7 @@ fn edition_text(number: i64) -> Option<&'static str>
     if number < 0 {
         return None;
     }
-    Some(number_text(Edition::numbered(number.unsigned_abs())?))
-}
-
-/// The number of an edition as a text.
-fn number_text(edition: Edition) -> &'static str
-    ensures { result.now ≡ number_text edition }
-{
-    match edition {
-        Edition::One => "1",
-        Edition::Two => "2",
-        Edition::Three => "3",
-    }
+    Some(Edition::numbered(number.unsigned_abs())?.digit())
 }
 
 /// Names of rules or levels: at least one.

@@ -8,7 +8,7 @@ use Rattle.t1_rules.specs.Watches.{IsCalm}
 
 -- Numbers where they are calm, lines in the midst of a path, and moves where nothing is drawn of it.
 abbrev pub IsFit : Passing → Watches → Type 0
-IsFit passing.Told watches = ⊤
+IsFit passing.Returned watches = ⊤
 IsFit passing.Numbers watches = IsCalm watches
 IsFit passing.Lines watches = IsCalm watches × IsSteady watches
 IsFit passing.Moves watches = IsCalm watches × (IsSteady watches × IsUndrawn watches)

@@ -135,7 +135,7 @@ fn go_on(machine: &mut Machine<'_>, watches: &mut Watches) -> Answer
 {
     // Each arm has a machine of its own, which tests no more what it passes.
     match passing_by(watches, machine.counted()) {
-        Passing::Told => machine.go_far(Passing::Told).answer,
+        Passing::Returned => machine.go_far(Passing::Returned).answer,
         Passing::Numbers => machine.go_far(Passing::Numbers).answer,
         Passing::Lines => {
             let far = machine.go_far(Passing::Lines);
@@ -168,7 +168,7 @@ fn passing_by(watches: &Watches, step: u32) -> Passing
     ensures { IsFit result watches.now }
 {
     if !watches.is_calm() {
-        Passing::Told
+        Passing::Returned
     } else if !watches.is_steady() {
         Passing::Numbers
     } else if watches.is_idle(step) {

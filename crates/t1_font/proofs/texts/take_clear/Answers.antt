@@ -1,6 +1,6 @@
 use Rattle.std.proofs.Common.{sym, ◌∙◌}
 use Rattle.std.proofs.lemmas.Result.{err_from_is_err_and}
-use Rattle.t1_font.specs.declared.refusal.Refusal.TheVariants.{NoEexec}
+use Rattle.t1_font.specs.declared.unread.Unread.TheVariants.{NoEexec}
 use Rattle.t1_font.specs.ClearText.{clear_turn}
 use Rattle.t1_font.proofs.Running.{fails, run_fails, run_goes, run_over, shorter}
 use Rattle.t1_font.proofs.Shorter.{clear_shortens}

@@ -1,6 +1,6 @@
 use Rattle.std.proofs.Common.{◌≡◌, length}
 use Rattle.t1_font.specs.declared.mode.ClearMode.TheVariants.{Outside}
-use Rattle.t1_font.specs.declared.refusal.Refusal.TheVariants.{NoEexec}
+use Rattle.t1_font.specs.declared.unread.Unread.TheVariants.{NoEexec}
 use Rattle.t1_font.specs.ClearText.{clear_turn}
 use Rattle.t1_font.specs.Runs.{run_of}
 use Rattle.t1_font.proofs.texts.take_clear.Given as goal

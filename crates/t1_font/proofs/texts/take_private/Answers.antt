@@ -1,6 +1,6 @@
 use Rattle.std.proofs.Common.{ap, sym, ◌∙◌}
 use Rattle.std.proofs.lemmas.Result.{err_from_is_err_and}
-use Rattle.t1_font.specs.declared.refusal.Refusal.TheVariants.{BadCharStrings}
+use Rattle.t1_font.specs.declared.unread.Unread.TheVariants.{BadCharStrings}
 use Rattle.t1_font.specs.PrivateText.{private_turn}
 use Rattle.t1_font.specs.Texts.{value_alone}
 use Rattle.t1_font.proofs.Running.{fails, run_fails, run_goes, run_over, shorter}

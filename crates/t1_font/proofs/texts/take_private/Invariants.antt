@@ -1,6 +1,6 @@
 use Rattle.std.proofs.Common.{◌≡◌, length}
 use Rattle.t1_font.specs.declared.mode.PrivateMode.TheVariants.{Outside}
-use Rattle.t1_font.specs.declared.refusal.Refusal.TheVariants.{BadCharStrings}
+use Rattle.t1_font.specs.declared.unread.Unread.TheVariants.{BadCharStrings}
 use Rattle.t1_font.specs.PrivateText.{private_turn}
 use Rattle.t1_font.specs.Runs.{run_of}
 use Rattle.t1_font.proofs.texts.take_private.Given as goal

@@ -1,16 +1,18 @@
-use Rattle.std.proofs.Common.{List, arith}
-use Rattle.t1_refusals.specs.declared.refusal.Reason.TheVariants.{Waivers, WaiversTooLarge}
+use Rattle.std.proofs.Common.{List, arith, refl}
+use Rattle.t1_font.specs.declared.unread.RefusalCode.TheVariants.{E15}
+use Rattle.t1_report.specs.Refusals.Refusal.{Waivers, WaiversTooLarge}
 use Rattle.t1_pieces.proofs.Readings.{failed_so, fails_for, waivers_fail, waivers_in-large, waivers_read}
 use Rattle.t1_pieces.proofs.reading.read_waivers.Goals as goal
 use Rattle.t1_pieces.specs.Reading.{IsFailureOf}
 use Rattle.t1_report.specs.Waivers.{Waiver}
 use Rattle.t1_run.specs.Failures.{failure_of}
+use Rattle.t1_run.specs.declared.failure.Failure.TheVariants.{Refused}
 use Rattle.t1_run.specs.WaiverFiles.{waivers_in}
 
 pub returns-then-text-gt-LARGEST_WAIVERS-clause-failed : goal.returns-then-text-gt-LARGEST_WAIVERS-clause-failed
 returns-then-text-gt-LARGEST_WAIVERS-clause-failed c =
-    fails_for (waivers_in c.args.edition c.args.text.now) WaiversTooLarge c.from.result
-    (waivers_in-large c.args.edition c.args.text.now (omega (arith, c.if-text-gt-LARGEST_WAIVERS.true))) c.from.ensures
+    fails_for (waivers_in c.args.edition c.args.text.now) WaiversTooLarge (Refused E15)
+    (waivers_in-large c.args.edition c.args.text.now (omega (arith, c.if-text-gt-LARGEST_WAIVERS.true))) refl
 
 pub returns-in_err-read-clause-failed : goal.returns-in_err-read-clause-failed
 returns-in_err-read-clause-failed c =

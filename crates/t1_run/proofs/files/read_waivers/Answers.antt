@@ -1,6 +1,6 @@
 use Rattle.std.proofs.Common.{Bool, Result, Ok, Err, List, ℕ, MatchResult, sym, subst, true}
+use Rattle.t1_font.specs.declared.unread.RefusalCode.TheVariants.{E15}
 use Rattle.t1_io.specs.Devices.{SourceState}
-use Rattle.t1_refusals.specs.declared.refusal.Reason.TheVariants.{WaiversTooLarge}
 use Rattle.t1_run.specs.Input.{AreAll, AreUnread}
 use Rattle.t1_run.specs.WaiverFiles.{IsNoWaiverText, IsWaiverText}
 use Rattle.t1_run.specs.declared.failure.Failure.{Failure}
@@ -9,7 +9,7 @@ use Rattle.t1_run.proofs.files.read_waivers.Goals as goal
 
 -- What reading the text returns.
 text_had : {X : Type 0} (bytes : X → List ℕ) (old new : SourceState) (r : Result X Failure)
-    → MatchResult r (λ x. AreAll 1048576 old new (bytes x)) (AreUnread 1048576 WaiversTooLarge old new)
+    → MatchResult r (λ x. AreAll 1048576 old new (bytes x)) (AreUnread 1048576 E15 old new)
     → MatchResult r (λ x. IsWaiverText true old new (bytes x)) (IsNoWaiverText true old new)
 text_had bytes old new (Ok x) all = had old new (bytes x) all
 text_had bytes old new (Err failure) why = had_none old new failure why

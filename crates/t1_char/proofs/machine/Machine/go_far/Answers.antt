@@ -52,7 +52,7 @@ returns-then-self-clause-asked c =
     subst (λ view. IsAskedFarBehind c.args.passing (limit_of view.edition) (steps_of view.font view.glyph) view.counted
     (c.advance-gone.result.before + 1) (answer_view Limit (step_value c.advance-gone.new.self.step)) c.advance-gone.result.way) c.self.view_is
     (asked_far c.args.passing (limit_of m.edition) (steps_of m.font.now m.glyph) m.font.now m.counted c.advance-gone.result.before read.taken
-    c.advance-gone.result.way read.passed Limit c.advance-gone.new.self read.taken_is read.gone_far c.advance-gone.ensures.told answers)
+    c.advance-gone.result.way read.passed Limit c.advance-gone.new.self read.taken_is read.gone_far c.advance-gone.ensures.returned answers)
 
 -- The next step was read.
 pub invariant_of-self-else-self : goal.invariant_of-self-else-self
@@ -79,4 +79,4 @@ returns-else-self-clause-asked c =
     subst (λ view. IsAskedFarBehind c.args.passing (limit_of view.edition) (steps_of view.font view.glyph) view.counted
     (c.advance-gone.result.before + 1) (answer_view Step (step_value c.advance-gone.new.self.step)) c.advance-gone.result.way) c.self.view_is
     (asked_far c.args.passing (limit_of m.edition) (steps_of m.font.now m.glyph) m.font.now m.counted c.advance-gone.result.before read.taken
-    c.advance-gone.result.way read.passed Step c.advance-gone.new.self read.taken_is read.gone_far c.advance-gone.ensures.told answers)
+    c.advance-gone.result.way read.passed Step c.advance-gone.new.self read.taken_is read.gone_far c.advance-gone.ensures.returned answers)

@@ -1,7 +1,7 @@
 use Rattle.std.proofs.Common.{◌≡◌, ◌+◌, ◌≤◌, ◌++◌, ◌∷◌, [], true, ap, arith, length, sym, subst, ◌∙◌}
 use Rattle.t1_char.specs.declared.machine.Answer.{Answer}
 use Rattle.t1_char.specs.declared.machine.Answer.TheVariants.{Step}
-use Rattle.t1_char.specs.declared.machine.Numbers.TheVariants.{Told}
+use Rattle.t1_char.specs.declared.machine.Numbers.TheVariants.{Returned}
 use Rattle.t1_char.specs.AnswerViews.{answer_view}
 use Rattle.t1_char.specs.Asking.{IsAsked}
 use Rattle.t1_char.specs.Steps.{NumberedStep, StepView}
@@ -22,8 +22,8 @@ invariant_of-self c =
     let same : IsOfSameGlyph old new =
     record { font = c.go_on-self-inside.ensures.font; glyph = c.go_on-self-inside.ensures.glyph; edition = c.go_on-self-inside.ensures.edition } in
     let is : answer ≡ Step = a_step answer (sym c.is_step-2.ensures ∙ c.if-is_step.true) in
-    let asked : IsAsked Told old new (stepped new.step) =
-    subst (λ (a : Answer). IsAsked Told old new (answer_view a new.step)) is c.go_on-self-inside.ensures.asked in
+    let asked : IsAsked Returned old new (stepped new.step) =
+    subst (λ (a : Answer). IsAsked Returned old new (answer_view a new.step)) is c.go_on-self-inside.ensures.asked in
     let step : step_view c.current.result.now ≡ new.step.step = ap (λ (s : NumberedStep). s.step) c.current.ensures in
     let watched : IsWatched new c.see_in_hand.new.before c.see-self-inside.new.self c.see-self-inside.result Step =
     step_watched old new c.see_in_hand.new.before c.self.inside.watches c.see-self-inside.new.self c.see-self-inside.result same asked

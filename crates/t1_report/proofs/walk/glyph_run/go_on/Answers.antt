@@ -1,6 +1,6 @@
 use Rattle.std.proofs.Common.{refl, subst}
 use Rattle.t1_char.specs.declared.lines.Passing.{Passing}
-use Rattle.t1_char.specs.declared.lines.Passing.TheVariants.{Lines, Numbers, Told}
+use Rattle.t1_char.specs.declared.lines.Passing.TheVariants.{Lines, Numbers, Returned}
 use Rattle.t1_char.specs.Editions.{limit_of}
 use Rattle.t1_char.specs.Steps.{steps_of}
 use Rattle.t1_report.specs.Private.Fitting.{IsFit}
@@ -19,10 +19,10 @@ go-requires-clause-unmoved c =
     unmoved (limit_of m.edition) (steps_of m.font m.glyph) m.counted c.go_far-far.ensures.asked.taken c.go_far-far.result.way
     c.go_far-far.ensures.asked.passed
 
-pub returns-in-Told-clause-asked : goal.returns-in-Told-clause-asked
-returns-in-Told-clause-asked c =
-    has_stayed Told refl c.args.machine.now c.go_far.new.self _ c.go_far.result.way c.args.watches.now
-    (subst (λ (what : Passing). IsFit what c.args.watches.now) c.in-Told.is c.passing_by.ensures) c.go_far.ensures.asked
+pub returns-in-Returned-clause-asked : goal.returns-in-Returned-clause-asked
+returns-in-Returned-clause-asked c =
+    has_stayed Returned refl c.args.machine.now c.go_far.new.self _ c.go_far.result.way c.args.watches.now
+    (subst (λ (what : Passing). IsFit what c.args.watches.now) c.in-Returned.is c.passing_by.ensures) c.go_far.ensures.asked
 
 pub returns-in-Numbers-clause-asked : goal.returns-in-Numbers-clause-asked
 returns-in-Numbers-clause-asked c =

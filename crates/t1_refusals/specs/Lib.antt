@@ -1,2 +1,0 @@
-pub mod RefusalCodes
-pub mod RefusalTexts
