@@ -4,8 +4,9 @@
 # - Of each example below a rule's heading in docs/RULES.md a font is made (tests/make.awk), and t1check-all reports its lines with the reasons
 #   below them; of the mended example it reports nothing.
 # - Each rule and each refusal has its text in its heading, and each rule in the table too; the texts of refusals are those of
-#   t1_refusals, in code and definition, and t1_font has those of a font's bytes. Each rule's page has its level, and the source that specs/
-#   names. The pages of t1_pages are those of docs/RULES.md.
+#   t1_font, in code and definition. Each rule's page has its level, and the source that specs/ names. The pages of t1_pages are those of
+#   docs/RULES.md.
+# - What lists the editions has those of t1_char.
 # - Each rule is in all places that docs/dev/ARCHITECTURE.md names for it; one that lacks rules is printed with their codes. A file that has all
 #   of them is named there. Above each row in specs/ is a source.
 # - tests/definitions.sh prints the words of definitions that clauses of public functions cite. Each of them is defined in the file that is printed
@@ -135,16 +136,12 @@ try_example() {
 sed -n '/^static BOOK/,/^];$/p' "$top/crates/t1_rules/src/book.rt" | tr '\n' ' ' | sed 's/,* *),/\n/g' |
     sed -n 's/^.*Rule::\([A-Z0-9]*\), *Level::\([A-Z][a-z]*\), *"\1", *"\(.*\)"$/\1 \2 \3/p' >"$scratch/levels"
 sed 's/^\([^ ]*\) [^ ]*/\1/' "$scratch/levels" >"$scratch/book"
-sed -n 's/^.*=> "\(E[0-9]*\) \(.*\)",$/\1 \2/p' "$top/crates/t1_refusals/src/refusal.rt" >"$scratch/refusals"
+sed -n 's/^.*=> "\(E[0-9]*\) \(.*\)",$/\1 \2/p' "$top/crates/t1_font/src/unread.rt" >"$scratch/refusals"
 while read -r code text; do
-    # A file's size and the waivers aren't t1_font's.
-    case $code in E05 | E14 | E15) of_font='' ;; *) of_font=yes ;; esac
     if ! grep -qxF "### $code $text" "$rules"; then
         fail "docs/RULES.md: no heading says $code $text"
-    elif ! grep -qF "codes \"$code $text\"" "$top/crates/t1_refusals/specs/RefusalTexts.antt"; then
-        fail "crates/t1_refusals/specs/RefusalTexts.antt: no refusal has the text $code $text"
-    elif [ -n "$of_font" ] && ! grep -qF "\"$code $text\"" "$top/crates/t1_font/src/unread.rt"; then
-        fail "crates/t1_font/src/unread.rt: no refusal has the text $code $text"
+    elif ! grep -qF "codes \"$code $text\"" "$top/crates/t1_font/specs/Refusals.antt"; then
+        fail "crates/t1_font/specs/Refusals.antt: no refusal has the text $code $text"
     else
         pass
     fi
@@ -155,6 +152,36 @@ last=$(sed -n 's/^last_number = \([0-9]*\)$/\1/p' "$top/crates/t1_rules/specs/Bo
 # The page has room for as many counts as the module keeps.
 codes=$(sed -n 's/^const CODES = \([0-9]*\) + \([0-9]*\);$/\1 \2/p' "$top/web/host.mjs")
 if [ "$codes" = "$last $(wc -l <"$scratch/refusals" | tr -d ' ')" ]; then pass; else fail "web/host.mjs: rules and refusals aren't so many: $codes"; fi
+
+# The editions, as t1_char has their digits, and as words list them: `1 2 3`, and `1, 2 or 3`.
+editions=$(sed -n 's/^ *Edition::[A-Z][a-z]* => "\([0-9]*\)",$/\1/p' "$top/crates/t1_char/src/edition.rt" | tr '\n' ' ' | sed 's/ $//')
+or_editions=$(printf '%s\n' "$editions" | sed 's/ /, /g; s/, \([0-9]*\)$/ or \1/')
+# A file has a text so often: FILE COUNT TEXT.
+lists() {
+    found=$(grep -cF -e "$3" "$top/$1")
+    if [ "$found" -eq "$2" ]; then pass; else fail "$1: $3 is there $found times, wanted $2"; fi
+}
+lists crates/t1_run/src/arguments.rt 1 "range(1..$((${editions##* } + 1)))"
+lists crates/t1_run/specs/Arguments.antt 1 "parser.Unsigned 1 ${editions##* })"
+for file in crates/t1_answer/src/command_line.rt crates/t1draw/src/command_line.rt bin/help/t1check.txt bin/help/t1draw.txt; do
+    lists "$file" 1 "by edition $or_editions of the rule book [default: 1]"
+done
+for file in crates/t1_options/src/command_line.rt bin/help/t1check-all.txt; do
+    lists "$file" 1 "check by this edition of the rule book, $or_editions"
+done
+lists crates/t1_options/src/complaint.rt 1 "\"--edition wants $or_editions\""
+lists crates/t1_options/src/settings/reading.rt 1 "\"edition wants $or_editions\""
+lists man/t1check.1 1 "by edition $or_editions of the rule book"
+lists man/t1check-all.1 1 "by this edition of the rule book, $or_editions;"
+lists completions/_t1check 3 ":edition:($editions)'"
+lists completions/t1check.bash 1 "compgen -W '$editions'"
+lists completions/t1check.fish 3 "-l edition -x -a '$editions'"
+lists README.md 1 "use edition $or_editions of the rules"
+lists docs/RECIPES.md 1 "| \`edition\` | $or_editions |"
+lists bench/waivers.sh 1 "for edition in $editions; do"
+lists bench/node.sh 1 "for edition in $editions; do"
+chosen=$(sed -n '/<select id="edition">/,/<\/select>/p' "$top/web/page.html" | grep -o '<option value="[0-9]*">' | tr -dc '0-9\n' | tr '\n' ' ' | sed 's/ $//')
+if [ "$chosen" = "$editions" ]; then pass; else fail "web/page.html: the editions to choose are $chosen, wanted $editions"; fi
 
 # The version of the changes and of the manual pages is that of the programs.
 version=$(sed -n 's/^pub const VERSION: &str = "\(.*\)";$/\1/p' "$top/crates/t1_forms/src/version.rt")
@@ -344,7 +371,7 @@ done <"$scratch/files"
 has_rows() {
     case $1 in
         *Views | t1_char/StepValues | t1_font/Entries) return 1 ;;
-        t1_seal/* | t1_scan/* | t1_font/* | t1_char/* | t1_rules/* | t1_report/* | t1_answer/* | t1_refusals/*) return 0 ;;
+        t1_seal/* | t1_scan/* | t1_font/* | t1_char/* | t1_rules/* | t1_report/* | t1_answer/*) return 0 ;;
     esac
     return 1
 }

@@ -17,7 +17,7 @@ use Rattle.t1_report.specs.Walks.{AreLater, HasNoneLater, IsNext, IsSoFar, first
 use Rattle.t1_report.specs.WalkViews.{WalkView}
 use Rattle.t1_report.specs.declared.marks.Mark.{Mark}
 use Rattle.t1_report.specs.Laws.Walks.{AllAreGivenAtLast, AreBehindTheCount, MarksGoOnCounting, NoneIsGivenAtFirst}
-use Rattle.t1_answer.specs.declared.asked.Options.{Options}
+use Rattle.t1_answer.specs.declared.asked.CheckOptions.{CheckOptions}
 use Rattle.t1_run.specs.declared.status.Status.{Status}
 use Rattle.t1_run.specs.declared.status.Status.TheVariants.{Faults}
 use Rattle.t1_answer.specs.Answers.{at_most, selection, status_of}
@@ -145,7 +145,7 @@ few_faults starts counts behind font waivers faults few few_waivers report =
     omega (arith, count)
 
 chosen_are : NoneIsGivenAtFirst → MarksGoOnCounting → AreBehindTheCount → (font : CheckedFont) (waivers : List Waiver) (faults : List FaultValue)
-    (options : Options) → length font.value.glyphs ≤ 65535 → length waivers ≤ 1048576 → IsReport font waivers faults
+    (options : CheckOptions) → length font.value.glyphs ≤ 65535 → length waivers ≤ 1048576 → IsReport font waivers faults
     → chosen faults (min options.after (length faults)) (unwrap_or options.max (2 ^ 64 - 1)) ≡ selection options faults
 chosen_are starts counts behind font waivers faults options few few_waivers report =
     let count = few_faults starts counts behind font waivers faults few few_waivers report in
@@ -185,7 +185,7 @@ first_passed starts font waivers begun count mark of_font of_waivers first passe
     (subst (λ (m : Mark). IsSoFar faults 0 m) (sym first) (starts faults))
 
 pub chosen_by : NoneIsGivenAtFirst → MarksGoOnCounting → AreBehindTheCount → (font : CheckedFont) (waivers : List Waiver) (faults : List FaultValue)
-    (options : Options) (most : ℕ) → most ≡ unwrap_or options.max (2 ^ 64 - 1) → length font.value.glyphs ≤ 65535 → length waivers ≤ 1048576
+    (options : CheckOptions) (most : ℕ) → most ≡ unwrap_or options.max (2 ^ 64 - 1) → length font.value.glyphs ≤ 65535 → length waivers ≤ 1048576
     → IsReport font waivers faults → chosen faults (min options.after (length faults)) most ≡ selection options faults
 chosen_by starts counts behind font waivers faults options most is few few_waivers report = ap (λ n. take n (drop (min options.after (length faults)) faults))
     is ∙ chosen_are starts counts behind font waivers faults options few few_waivers report

@@ -5,7 +5,7 @@ use Rattle.std.proofs.KnownBytes.{Appends-nil, Keeps-refl}
 use Rattle.t1_char.specs.declared.edition.Edition.{Edition}
 use Rattle.t1_font.specs.Fonts.{FontValue}
 use Rattle.t1_io.specs.Devices.{SinkState, SourceState, one_more}
-use Rattle.t1_answer.specs.declared.asked.Options.{Options}
+use Rattle.t1_answer.specs.declared.asked.CheckOptions.{CheckOptions}
 use Rattle.t1_run.specs.declared.status.Status.{Status}
 use Rattle.t1_run.specs.declared.status.Status.TheVariants.{Clean, Failed, Faults, Refused}
 use Rattle.t1_report.specs.Refusals.{Refusal, refusal_code_of}
@@ -36,7 +36,7 @@ use Rattle.t1_run.specs.Telling.{Gives, Tells}
 use Rattle.t1_run.specs.WaiverFiles.{AreWaived, IfWaived, IsHeard}
 
 -- The facts one by one, before they are grouped by the status.
-record Facts (options : Options) (source waivers : Transition SourceState) (sinks : Transition Sinks) (result : Status) : Type 0 where
+record Facts (options : CheckOptions) (source waivers : Transition SourceState) (sinks : Transition Sinks) (result : Status) : Type 0 where
   answer : result ≢ Failed → IfKnown options source.old.left waivers.old.left (Answered options result sinks)
   flushed : (result ≡ Clean) ⊎ (result ≡ Faults)
       → (sinks.new.out.flushed ≡ true) × (sinks.new.out.flushes ≡ one_more sinks.old.out.flushes)
@@ -151,7 +151,7 @@ untraced f (Some t) waive asked = absurd (true≢false (sym asked))
 
 -- ---- a report or a trace
 
-module _ (options : Options) (source texts : Transition SourceState) (sinks : Transition Sinks) (result : Status)
+module _ (options : CheckOptions) (source texts : Transition SourceState) (sinks : Transition Sinks) (result : Status)
     (waivers_sound : texts.old.failed ≡ false) (sound : sinks.old.out.failed ≡ false) (errors_sound : sinks.old.errors.failed ≡ false) where
   abbrev left : Option (List ℕ)
   left = source.old.left
@@ -434,7 +434,7 @@ kind_of : (code : Option RefusalCode) → (failure_status (refused_by code) ≡ 
 kind_of (Some code) = inl refl
 kind_of None = inr refl
 
-facts : (options : Options) (source texts : Transition SourceState) (sinks : Transition Sinks) (result : Status)
+facts : (options : CheckOptions) (source texts : Transition SourceState) (sinks : Transition Sinks) (result : Status)
     → texts.old.failed ≡ false → sinks.old.out.failed ≡ false → sinks.old.errors.failed ≡ false → Ends checking options source texts sinks result
     → Facts options source texts sinks result
 facts options source texts sinks result texts_sound sound errors_sound (font_read font are unfailed ends) =

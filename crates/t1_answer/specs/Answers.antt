@@ -5,7 +5,7 @@ use Rattle.t1_char.specs.declared.edition.Edition.{Edition}
 use Rattle.t1_report.specs.Checked.{checked}
 use Rattle.t1_report.specs.Faults.{FaultValue}
 use Rattle.t1_report.specs.Reports.{IsReport}
-use Rattle.t1_answer.specs.declared.asked.Options.{Options}
+use Rattle.t1_answer.specs.declared.asked.CheckOptions.{CheckOptions}
 use Rattle.t1_run.specs.declared.status.Status.{Status}
 use Rattle.t1_run.specs.declared.status.Status.TheVariants.{Clean, Failed, Faults, Refused}
 use Rattle.t1_report.specs.Refusals.{Refusal}
@@ -34,7 +34,7 @@ at_most None faults = faults
 at_most (Some max) faults = take max faults
 
 -- What the options choose of a report.
-abbrev pub selection : {A : Type 0} → Options → List A → List A
+abbrev pub selection : {A : Type 0} → CheckOptions → List A → List A
 selection options faults = at_most options.max (drop options.after faults)
 
 -- Whether lines were written.
@@ -48,7 +48,7 @@ reported font waivers faults =
     record { output = lines_of font waivers faults; told = []; status = status_of faults }
 
 -- What the options choose of a font's report, given waivers; where these aren't read, the reason is printed.
-abbrev pub IsReported : Options → FontValue → Result (List Waiver) Refusal → Answer → Type 0
+abbrev pub IsReported : CheckOptions → FontValue → Result (List Waiver) Refusal → Answer → Type 0
 IsReported options font (Ok waivers) answer =
     (faults : List FaultValue)
     × (IsReport (checked font options.edition) waivers faults × (answer ≡ reported font waivers (selection options faults)))
@@ -63,22 +63,22 @@ abbrev pub traced : Edition → FontValue → List ℕ → Answer
 traced edition font name = traced_at edition font name (glyph_named font name)
 
 -- Without a name the answer is the report, with one the trace of that glyph.
-abbrev pub IsShown : Options → FontValue → Result (List Waiver) Refusal → Option (List ℕ) → Answer
+abbrev pub IsShown : CheckOptions → FontValue → Result (List Waiver) Refusal → Option (List ℕ) → Answer
     → Type 0
 IsShown options font waived None answer = IsReported options font waived answer
 IsShown options font waived (Some name) answer = answer ≡ traced options.edition font name
 
 -- The answer of a font that was read is what the options request; else the reason is printed.
-abbrev pub IsAnswerTo : Options → Result FontValue Refusal → Result (List Waiver) Refusal → Answer
+abbrev pub IsAnswerTo : CheckOptions → Result FontValue Refusal → Result (List Waiver) Refusal → Answer
     → Type 0
 IsAnswerTo options (Ok font) waived answer =
     IsShown options font waived (option_map string_bytes options.trace) answer
 IsAnswerTo options (Err reason) waived answer = answer ≡ refused (told_of reason)
 
 -- The waivers of a text, where the options request them; else there are none.
-abbrev pub waived_by : Options → List ℕ → Result (List Waiver) Refusal
+abbrev pub waived_by : CheckOptions → List ℕ → Result (List Waiver) Refusal
 waived_by options text = if asks_waivers options then waivers_in options.edition text else Ok []
 
 -- The program's answer to its options and the bytes of a font's file and of a file of waivers.
-abbrev pub IsAnswer : Options → List ℕ → List ℕ → Answer → Type 0
+abbrev pub IsAnswer : CheckOptions → List ℕ → List ℕ → Answer → Type 0
 IsAnswer options input text answer = IsAnswerTo options (font_of input) (waived_by options text) answer

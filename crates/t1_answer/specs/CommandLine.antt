@@ -2,7 +2,7 @@
 use Rattle.std.specs.Prelude.{◌≡◌, ℕ, List, Option, None, Some, option_map, codes, string_bytes}
 use Rattle.clap.specs.Words.{App, Rule, Text, first_of, matches_of, new_app, new_rule, with_rule}
 use Rattle.clap.specs.declared.builder.value_parser.ValueParser.TheVariants as parser
-use Rattle.t1_answer.specs.declared.asked.Options.{Options}
+use Rattle.t1_answer.specs.declared.asked.CheckOptions.{CheckOptions}
 use Rattle.t1_run.specs.Words.{AreNumber, IsEditionOrFirst, IsNumber, edition_rule, waive_rule}
 
 -- --after K, K a number of 64 bits
@@ -44,7 +44,7 @@ IsNumberOrZero None n = n ≡ 0
 IsNumberOrZero (Some text) n = IsNumber text n
 
 -- The options are those that the words yield.
-pub record AreGiven (words : List Text) (options : Options) : Type 0 where
+pub record AreGiven (words : List Text) (options : CheckOptions) : Type 0 where
   pub after : IsNumberOrZero (first_of (codes "after") (matches_of t1check words)) options.after
   pub max : AreNumber (first_of (codes "max") (matches_of t1check words)) options.max
   pub trace : option_map string_bytes options.trace ≡ first_of (codes "trace") (matches_of t1check words)

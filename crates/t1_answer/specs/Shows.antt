@@ -4,7 +4,7 @@ use Rattle.t1_font.specs.Fonts.{FontValue}
 use Rattle.t1_report.specs.Checked.{checked}
 use Rattle.t1_report.specs.Faults.{FaultValue}
 use Rattle.t1_report.specs.Reports.{IsReport}
-use Rattle.t1_answer.specs.declared.asked.Options.{Options}
+use Rattle.t1_answer.specs.declared.asked.CheckOptions.{CheckOptions}
 use Rattle.t1_run.specs.declared.status.Status.{Status}
 use Rattle.t1_run.specs.declared.status.Status.TheVariants.{Clean, Failed}
 use Rattle.t1_answer.specs.Answers.{selection, status_of}
@@ -18,7 +18,7 @@ use Rattle.t1_run.specs.Opening.{Sinks}
 use Rattle.t1_run.specs.Telling.{Gives, Tells}
 
 -- What the options request of a font: lines of its report, or the trace of a glyph, where there is one of the name.
-pub data Shows (options : Options) (font : FontValue) (waivers : List Waiver) (sinks sinks' : Sinks) (result : Status) : Type 0 where
+pub data Shows (options : CheckOptions) (font : FontValue) (waivers : List Waiver) (sinks sinks' : Sinks) (result : Status) : Type 0 where
   reported :
       options.trace ≡ None → (faults : List FaultValue) → IsReport (checked font options.edition) waivers faults
       → Gives program (lines_of font waivers (selection options faults)) (status_of (selection options faults)) sinks sinks' result

@@ -15,7 +15,7 @@ use t1_run::{Program, Status, UsageError, borrowed};
 
 /// What the words of the command line request.
 #[derive(Debug, Drop)]
-pub struct Options {
+pub struct CheckOptions {
     /// How many lines of the report are skipped first.
     pub after: u64,
     /// How many of the other lines are written at most; all of them without it.
@@ -30,14 +30,14 @@ pub struct Options {
     pub file: Option<String>,
 }
 
-impl Program for Options {
+impl Program for CheckOptions {
     ghost meaning = { checking };
 
     fn name() -> &'static str {
         PROGRAM
     }
 
-    fn read_words<S: AsStr>(alloc: Global, words: &[S]) -> Result<Options, UsageError> {
+    fn read_words<S: AsStr>(alloc: Global, words: &[S]) -> Result<CheckOptions, UsageError> {
         options(alloc, words)
     }
 

@@ -6,7 +6,7 @@ ghost use Rattle.t1_answer.specs.CommandLine.{t1check};
 ghost use Rattle.t1_answer.specs.Words.{AreTaken};
 ghost use Rattle.t1_run.specs.Words.{AreRefused, IsParsedBy};
 
-use crate::asked::Options;
+use crate::asked::CheckOptions;
 use clap::{ArgMatches, Command};
 use std::alloc::{AllocError, Global};
 use std::convert::AsStr;
@@ -80,7 +80,7 @@ const ARGUMENTS: &[Argument<'static>] = &[
 ];
 
 /// Reads the words of the command line, the program's name first.
-pub fn options<S: AsStr>(alloc: Global, words: &[S]) -> Result<Options, UsageError>
+pub fn options<S: AsStr>(alloc: Global, words: &[S]) -> Result<CheckOptions, UsageError>
     ensures taken { IfOk result (AreTaken (map S.text words.now)) }
     ensures refused { IfErr result (AreRefused t1check (map S.text words.now)) }
 {
@@ -89,7 +89,7 @@ pub fn options<S: AsStr>(alloc: Global, words: &[S]) -> Result<Options, UsageErr
 }
 
 /// The options that are found in words.
-fn options_in(alloc: Global, matches: &ArgMatches<'_>) -> Result<Options, AllocError>
+fn options_in(alloc: Global, matches: &ArgMatches<'_>) -> Result<CheckOptions, AllocError>
     requires { (words : List Text) × IsParsedBy t1check words matches.now }
     ensures { (words : List Text) → IsParsedBy t1check words matches.now → IfOk result (AreTaken words) }
 {
@@ -99,7 +99,7 @@ fn options_in(alloc: Global, matches: &ArgMatches<'_>) -> Result<Options, AllocE
     let edition = edition(matches.get_str("edition"));
     let waive = owned(alloc, matches.get_str("waive"))?;
     let file = owned(alloc, matches.get_str("file"))?;
-    Ok(Options {
+    Ok(CheckOptions {
         after,
         max,
         trace,

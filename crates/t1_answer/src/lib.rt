@@ -1,6 +1,6 @@
 //! The work of t1check: from the words of its command line and the bytes of files to lines and a status.
 //!
-//! [`options`] reads words. [`Options`] are a [`Program`](t1_run::Program): [`run`](t1_run::run) reads one font, and the
+//! [`options`] reads words. [`CheckOptions`] are a [`Program`](t1_run::Program): [`run`](t1_run::run) reads one font, and the
 //! waivers, and writes the lines that the options request. [`answer`](t1_run::answer) does all of it, and opens the files
 //! that the words name.
 //!
@@ -20,7 +20,7 @@ mod lines;
 mod running;
 mod tracing;
 
-pub use asked::Options;
+pub use asked::CheckOptions;
 pub use command_line::options;
 pub use laws::{a_file_has_one_answer, runs_keep_promises};
 

@@ -13,7 +13,7 @@ ghost use Rattle.t1_answer.specs.Lines.{lines_of};
 ghost use Rattle.t1_font.specs.Bounds.{most_glyphs};
 ghost use Rattle.t1_report.specs.Waivers.{largest_waivers};
 
-use crate::asked::Options;
+use crate::asked::CheckOptions;
 use t1_font::Font;
 use t1_io::{Broken, Sink};
 use t1_report::{Waivers, Walk, marks_count_the_faults_given, write_fault};
@@ -27,7 +27,7 @@ pub fn write_report<'a, W: Sink>(
     font: &'a Font<'a>,
     sidebearings: &'a Sidebearings,
     waivers: &'a Waivers<'a>,
-    options: &Options,
+    options: &CheckOptions,
 ) -> Result<Status, Broken>
     requires few { length font.now.glyphs ≤ most_glyphs }
     requires few_waivers { length waivers.now ≤ largest_waivers }
@@ -71,7 +71,7 @@ fn write_lines<W: Sink>(
     font: &Font<'_>,
     waivers: &Waivers<'_>,
     mut walk: Walk<'_>,
-    options: &Options,
+    options: &CheckOptions,
 ) -> Result<Status, Broken>
     requires font { walk.font ≡ checked font.now options.now.edition }
     requires waivers { walk.waivers ≡ waivers.now }

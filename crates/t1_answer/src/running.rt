@@ -15,7 +15,7 @@ ghost use Rattle.t1_report.specs.Waivers.{largest_waivers};
 ghost use Rattle.t1_font.specs.Bounds.{most_glyphs};
 
 use crate::PROGRAM;
-use crate::asked::Options;
+use crate::asked::CheckOptions;
 use crate::lines::write_report;
 use crate::tracing::write_trace;
 use std::alloc::Global;
@@ -31,7 +31,7 @@ pub(crate) fn show<W: Sink, E: Sink>(
     alloc: Global,
     font: &Font<'_>,
     waivers: &Waivers<'_>,
-    options: &Options,
+    options: &CheckOptions,
     out: &mut W,
     errors: &mut E,
 ) -> Status
@@ -54,7 +54,7 @@ fn report<W: Sink, E: Sink>(
     alloc: Global,
     font: &Font<'_>,
     waivers: &Waivers<'_>,
-    options: &Options,
+    options: &CheckOptions,
     out: &mut W,
     errors: &mut E,
 ) -> Status
@@ -77,7 +77,7 @@ fn give_report<'a, W: Sink, E: Sink>(
     font: &'a Font<'a>,
     sidebearings: &'a Sidebearings,
     waivers: &'a Waivers<'a>,
-    options: &Options,
+    options: &CheckOptions,
     out: &mut W,
     errors: &mut E,
 ) -> Status

@@ -33,7 +33,7 @@ zip-append R (x ∷ xs) xs' (y ∷ ys) ys' (first, rest) more = (first, zip-appe
 module _ {T F : Type 0} (takes : F → F → Handed → Option Lost → Type 0) (form : T → F) (kept : T → List Kept) (rules : T → Mask)
     (judges : T → List ℕ → Report → FaultValue → Verdict) where
   abbrev keeping : F → F → List Kept → List Kept → Keeping Kept
-  keeping a b old new = record { form = recipient_by takes a b; old = old; new = new }
+  keeping a b old new = record { printer = recipient_by takes a b; old = old; new = new }
 
   -- A font is taken, and what decides the next one stays.
   pub record TakesFont (old new : T) (entry : Entry) (taken : Result FontClass Lost) : Type 0 where

@@ -62,7 +62,7 @@ module _ {F : Type 0} (takes : F → F → Handed → Option Lost → Type 0) (r
   told_fonts mode_is none none_waived (cut_short count entries are lost handed is) = checked_in_part count entries told mode_is are lost handed is
 
   pub waived_fonts : (before : List FontText) → run.plan.mode ≡ waived → readings ≡ [] → before ≡ []
-      → WaivesAll (record { form = recipient_by takes old new; old = before; new = waivers }) run.plan.rules run.files run.plan.edition run.plan.names
+      → WaivesAll (record { printer = recipient_by takes old new; old = before; new = waivers }) run.plan.rules run.files run.plan.edition run.plan.names
       result
       → ChecksFonts takes run old new (IsKept run.plan readings waivers) result
   waived_fonts before mode_is none begun (waived_whole entries are handed kept is) =
@@ -93,7 +93,7 @@ module _ {T F K : Type 0} (takes : F → F → Handed → Option Lost → Type 0
       → waivers ≡ []
       → Ends
       (recipient_by (λ a b entry taken. (rules b ≡ rules a) × (known b ≡ known a)
-      × TakesKnown (record { form = recipient_by takes (form a) (form b); old = kept a; new = kept b })
+      × TakesKnown (record { printer = recipient_by takes (form a) (form b); old = kept a; new = kept b })
       (by_known (counts (known a)) (rules a) entry.name) (rules a) entry taken) old new)
       run.files run.plan.edition run.plan.names result
       → ChecksFonts takes run (form old) (form new) (IsKept run.plan (kept new) waivers) result
@@ -117,7 +117,7 @@ module _ {T F : Type 0} (takes : F → F → Handed → Option Lost → Type 0) 
   pub anew_fonts : (rows : List RowValue) → run.plan.mode ≡ anew rows → rules old ≡ run.plan.rules → kept old ≡ [] → waivers ≡ []
       → Ends
       (recipient_by (λ a b entry taken. (rules b ≡ rules a)
-      × TakesKnown (record { form = recipient_by takes (form a) (form b); old = kept a; new = kept b }) (as_known (rules a)) (rules a) entry taken)
+      × TakesKnown (record { printer = recipient_by takes (form a) (form b); old = kept a; new = kept b }) (as_known (rules a)) (rules a) entry taken)
       old new)
       run.files run.plan.edition run.plan.names result
       → ChecksFonts takes run (form old) (form new) (IsKept run.plan (kept new) waivers) result

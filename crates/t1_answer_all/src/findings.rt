@@ -42,13 +42,13 @@ impl Findings {
 pub struct Checked<F: Printer + Drop> {
     /// The greatest status of the fonts, or why it stopped at one of them.
     pub status: Result<Status, Lost>,
-    /// The form that took their lines.
-    pub form: F,
+    /// The printer that took their lines.
+    pub printer: F,
     /// What was found in them.
     pub found: Findings,
 }
 
-/// The same with a form that counts.
+/// The same with a printer that counts.
 #[derive(Drop)]
 struct CheckedOnes<F: Printer + Drop> {
     status: Result<Status, Lost>,
@@ -57,22 +57,22 @@ struct CheckedOnes<F: Printer + Drop> {
     kept: Kept,
 }
 
-/// Checks fonts in order. The form takes the lines that are chosen, why there is no report of a font, and how each font was found.
-pub fn check_fonts<S, F>(alloc: Global, plan: Plan<'_>, files: &mut S, form: F) -> Checked<F>
+/// Checks fonts in order. The printer takes the lines that are chosen, why there is no report of a font, and how each font was found.
+pub fn check_fonts<S, F>(alloc: Global, plan: Plan<'_>, files: &mut S, printer: F) -> Checked<F>
 where
     S: FontFiles,
     F: Printer + Drop,
-    ensures { ChecksFonts F.takes (run_of plan.entry S.calls files.old files.new) form result.form
+    ensures { ChecksFonts F.takes (run_of plan.entry S.calls files.old files.new) printer result.printer
         (IsFound (plan_value plan.entry) result.found) result.status }
 {
     let counted = Counted {
         tally: Tally::new(),
-        form,
+        printer,
     };
     let checked = check_ones(alloc, plan, files, counted);
     Checked {
         status: checked.status,
-        form: checked.counted.form,
+        printer: checked.counted.printer,
         found: Findings {
             tally: checked.counted.tally,
             readings: checked.readings,
@@ -81,7 +81,7 @@ where
     }
 }
 
-/// Checks fonts with a form that counts.
+/// Checks fonts with a printer that counts.
 fn check_ones<S, F>(
     alloc: Global,
     plan: Plan<'_>,
@@ -98,7 +98,7 @@ where
         Mode::ReportAll => {
             let mut telling = ReportAll {
                 rules: plan.rules,
-                form: counted,
+                printer: counted,
             };
             let status = tell_all(
                 alloc,
@@ -110,7 +110,7 @@ where
             );
             CheckedOnes {
                 status,
-                counted: telling.form,
+                counted: telling.printer,
                 readings: Vec::new(alloc),
                 kept: Kept::new(alloc),
             }
@@ -119,7 +119,7 @@ where
             let mut beyond = ReportNew {
                 rules: plan.rules,
                 known: Borrowed { known },
-                form: counted,
+                printer: counted,
                 readings: Vec::new(alloc),
             };
             let status = check_all(
@@ -132,7 +132,7 @@ where
             );
             CheckedOnes {
                 status,
-                counted: beyond.form,
+                counted: beyond.printer,
                 readings: beyond.readings,
                 kept: Kept::new(alloc),
             }
@@ -140,7 +140,7 @@ where
         Mode::UpdateBaseline(_) => {
             let mut anew = UpdateBaseline {
                 rules: plan.rules,
-                form: counted,
+                printer: counted,
                 readings: Vec::new(alloc),
             };
             let status = check_all(
@@ -153,7 +153,7 @@ where
             );
             CheckedOnes {
                 status,
-                counted: anew.form,
+                counted: anew.printer,
                 readings: anew.readings,
                 kept: Kept::new(alloc),
             }
@@ -161,7 +161,7 @@ where
         Mode::WriteWaivers => {
             let mut waiving = WriteWaivers {
                 rules: plan.rules,
-                form: counted,
+                printer: counted,
                 kept: Kept::new(alloc),
             };
             let status = waive_all(
@@ -174,7 +174,7 @@ where
             );
             CheckedOnes {
                 status,
-                counted: waiving.form,
+                counted: waiving.printer,
                 readings: Vec::new(alloc),
                 kept: waiving.kept,
             }

@@ -89,8 +89,8 @@ where
     Written {
         status: checked.status,
         found: checked.found,
-        out: checked.form.out,
-        errors: checked.form.errors,
+        out: checked.printer.out,
+        errors: checked.printer.errors,
     }
 }
 
@@ -114,7 +114,7 @@ where
 {
     let grouped = Grouped::new(alloc, form, out, errors);
     let checked = check_fonts(alloc, plan, files, grouped);
-    let (_form, out, errors) = checked.form.into_parts();
+    let (_form, out, errors) = checked.printer.into_parts();
     Written {
         status: checked.status,
         found: checked.found,
@@ -178,7 +178,7 @@ where
     }
     let form = Formatted::new(alloc, formatter, out, errors, reasons);
     let checked = check_fonts(alloc, plan, files, form);
-    let (formatter, mut out, errors) = checked.form.into_parts();
+    let (formatter, mut out, errors) = checked.printer.into_parts();
     let status = finish_checked(alloc, formatter, &mut out, checked.status);
     Written {
         status,

@@ -11,7 +11,7 @@ use std::io;
 use std::io::Read;
 use std::process::Abort;
 use std::test::Fail;
-use t1_answer::Options;
+use t1_answer::CheckOptions;
 use t1_io::{In, Out};
 use t1_run::{Status, run};
 use t1_samples::{END_SEGMENT, Fuse, Limit};
@@ -37,7 +37,7 @@ impl Read for Endless {
 fn answer_within(
     alloc: Global,
     file: &[u8],
-    options: &Options,
+    options: &CheckOptions,
     input: Limit,
     output: Limit,
     errors: Limit,

@@ -7,7 +7,7 @@ use std::io;
 use std::io::{Read, Write};
 use std::process::Abort;
 use std::test::Fail;
-use t1_answer::Options;
+use t1_answer::CheckOptions;
 use t1_io::{In, Out};
 use t1_run::Status;
 
@@ -90,7 +90,7 @@ fn writer(alloc: Global, failing: Failing) -> Writes {
 fn run_into(
     alloc: Global,
     file: &[u8],
-    options: &Options,
+    options: &CheckOptions,
     writer: &mut Writes,
 ) -> (Status, Vec<u8>) {
     run_over(

@@ -3,7 +3,7 @@
 use crate::files::{Made, file_of};
 use crate::shared::{ALL, NO_END_REPORT};
 use std::alloc::{AllocError, Global};
-use t1_answer::Options;
+use t1_answer::CheckOptions;
 use t1_run::Status;
 use t1_samples::NOTDEF;
 
@@ -11,7 +11,7 @@ use t1_samples::NOTDEF;
 #[derive(Drop)]
 pub(crate) struct Run {
     pub(crate) file: Vec<u8>,
-    pub(crate) options: Options,
+    pub(crate) options: CheckOptions,
     pub(crate) status: Status,
     /// All that is written; nothing is printed on standard error.
     pub(crate) text: &'static str,
@@ -59,8 +59,8 @@ pub(crate) const RUNS: &[Row] = &[
 ];
 
 /// The trace of glyph A, or the whole report; with waivers or without.
-pub(crate) fn options_of(alloc: Global, traced: bool, waived: bool) -> Result<Options, AllocError> {
-    Ok(Options {
+pub(crate) fn options_of(alloc: Global, traced: bool, waived: bool) -> Result<CheckOptions, AllocError> {
+    Ok(CheckOptions {
         trace: word(alloc, "A", traced)?,
         waive: word(alloc, "waivers", waived)?,
         ..ALL

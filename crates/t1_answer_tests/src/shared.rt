@@ -4,7 +4,7 @@ ghost use Rattle.std.specs.Prelude.{◌≡◌, false};
 
 use std::alloc::Global;
 use std::io;
-use t1_answer::Options;
+use t1_answer::CheckOptions;
 use t1_char::Edition;
 use t1_io::{In, Out, Sink, Source};
 use t1_run::{Status, run};
@@ -28,7 +28,7 @@ impl Answer {
 pub(crate) const NO_END_REPORT: &str = "1: font file 0 F01 no end segment\n";
 
 /// The whole report, of standard input.
-pub(crate) const ALL: Options = Options {
+pub(crate) const ALL: CheckOptions = CheckOptions {
     after: 0,
     max: None,
     trace: None,
@@ -43,7 +43,7 @@ pub(crate) fn run_over<R: Source, V: Source, W: Sink>(
     alloc: Global,
     font: &mut R,
     waivers: &mut V,
-    options: &Options,
+    options: &CheckOptions,
     output: &mut W,
 ) -> (Status, Vec<u8>)
     requires { (R.state font.old).failed ≡ false }
@@ -65,7 +65,7 @@ pub(crate) fn answer_over<R: Source, V: Source>(
     alloc: Global,
     font: &mut R,
     waivers: &mut V,
-    options: &Options,
+    options: &CheckOptions,
 ) -> Answer
     requires { (R.state font.old).failed ≡ false }
 {

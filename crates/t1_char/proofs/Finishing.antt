@@ -1,4 +1,5 @@
 -- A glyph has a last step, and that finishes it.
+-- A run that finished ends with the step that finished it, and each charstring's last token is its end, which finishes where no Subr is executed.
 use Rattle.std.proofs.Common.{◌≡◌, ℕ, zero, suc, nat_lt, Bool, true, false, cond, Option, Some, None, List, [], ◌∷◌, ◌++◌, length, drop, arith, refl, sym, ap, ◌∙◌}
 use Rattle.std.proofs.lemmas.Bool.Decides.{nat_tests}
 use Rattle.t1_seal.specs.Cipher.{charstring_start, decrypted}

@@ -1,4 +1,5 @@
 -- What a call of a machine returns, over its count and the steps of its glyph.
+-- From its frames a machine still executes what is behind as many steps of the glyph as it counts, so the step in hand is the next of these.
 use Rattle.std.proofs.Common.{◌≡◌, ℕ, zero, suc, ◌+◌, ◌-◌, ◌<◌, ◌≤◌, Bool, true, false, cond, nat_lt, None, Some, List, [], ◌∷◌, ◌++◌, length, take, drop, slice_get, length-take, refl, ap, sym, subst, ◌∙◌, lt-ltb, le-ltb, arith}
 use Rattle.t1_font.specs.Fonts.{FontValue}
 use Rattle.t1_char.specs.declared.frames.Frames.{Frames}

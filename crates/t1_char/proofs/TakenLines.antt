@@ -1,4 +1,5 @@
 -- Numbers, and lines or moves, that are taken one after another.
+-- A line or a move leaves the stack empty, so each begins as the first did; what was taken is one row, and a piece more makes it longer.
 use Rattle.std.proofs.Common.{◌≡◌, inl, inr, ℕ, zero, suc, ℤ, ◌+◌, ◌-◌, ◌<◌, ◌≤◌, ◌||◌, true, false, Option, Some, None, IfSome, if◌then◌else◌, List, [], ◌∷◌, length, take, length-take, refl, sym, ap, subst, ◌∙◌, arith}
 use Rattle.std.proofs.lemmas.Bool.{or_cases}
 use Rattle.std.proofs.lemmas.Int.{ints}
@@ -7,8 +8,8 @@ use Rattle.t1_char.specs.declared.command.Command.{Command as Commands}
 use Rattle.t1_char.specs.declared.command.Command.TheVariants.{Rlineto, Hlineto, Vlineto, Rrcurveto, Vhcurveto, Hvcurveto, Closepath, Rmoveto, Hmoveto, Vmoveto}
 use Rattle.t1_char.specs.declared.cursor.Cursor.{Cursor}
 use Rattle.t1_char.specs.declared.cursor.Ahead.{Ahead}
-use Rattle.t1_char.specs.declared.lines.Drawn.{Drawn}
-use Rattle.t1_char.specs.declared.lines.Drawn.TheVariants.{Nothing, Open, Closed}
+use Rattle.t1_char.specs.declared.lines.DrawnPath.{DrawnPath}
+use Rattle.t1_char.specs.declared.lines.DrawnPath.TheVariants.{Nothing, Open, Closed}
 use Rattle.t1_char.specs.declared.token.CharToken.{CharToken}
 use Rattle.t1_char.specs.declared.lines.Passing.{Passing}
 use Rattle.t1_char.specs.declared.lines.Passing.TheVariants as passing
@@ -101,7 +102,7 @@ led_effect passing.Returned command is old = let no : false ≡ true = is in cc
 led_effect passing.Numbers command is old = let no : false ≡ true = is in cc
 
 -- It closes no path.
-not_closed : (command : Commands) (v : List ℤ) (drawn : Drawn) → is_closed drawn ≡ false → is_closed (drawn_after drawn (way_by command v).drawn) ≡ false
+not_closed : (command : Commands) (v : List ℤ) (drawn : DrawnPath) → is_closed drawn ≡ false → is_closed (drawn_after drawn (way_by command v).drawn) ≡ false
 not_closed Rlineto v drawn unclosed = refl
 not_closed Hlineto v drawn unclosed = refl
 not_closed Vlineto v drawn unclosed = refl
@@ -120,12 +121,12 @@ line_led passing.Moves on command is = ap (λ b. b || is_move_command command) i
 line_led passing.Returned on command is = let no : false ≡ true = on in cc
 line_led passing.Numbers on command is = let no : false ≡ true = on in cc
 
-line_follows : (command : Commands) (drawn : Drawn) → is_line_command command ≡ true → is_closed drawn ≡ false → can_follow command drawn ≡ true
+line_follows : (command : Commands) (drawn : DrawnPath) → is_line_command command ≡ true → is_closed drawn ≡ false → can_follow command drawn ≡ true
 line_follows command Nothing is unclosed = refl
 line_follows command Open is unclosed = is
 line_follows command Closed is unclosed = let no : true ≡ false = unclosed in cc
 
-line_after : (what : Passing) (drawn : Drawn) (token : CharToken) (numbers : List ℤ) (way : Way) → leads what ≡ true → is_closed drawn ≡ false
+line_after : (what : Passing) (drawn : DrawnPath) (token : CharToken) (numbers : List ℤ) (way : Way) → leads what ≡ true → is_closed drawn ≡ false
     → IsLedBy is_line_command token numbers way → IsLedAfter what drawn token numbers way
 line_after what drawn token numbers way on unclosed line = record {
   by = record {
@@ -137,14 +138,14 @@ line_after what drawn token numbers way on unclosed line = record {
   from = line_follows line.command drawn line.is.led unclosed;
 }
 
-pub line_first : (what : Passing) (drawn : Drawn) (first : ℕ) (numbers : List ℤ) (one : Option Way) → leads what ≡ true → is_closed drawn ≡ false
+pub line_first : (what : Passing) (drawn : DrawnPath) (first : ℕ) (numbers : List ℤ) (one : Option Way) → leads what ≡ true → is_closed drawn ≡ false
     → IfSome one (λ way. (rest : List ℕ) → IsLedBy is_line_command (token_at first rest) numbers way) → IfSome one (λ way. more_of first ≡ 0)
     → IfSome one (λ way. IsLedFirst what drawn (Some first) numbers way)
 line_first what drawn first numbers None on unclosed line more = tt
 line_first what drawn first numbers (Some way) on unclosed line more =
     (λ rest. line_after what drawn (token_at first rest) numbers way on unclosed (line rest), more)
 
-pub move_after : (what : Passing) (drawn : Drawn) (token : CharToken) (numbers : List ℤ) (way : Way) → what ≡ passing.Moves → drawn ≡ Nothing
+pub move_after : (what : Passing) (drawn : DrawnPath) (token : CharToken) (numbers : List ℤ) (way : Way) → what ≡ passing.Moves → drawn ≡ Nothing
     → IsLedBy is_move_command token numbers way → IsLedAfter what drawn token numbers way
 move_after what drawn token numbers way on none move =
     subst (λ w. IsLedAfter w drawn token numbers way) (sym on)

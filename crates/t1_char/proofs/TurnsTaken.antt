@@ -1,4 +1,5 @@
 -- What the results of a machine say of the steps up to the limit.
+-- A result's form says how far the count is: at a step of the list, just past the limit, or past the last step.
 use Rattle.std.proofs.Common.{◌≡◌, ℕ, zero, suc, ◌+◌, ◌-◌, ◌<◌, ◌≤◌, Bool, true, false, true≢false, cond, nat_lt, Option, None, Some, is_some, List, [], ◌∷◌, ◌++◌, length, take, slice_get, length-take, refl, ap, sym, ◌∙◌, lt-ltb, le-ltb, arith}
 use Rattle.std.proofs.lemmas.Bool.{ltb-true, ltb-false}
 use Rattle.std.proofs.lemmas.List.{take_all, take_more, get_or-take}

@@ -4,8 +4,8 @@ use Rattle.std.specs.Prelude.{◌≡◌, ◌⊎◌, ℕ, zero, suc, ℤ, pos, �
 use Rattle.std.specs.List.{list_any}
 use Rattle.t1_char.specs.declared.command.Command.{Command as Commands}
 use Rattle.t1_char.specs.declared.command.Command.TheVariants.{Rlineto, Hlineto, Vlineto, Rrcurveto, Vhcurveto, Hvcurveto, Closepath, Rmoveto, Hmoveto, Vmoveto}
-use Rattle.t1_char.specs.declared.lines.Drawn.{Drawn}
-use Rattle.t1_char.specs.declared.lines.Drawn.TheVariants.{Nothing, Open, Closed}
+use Rattle.t1_char.specs.declared.lines.DrawnPath.{DrawnPath}
+use Rattle.t1_char.specs.declared.lines.DrawnPath.TheVariants.{Nothing, Open, Closed}
 use Rattle.t1_char.specs.declared.lines.Way.{Way}
 use Rattle.t1_char.specs.declared.lines.Passing.{Passing}
 use Rattle.t1_char.specs.declared.lines.Passing.TheVariants as passing
@@ -58,7 +58,7 @@ move_to x y = record { x = x; y = y; moves = 1; drawn = Nothing }
 abbrev pub no_way : Way
 no_way = record { x = pos 0; y = pos 0; moves = 0; drawn = Nothing }
 
-abbrev pub drawn_after : Drawn → Drawn → Drawn
+abbrev pub drawn_after : DrawnPath → DrawnPath → DrawnPath
 drawn_after before Nothing = before
 drawn_after before after = after
 
@@ -69,12 +69,12 @@ further one other =
 abbrev pub closed : Way → Way
 closed way = record way { drawn = Closed }
 
-abbrev pub is_closed : Drawn → Bool
+abbrev pub is_closed : DrawnPath → Bool
 is_closed Closed = true
 is_closed _ = false
 
 -- Whether a command can be passed after what was drawn: a move where nothing was, a line where the path isn't closed.
-abbrev pub can_follow : Commands → Drawn → Bool
+abbrev pub can_follow : Commands → DrawnPath → Bool
 can_follow command Nothing = true
 can_follow command Open = is_line_command command
 can_follow command Closed = false

@@ -63,7 +63,7 @@ pub use laws::{
     short_and_cut_charstrings_are_returned, stacks_are_taken_from_the_top, steps_are_looked_back_on,
     steps_follow_the_tokens, steps_go_on, steps_tell_calls_and_ends, written_charstrings_are_read,
 };
-pub use lines::{Drawn, Passing, Way};
+pub use lines::{DrawnPath, Passing, Way};
 pub use machine::{Answer, Far, Machine, Numbers, Turn};
 pub use numbers::{GREATEST, UNIT, cut_quotient, natural};
 pub use seacs::{steps_lack_seac, subrs_lack_seac};

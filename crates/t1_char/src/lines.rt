@@ -2,7 +2,7 @@
 
 ghost use Rattle.std.specs.Prelude.{◌≡◌, ◌+ℤ◌, ◌+◌, ◌<◌, ◌≤◌, ℕ, List, false, true, IfSome};
 ghost use Rattle.std.specs.List.{list_any};
-ghost use Rattle.t1_char.specs.declared.lines.Drawn.TheVariants.{Nothing, Open};
+ghost use Rattle.t1_char.specs.declared.lines.DrawnPath.TheVariants.{Nothing, Open};
 ghost use Rattle.t1_char.specs.declared.lines.Passing.TheVariants.{Returned, Moves};
 ghost use Rattle.t1_char.specs.Arguments.{argument};
 ghost use Rattle.t1_char.specs.Tokens.{more_of, token_at};
@@ -51,7 +51,7 @@ pub(crate) fn is_any(passing: Passing) -> bool
 
 /// What steps draw of a path.
 #[derive(Clone, Copy, Debug, PartialEq, Eq)]
-pub enum Drawn {
+pub enum DrawnPath {
     Nothing,
     /// Lines and curves.
     Open,
@@ -66,17 +66,17 @@ pub struct Way {
     pub y: i64,
     /// How many moves there are.
     pub moves: u32,
-    pub drawn: Drawn,
+    pub drawn: DrawnPath,
 }
 
-impl Drawn {
+impl DrawnPath {
     /// What is drawn with this after it.
     #[inline(always)]
-    fn further(self, other: Drawn) -> Drawn
+    fn further(self, other: DrawnPath) -> DrawnPath
         ensures { result ≡ drawn_after self other }
     {
         match other {
-            Drawn::Nothing => self,
+            DrawnPath::Nothing => self,
             _ => other,
         }
     }
@@ -88,7 +88,7 @@ impl Way {
         x: 0,
         y: 0,
         moves: 0,
-        drawn: Drawn::Nothing,
+        drawn: DrawnPath::Nothing,
     };
 
     /// Returns this way with that of one more command after it.
@@ -116,7 +116,7 @@ impl Way {
     pub(crate) fn is_open(self) -> bool
         ensures { result ≡ true → self.drawn ≡ Open }
     {
-        matches!(self.drawn, Drawn::Open)
+        matches!(self.drawn, DrawnPath::Open)
     }
 
     /// Whether nothing was drawn.
@@ -124,7 +124,7 @@ impl Way {
     pub(crate) fn is_undrawn(self) -> bool
         ensures { result ≡ true → self.drawn ≡ Nothing }
     {
-        matches!(self.drawn, Drawn::Nothing)
+        matches!(self.drawn, DrawnPath::Nothing)
     }
 
     /// Returns this way with a closepath after it.
@@ -136,7 +136,7 @@ impl Way {
             x: self.x,
             y: self.y,
             moves: self.moves,
-            drawn: Drawn::Closed,
+            drawn: DrawnPath::Closed,
         }
     }
 }
@@ -244,7 +244,7 @@ fn move_to(x: i64, y: i64) -> Way
         x,
         y,
         moves: 1,
-        drawn: Drawn::Nothing,
+        drawn: DrawnPath::Nothing,
     }
 }
 
@@ -259,7 +259,7 @@ fn way_at(x: i64, y: i64) -> Way
         x,
         y,
         moves: 0,
-        drawn: Drawn::Open,
+        drawn: DrawnPath::Open,
     }
 }
 

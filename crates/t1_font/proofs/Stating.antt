@@ -1,4 +1,5 @@
 -- One statement more, and the value of all.
+-- Each kind of statement changes its own part of the value, as an entry put at the end of the list that the part is looked up in.
 use Rattle.std.proofs.Common.{◌≡◌, ◌+◌, ℕ, Bool, true, false, cond, ◌||◌, Some, None, List, [], ◌∷◌, ◌++◌, map, refl, ap, sym, ◌∙◌, arith, nat_eq, nat_lt, count_by, set, inl, inr, flat_map, append_assoc}
 use Rattle.std.specs.Option.{option_or, unwrap_or}
 use Rattle.std.proofs.Math.Bool.{or-false}

@@ -1,4 +1,5 @@
 -- What was found in fonts, by their names, and what is left of them.
+-- Each font's rows leave the list when they are taken, so what is left after some fonts is what these don't have.
 use Rattle.std.proofs.Common.{◌≡◌, ◌<◌, ◌+◌, ◌&&◌, ◌||◌, ℕ, Bool, true, false, true≢false, List, [], ◌∷◌, ◌++◌, length, take, get_or, Option, None, Some, cond, is_some, option_map, string_bytes, inl, inr, refl, sym, ap, ap₂, subst, ◌∙◌}
 use Rattle.std.proofs.lemmas.Bool.{cases_Bool}
 use Rattle.std.proofs.lemmas.List.{take_more}

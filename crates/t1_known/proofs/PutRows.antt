@@ -1,4 +1,5 @@
 -- Rows that are written anew, one after another.
+-- What was written so far and what is left to write make one text at each row; at the end nothing is left.
 use Rattle.std.proofs.Common.{◌≡◌, ◌<◌, ◌+◌, ◌&&◌, ℕ, suc, Bool, true, false, List, [], ◌∷◌, ◌++◌, length, drop, get_or, Option, None, Some, cond, is_some, inl, inr, refl, sym, ap, ap₂, subst, ◌∙◌, arith, append-nil, map, string_bytes, Result, Ok, Err}
 use Rattle.std.specs.Result.{IsErrAnd}
 use Rattle.std.proofs.Math.Seq.{drop-cons}

@@ -128,7 +128,7 @@ module _ {F : Type 0} (takes : F → F → Handed → Option Lost → Type 0) (r
       (waivers : List Waiver) (faults : List FaultValue) (taken result : Result FontClass Lost)
       → HandsFont (recipient_by takes a b) judges (entry font waivers faults) taken
       → IsReading name font.value waivers (told_faults rules faults) reading → Keeps old new reading taken result
-      → TakesOutcome (record { form = recipient_by takes a b; old = old; new = new }) judges rules name
+      → TakesOutcome (record { printer = recipient_by takes a b; old = old; new = new }) judges rules name
       (reported (record { font = font.value; edition = font.edition; waivers = waivers; faults = faults })) result
   kept judges a b old new reading font waivers faults (Ok found) (Ok other) hands is (same, keeps) = (
     subst (λ (f : FontClass). HandsFont (recipient_by takes a b) judges (entry font waivers faults) (Ok f)) (sym same) hands,
@@ -152,7 +152,7 @@ module _ {F : Type 0} (takes : F → F → Handed → Option Lost → Type 0) (r
       name font waivers taken
       → (old new : List Reading) (result : Result FontClass Lost) → Keeps old new reading taken result
       → (faults : List FaultValue) × IsReport font waivers faults
-      × TakesOutcome (record { form = recipient_by takes a b; old = old; new = new }) (as_known rules) rules name
+      × TakesOutcome (record { printer = recipient_by takes a b; old = old; new = new }) (as_known rules) rules name
       (reported (record { font = font.value; edition = font.edition; waivers = waivers; faults = faults })) result
   report_anew no_other font waivers found (counted, is, there, are) reading is_reading a b taken (faults, report, handed, found_is) old new result
       keeps =
@@ -173,7 +173,7 @@ module _ {F : Type 0} (takes : F → F → Handed → Option Lost → Type 0) (r
       taken
       → (old new : List Reading) (result : Result FontClass Lost) → Keeps old new reading taken result
       → (faults : List FaultValue) × IsReport font waivers faults
-      × TakesOutcome (record { form = recipient_by takes a b; old = old; new = new }) (by_known counts rules name) rules name
+      × TakesOutcome (record { printer = recipient_by takes a b; old = old; new = new }) (by_known counts rules name) rules name
       (reported (record { font = font.value; edition = font.edition; waivers = waivers; faults = faults })) result
   report_kept no_other font waivers read found known (counted, is, there, are) are_known reading is_reading a b taken
       (faults, report, handed, found_is) old new result keeps =

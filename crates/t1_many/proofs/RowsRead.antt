@@ -1,4 +1,5 @@
 -- A line is read as a row exactly where it is one.
+-- A row's words have no blank, so its first blanks cut it where it was joined.
 use Rattle.std.proofs.Common.{◌≡◌, ◌-◌, ◌==◌, ℕ, true, false, List, [], ◌∷◌, ◌++◌, codes, length, take, Option, None, Some, option_map, inl, inr, refl, sym, ap, subst, ◌∙◌, arith, append_assoc, length-append}
 use Rattle.std.proofs.lemmas.Bool.{cases_Bool}
 use Rattle.std.proofs.lemmas.Bool.Decides.{nat_tests}

@@ -71,28 +71,28 @@ found_of judges (failed reason) = found_of_error reason
 
 -- All of a font was handed on, and it was found so; or it stopped there.
 abbrev pub HandsFont : Recipient Handed (Option Lost) → (Report → FaultValue → Verdict) → Entry → Result FontClass Lost → Type 0
-HandsFont form judges entry taken =
-    HandsOn form.takes form.old form.new (handed_of judges entry.name entry.outcome) (lost_of taken)
+HandsFont printer judges entry taken =
+    HandsOn printer.takes printer.old printer.new (handed_of judges entry.name entry.outcome) (lost_of taken)
     × IfOk taken (λ found. found ≡ found_of judges entry.outcome)
 
 -- The lines of a report that aren't omitted were handed on, and then how the font was found; or it stopped there.
 abbrev pub HandsReport : Recipient Handed (Option Lost) → (FaultValue → Verdict) → List ℕ → CheckedFont → List Waiver → Result FontClass Lost
     → Type 0
-HandsReport form judges name font waivers taken =
+HandsReport printer judges name font waivers taken =
     (faults : List FaultValue) × IsReport font waivers faults
-    × HandsOn form.takes form.old form.new (lines_by judges name font waivers faults ++ done name (found_by judges faults) ∷ []) (lost_of taken)
+    × HandsOn printer.takes printer.old printer.new (lines_by judges name font waivers faults ++ done name (found_by judges faults) ∷ []) (lost_of taken)
     × IfOk taken (λ found. found ≡ found_by judges faults)
 
 -- Why there is no report was handed on, and then how the font was found; or it stopped there.
 abbrev pub HandsFailure : Recipient Handed (Option Lost) → List ℕ → FontError → Result FontClass Lost → Type 0
-HandsFailure form name reason taken =
-    HandsOn form.takes form.old form.new (failure name reason ∷ done name (found_of_error reason) ∷ []) (lost_of taken)
+HandsFailure printer name reason taken =
+    HandsOn printer.takes printer.old printer.new (failure name reason ∷ done name (found_of_error reason) ∷ []) (lost_of taken)
     × IfOk taken (λ found. found ≡ found_of_error reason)
 
 -- ---- fonts of which something is kept
 
--- A form, to which what is reported of fonts is handed on; and what is kept of them, before and after.
+-- A printer, to which what is reported of fonts is handed on; and what is kept of them, before and after.
 pub record Keeping (Kept : Type 0) : Type 1 where
-  pub form : Recipient Handed (Option Lost)
+  pub printer : Recipient Handed (Option Lost)
   pub old : List Kept
   pub new : List Kept

@@ -51,15 +51,15 @@ Keeps old new reading (Err before) (Err lost) = (lost ≡ before) × (new ≡ ol
 -- A font is taken: what is reported of it is handed on, and what was found in it is kept where its report was made.
 abbrev pub TakesOutcome : Keeping Reading → (Report → FaultValue → Verdict) → Mask → List ℕ → Outcome → Result FontClass Lost → Type 0
 TakesOutcome keeping judges rules name (reported report) (Ok found) =
-    HandsFont keeping.form judges (record { name = name; outcome = reported report }) (Ok found)
+    HandsFont keeping.printer judges (record { name = name; outcome = reported report }) (Ok found)
     × (reading : Reading) × IsReading name report.font report.waivers (told_faults rules report.faults) reading
     × (keeping.new ≡ keeping.old ++ reading ∷ [])
 TakesOutcome keeping judges rules name (reported report) (Err lost) =
-    (HandsFont keeping.form judges (record { name = name; outcome = reported report }) (Err lost)
-    ⊎ ((lost ≡ Memory) × HandsOn keeping.form.takes keeping.form.old keeping.form.new (handed_of judges name (reported report)) None))
+    (HandsFont keeping.printer judges (record { name = name; outcome = reported report }) (Err lost)
+    ⊎ ((lost ≡ Memory) × HandsOn keeping.printer.takes keeping.printer.old keeping.printer.new (handed_of judges name (reported report)) None))
     × (keeping.new ≡ keeping.old)
 TakesOutcome keeping judges rules name (failed reason) taken =
-    HandsFont keeping.form judges (record { name = name; outcome = failed reason }) taken × (keeping.new ≡ keeping.old)
+    HandsFont keeping.printer judges (record { name = name; outcome = failed reason }) taken × (keeping.new ≡ keeping.old)
 
 abbrev pub TakesKnown : Keeping Reading → (Report → FaultValue → Verdict) → Mask → Entry → Result FontClass Lost → Type 0
 TakesKnown keeping judges rules entry taken = TakesOutcome keeping judges rules entry.name entry.outcome taken

@@ -21,13 +21,13 @@ abbrev pub founds_of : (List ℕ → Report → FaultValue → Verdict) → List
 founds_of judges entries = map (λ entry. found_of (judges entry.name) entry.outcome) entries
 
 -- All of all fonts was handed on, and the status is the greatest of theirs; or it stopped at one of them.
-pub data TellsAll (form : Recipient Handed (Option Lost)) (judges : List ℕ → Report → FaultValue → Verdict) (files : Files) (edition : Edition)
+pub data TellsAll (printer : Recipient Handed (Option Lost)) (judges : List ℕ → Report → FaultValue → Verdict) (files : Files) (edition : Edition)
     (names : List (List ℕ)) (result : Result Status Lost) : Type 0 where
   whole :
       (entries : List Entry) → AreEntries files edition names entries
-      → HandsOn form.takes form.old form.new (all_handed judges entries) None
-      → result ≡ Ok (status_of_all (founds_of judges entries)) → TellsAll form judges files edition names result
+      → HandsOn printer.takes printer.old printer.new (all_handed judges entries) None
+      → result ≡ Ok (status_of_all (founds_of judges entries)) → TellsAll printer judges files edition names result
   cut_short :
       (count : ℕ) → (entries : List Entry) → AreEntries files edition (take count names) entries → (lost : Lost)
-      → HandsOn form.takes form.old form.new (all_handed judges entries) (Some lost) → result ≡ Err lost
-      → TellsAll form judges files edition names result
+      → HandsOn printer.takes printer.old printer.new (all_handed judges entries) (Some lost) → result ≡ Err lost
+      → TellsAll printer judges files edition names result

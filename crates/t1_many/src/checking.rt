@@ -22,7 +22,7 @@ use t1_io::In;
 use t1_names::Cause;
 use t1_run::{Failure, Status};
 
-/// Checks the fonts of these names in order, with their waivers where these are read and a font has some. The recipient takes how each check
+/// Checks the fonts of these names in order, with their waivers where these are read and a font has some. The policy takes how each check
 /// ended. A font that can't be read stops no other one. The status is the greatest of the fonts'.
 pub fn check_all<F: FontFiles, T: Policy>(
     alloc: Global,
@@ -30,14 +30,14 @@ pub fn check_all<F: FontFiles, T: Policy>(
     beside: WaiverFiles,
     files: &mut F,
     edition: Edition,
-    recipient: &mut T,
+    policy: &mut T,
 ) -> Result<Status, Lost>
-    ensures { Ends (recipient_by T.takes recipient.old recipient.new) (files_by F.calls beside files.old files.new) edition
+    ensures { Ends (recipient_by T.takes policy.old policy.new) (files_by F.calls beside files.old files.new) edition
         (map string_bytes names.now) result }
 {
     let mut worst = Status::Clean;
     for name in names {
-        let found = check_one(alloc, name.as_str(), beside, files, edition, recipient)?;
+        let found = check_one(alloc, name.as_str(), beside, files, edition, policy)?;
         worst = worse(worst, status_of(found));
     }
     Ok(worst)
@@ -50,14 +50,14 @@ fn check_one<F: FontFiles, T: Policy>(
     beside: WaiverFiles,
     files: &mut F,
     edition: Edition,
-    recipient: &mut T,
+    policy: &mut T,
 ) -> Taken
-    ensures { TakesOne (recipient_by T.takes recipient.old recipient.new) (files_by F.calls beside files.old files.new) edition name.now
+    ensures { TakesOne (recipient_by T.takes policy.old policy.new) (files_by F.calls beside files.old files.new) edition name.now
         result }
 {
-    match check_named(alloc, name, beside, files, edition, recipient) {
+    match check_named(alloc, name, beside, files, edition, policy) {
         Ok(taken) => taken,
-        Err(error) => recipient.failure(name, error),
+        Err(error) => policy.failure(name, error),
     }
 }
 
@@ -68,9 +68,9 @@ fn check_named<F: FontFiles, T: Policy>(
     beside: WaiverFiles,
     files: &mut F,
     edition: Edition,
-    recipient: &mut T,
+    policy: &mut T,
 ) -> Result<Taken, FontError>
-    ensures { ChecksNamed (recipient_by T.takes recipient.old recipient.new) (files_by F.calls beside files.old files.new) edition
+    ensures { ChecksNamed (recipient_by T.takes policy.old policy.new) (files_by F.calls beside files.old files.new) edition
         name.now result }
 {
     if has_line_end(name) {
@@ -83,7 +83,7 @@ fn check_named<F: FontFiles, T: Policy>(
     match open_asked(name, beside.asks(name), files) {
         None => {
             let mut none = In::new(io::empty());
-            let taken = check_opened(alloc, name, &mut font, &mut none, false, edition, recipient);
+            let taken = check_opened(alloc, name, &mut font, &mut none, false, edition, policy);
             files.leave_font(name, font);
             or_error(taken)
         }
@@ -95,7 +95,7 @@ fn check_named<F: FontFiles, T: Policy>(
                 &mut waivers,
                 true,
                 edition,
-                recipient,
+                policy,
             );
             files.leave_font(name, font);
             files.leave_waivers(name, waivers);

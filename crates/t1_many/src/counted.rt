@@ -17,14 +17,14 @@ use t1_summary::{FontClass, Tally};
 pub struct Counted<F: Printer> {
     /// What was counted.
     pub tally: Tally,
-    /// The form that takes what is handed on.
-    pub form: F,
+    /// The printer that takes what is handed on.
+    pub printer: F,
 }
 
 impl<F: Printer> Printer for Counted<F> {
     ghost use Rattle.t1_many.specs.declared.policy.Lost.{Lost};
 
-    ghost takes = { λ old new handed lost. F.takes old.form new.form handed lost × Counts old.tally new.tally handed lost };
+    ghost takes = { λ old new handed lost. F.takes old.printer new.printer handed lost × Counts old.tally new.tally handed lost };
 
     fn line(
         &mut self,
@@ -34,17 +34,17 @@ impl<F: Printer> Printer for Counted<F> {
         fault: &Fault,
         reasons: &mut ReportReasons<'_>,
     ) -> Result<(), Lost> {
-        self.form.line(name, font, waivers, fault, reasons)?;
+        self.printer.line(name, font, waivers, fault, reasons)?;
         self.tally.add_line(fault.rule);
         Ok(())
     }
 
     fn failure(&mut self, name: &str, reason: FontError) -> Result<(), Lost> {
-        self.form.failure(name, reason)
+        self.printer.failure(name, reason)
     }
 
     fn done(&mut self, name: &str, found: FontClass) -> Result<(), Lost> {
-        self.form.done(name, found)?;
+        self.printer.done(name, found)?;
         self.tally.add(found);
         Ok(())
     }

@@ -25,7 +25,7 @@ use t1_summary::FontClass;
 
 /// Hands on the lines of a font's report that aren't omitted, and then how the font was found.
 pub fn hand_report<'a, F: Printer, J: Judge>(
-    form: &mut F,
+    printer: &mut F,
     name: &str,
     font: &'a Font<'a>,
     sidebearings: &'a Sidebearings,
@@ -35,17 +35,17 @@ pub fn hand_report<'a, F: Printer, J: Judge>(
     requires few { length font.now.glyphs ≤ most_glyphs }
     requires few_waivers { length waivers.now ≤ largest_waivers }
     requires sidebearings { AreOf font.now sidebearings.now }
-    ensures { HandsReport (recipient_by F.takes form.old form.new) (J.judges judge.now font.now waivers.now) name.now
+    ensures { HandsReport (recipient_by F.takes printer.old printer.new) (J.judges judge.now font.now waivers.now) name.now
         (checked font.now sidebearings.now.edition) waivers.now result }
 {
-    let found = hand_lines(form, name, font, sidebearings, waivers, judge)?;
-    form.done(name, found)?;
+    let found = hand_lines(printer, name, font, sidebearings, waivers, judge)?;
+    printer.done(name, found)?;
     Ok(found)
 }
 
 /// Hands on the lines of a font's report that aren't omitted.
 fn hand_lines<'a, F: Printer, J: Judge>(
-    form: &mut F,
+    printer: &mut F,
     name: &str,
     font: &'a Font<'a>,
     sidebearings: &'a Sidebearings,
@@ -55,7 +55,7 @@ fn hand_lines<'a, F: Printer, J: Judge>(
     requires few { length font.now.glyphs ≤ most_glyphs }
     requires few_waivers { length waivers.now ≤ largest_waivers }
     requires sidebearings { AreOf font.now sidebearings.now }
-    ensures { HandsLines (recipient_by F.takes form.old form.new) (J.judges judge.now font.now waivers.now) name.now
+    ensures { HandsLines (recipient_by F.takes printer.old printer.new) (J.judges judge.now font.now waivers.now) name.now
         (checked font.now sidebearings.now.edition) waivers.now result }
 {
     // The calls of laws do nothing: the proof cites what they ensure.
@@ -71,7 +71,7 @@ fn hand_lines<'a, F: Printer, J: Judge>(
         };
         let verdict = judge.judge(font, waivers, &fault);
         if verdict.is_told() {
-            form.line(name, font, waivers, &fault, &mut reasons)?;
+            printer.line(name, font, waivers, &fault, &mut reasons)?;
         }
         found = verdict.found_with(found);
     }
@@ -79,11 +79,11 @@ fn hand_lines<'a, F: Printer, J: Judge>(
 }
 
 /// Hands on why there is no report of a font.
-pub fn hand_failure<F: Printer>(form: &mut F, name: &str, reason: FontError) -> Taken
-    ensures { HandsFailure (recipient_by F.takes form.old form.new) name.now reason result }
+pub fn hand_failure<F: Printer>(printer: &mut F, name: &str, reason: FontError) -> Taken
+    ensures { HandsFailure (recipient_by F.takes printer.old printer.new) name.now reason result }
 {
-    form.failure(name, reason)?;
+    printer.failure(name, reason)?;
     let found = found_of(reason);
-    form.done(name, found)?;
+    printer.done(name, found)?;
     Ok(found)
 }

@@ -27,16 +27,16 @@ pub(crate) fn check_opened<R: Source, V: Source, T: Policy>(
     waivers: &mut V,
     has_waivers: bool,
     edition: Edition,
-    recipient: &mut T,
+    policy: &mut T,
 ) -> Result<Taken, Failure>
     requires { (R.state source.old).failed ≡ false }
-    ensures checks { Checks (recipient_by T.takes recipient.old recipient.new) edition name.now
+    ensures checks { Checks (recipient_by T.takes policy.old policy.new) edition name.now
         (given_by edition (R.state source.old) (R.state source.new) has_waivers (V.state waivers.old) (V.state waivers.new)) result }
     ensures font { ReadsAtMost (largest_file + 1) (R.state source.old) (R.state source.new) }
     ensures waivers { ReadsAtMost (largest_waivers + 1) (V.state waivers.old) (V.state waivers.new) }
 {
     let bytes = read_font_file(alloc, source)?;
-    check_bytes(alloc, name, bytes, waivers, has_waivers, edition, recipient)
+    check_bytes(alloc, name, bytes, waivers, has_waivers, edition, policy)
 }
 
 /// Checks a font of these bytes, which are held no longer than until their segments are joined.
@@ -47,16 +47,16 @@ fn check_bytes<V: Source, T: Policy>(
     waivers: &mut V,
     has_waivers: bool,
     edition: Edition,
-    recipient: &mut T,
+    policy: &mut T,
 ) -> Result<Taken, Failure>
-    ensures checks { Checks (recipient_by T.takes recipient.old recipient.new) edition name.now
+    ensures checks { Checks (recipient_by T.takes policy.old policy.new) edition name.now
         (of_bytes edition bytes.items has_waivers (V.state waivers.old) (V.state waivers.new)) result }
     ensures waivers { ReadsAtMost (largest_waivers + 1) (V.state waivers.old) (V.state waivers.new) }
 {
     let mut file = OpenFont::open(alloc, bytes.as_slice())?;
     drop(bytes);
     let font = file.font(alloc)?;
-    let taken = check_font(alloc, name, &font, waivers, has_waivers, edition, recipient);
+    let taken = check_font(alloc, name, &font, waivers, has_waivers, edition, policy);
     font.let_go();
     taken
 }
@@ -69,16 +69,16 @@ fn check_font<V: Source, T: Policy>(
     waivers: &mut V,
     has_waivers: bool,
     edition: Edition,
-    recipient: &mut T,
+    policy: &mut T,
 ) -> Result<Taken, Failure>
     requires few { length font.now.glyphs ≤ most_glyphs }
     requires read { IsFont font.now }
-    ensures checks { Checks (recipient_by T.takes recipient.old recipient.new) edition name.now
+    ensures checks { Checks (recipient_by T.takes policy.old policy.new) edition name.now
         (of_font edition font.now has_waivers (V.state waivers.old) (V.state waivers.new)) result }
     ensures waivers { ReadsAtMost (largest_waivers + 1) (V.state waivers.old) (V.state waivers.new) }
 {
     let text = read_waivers(alloc, waivers, has_waivers)?;
-    check_waived(alloc, name, font, text.as_slice(), edition, recipient)
+    check_waived(alloc, name, font, text.as_slice(), edition, policy)
 }
 
 /// Checks it with the waivers of a text.
@@ -88,15 +88,15 @@ fn check_waived<T: Policy>(
     font: &Font<'_>,
     text: &[u8],
     edition: Edition,
-    recipient: &mut T,
+    policy: &mut T,
 ) -> Result<Taken, Failure>
     requires few { length font.now.glyphs ≤ most_glyphs }
     requires read { IsFont font.now }
     requires text { length text.now ≤ largest_waivers }
-    ensures { Checks (recipient_by T.takes recipient.old recipient.new) edition name.now (of_text edition font.now text.now) result }
+    ensures { Checks (recipient_by T.takes policy.old policy.new) edition name.now (of_text edition font.now text.now) result }
 {
     let waivers = Waivers::read(alloc, text, edition)?;
     let sidebearings = Sidebearings::prepare(alloc, font, edition)?;
-    let taken = recipient.report(alloc, name, font, &sidebearings, &waivers)?;
+    let taken = policy.report(alloc, name, font, &sidebearings, &waivers)?;
     Ok(taken)
 }

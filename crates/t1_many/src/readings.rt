@@ -39,15 +39,15 @@ pub struct ReportNew<K: Known + Drop, F: Printer + Drop> {
     pub rules: Mask,
     /// What is known.
     pub known: K,
-    /// The form that takes the lines.
-    pub form: F,
+    /// The printer that takes the lines.
+    pub printer: F,
     /// The fonts whose reports were made, in order.
     pub readings: Vec<Reading>,
 }
 
 impl<K: Known + Drop, F: Printer + Drop> Policy for ReportNew<K, F> {
     ghost takes = { λ old new entry taken. (new.rules ≡ old.rules) × (new.known ≡ old.known)
-        × TakesKnown (record { form = recipient_by F.takes old.form new.form; old = old.readings.items; new = new.readings.items })
+        × TakesKnown (record { printer = recipient_by F.takes old.printer new.printer; old = old.readings.items; new = new.readings.items })
         (by_known (K.counts old.known) old.rules entry.name) old.rules entry taken };
 
     fn report<'a>(
@@ -67,12 +67,12 @@ impl<K: Known + Drop, F: Printer + Drop> Policy for ReportNew<K, F> {
             known: &both.known,
             found: &found,
         };
-        let taken = hand_report(&mut self.form, name, font, sidebearings, waivers, &judge);
+        let taken = hand_report(&mut self.printer, name, font, sidebearings, waivers, &judge);
         Ok(keep(&mut self.readings, both.reading, taken))
     }
 
     fn failure(&mut self, name: &str, error: FontError) -> Taken {
-        hand_failure(&mut self.form, name, error)
+        hand_failure(&mut self.printer, name, error)
     }
 }
 
@@ -81,15 +81,15 @@ impl<K: Known + Drop, F: Printer + Drop> Policy for ReportNew<K, F> {
 pub struct UpdateBaseline<F: Printer + Drop> {
     /// Of which rules faults become known.
     pub rules: Mask,
-    /// The form that takes what is reported besides lines.
-    pub form: F,
+    /// The printer that takes what is reported besides lines.
+    pub printer: F,
     /// The fonts whose reports were made, in order.
     pub readings: Vec<Reading>,
 }
 
 impl<F: Printer + Drop> Policy for UpdateBaseline<F> {
     ghost takes = { λ old new entry taken. (new.rules ≡ old.rules)
-        × TakesKnown (record { form = recipient_by F.takes old.form new.form; old = old.readings.items; new = new.readings.items })
+        × TakesKnown (record { printer = recipient_by F.takes old.printer new.printer; old = old.readings.items; new = new.readings.items })
         (as_known old.rules) old.rules entry taken };
 
     fn report<'a>(
@@ -105,12 +105,12 @@ impl<F: Printer + Drop> Policy for UpdateBaseline<F> {
         let found = count_kinds(alloc, font, sidebearings, waivers, self.rules)?;
         let reading = read_kinds(alloc, name, &found)?;
         let judge = AsKnown { rules: self.rules };
-        let taken = hand_report(&mut self.form, name, font, sidebearings, waivers, &judge);
+        let taken = hand_report(&mut self.printer, name, font, sidebearings, waivers, &judge);
         Ok(keep(&mut self.readings, reading, taken))
     }
 
     fn failure(&mut self, name: &str, error: FontError) -> Taken {
-        hand_failure(&mut self.form, name, error)
+        hand_failure(&mut self.printer, name, error)
     }
 }
 

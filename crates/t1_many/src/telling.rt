@@ -25,13 +25,13 @@ use t1_run::Status;
 pub struct ReportAll<F: Printer> {
     /// Of which rules lines are reported.
     pub rules: Mask,
-    /// The form that takes them.
-    pub form: F,
+    /// The printer that takes them.
+    pub printer: F,
 }
 
 impl<F: Printer> Policy for ReportAll<F> {
     ghost takes = { λ old new entry taken. (new.rules ≡ old.rules)
-        × HandsFont (recipient_by F.takes old.form new.form) (of_rules old.rules) entry taken };
+        × HandsFont (recipient_by F.takes old.printer new.printer) (of_rules old.rules) entry taken };
 
     fn report<'a>(
         &mut self,
@@ -42,7 +42,7 @@ impl<F: Printer> Policy for ReportAll<F> {
         waivers: &'a Waivers<'a>,
     ) -> Result<Taken, AllocError> {
         Ok(hand_report(
-            &mut self.form,
+            &mut self.printer,
             name,
             font,
             sidebearings,
@@ -52,7 +52,7 @@ impl<F: Printer> Policy for ReportAll<F> {
     }
 
     fn failure(&mut self, name: &str, error: FontError) -> Taken {
-        hand_failure(&mut self.form, name, error)
+        hand_failure(&mut self.printer, name, error)
     }
 }
 
@@ -66,7 +66,7 @@ pub fn tell_all<S: FontFiles, F: Printer>(
     edition: Edition,
     telling: &mut ReportAll<F>,
 ) -> Result<Status, Lost>
-    ensures { TellsAll (recipient_by F.takes telling.old.form telling.new.form) (λ _. of_rules telling.old.rules)
+    ensures { TellsAll (recipient_by F.takes telling.old.printer telling.new.printer) (λ _. of_rules telling.old.rules)
         (files_by S.calls beside files.old files.new) edition (map string_bytes names.now) result }
 {
     check_all(alloc, names, beside, files, edition, telling)

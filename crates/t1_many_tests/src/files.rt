@@ -8,7 +8,7 @@ use std::io::ErrorKind;
 use t1_answer_all::ShowsProgress;
 use t1_io::{In, Source};
 use t1_many::FontFiles;
-use t1_names::{Entry, FileStore, FileSystem, Listing};
+use t1_names::{FolderEntry, FileStore, FileSystem, Listing};
 
 /// A file, by its name. That of waivers is known by the name of their font.
 pub(crate) type File<'a> = (&'a str, &'a [u8]);
@@ -120,7 +120,7 @@ fn text_of(alloc: Global, files: &[File<'_>], name: &str) -> Option<io::Result<V
 fn listing_of(alloc: Global, fonts: &[&str]) -> Result<Listing, AllocError> {
     let mut entries = Vec::new(alloc);
     for font in fonts {
-        entries.push(Entry::Font(String::from_str(alloc, font)?))?;
+        entries.push(FolderEntry::Font(String::from_str(alloc, font)?))?;
     }
     Ok(Listing {
         entries,

@@ -110,7 +110,7 @@ fn check(
 ) {
     let mut telling = ReportAll {
         rules: only(&[Rule::P03]),
-        form: Plain {
+        printer: Plain {
             reasons: false,
             out: Out::new(text),
             errors: Out::new(told),

@@ -120,7 +120,7 @@ fn is_read_so(alloc: Global, case: &Case<'_>) -> Result<bool, AllocError> {
     let (mut text, mut told) = (Vec::new(alloc), Vec::new(alloc));
     let mut telling = ReportAll {
         rules: only(all_rules()),
-        form: Plain {
+        printer: Plain {
             reasons: false,
             out: Out::new(&mut text),
             errors: Out::new(&mut told),

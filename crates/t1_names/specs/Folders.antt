@@ -6,8 +6,8 @@ use Rattle.std.specs.List.{ends_with}
 use Rattle.std.specs.List.Sorted.{IsPermutation, IsSorted}
 use Rattle.std.specs.Ordering.{nat_cmp}
 use Rattle.std.specs.Str.{bytes_eq}
-use Rattle.t1_names.specs.declared.folders.Entry.{Entry}
-use Rattle.t1_names.specs.declared.folders.Entry.TheVariants.{Folder, Font}
+use Rattle.t1_names.specs.declared.folders.FolderEntry.{FolderEntry}
+use Rattle.t1_names.specs.declared.folders.FolderEntry.TheVariants.{Folder, Font}
 use Rattle.t1_names.specs.declared.folders.Listing.{Listing}
 
 -- The name of a file ends so, in letters of either case.
@@ -26,12 +26,12 @@ path_of folder name =
     else (if ends_with nat_eq folder (codes "/") then folder else folder ++ 47 ∷ []) ++ name
 
 -- The folders in a folder, and the fonts in it.
-abbrev pub folders_in : List ℕ → List Entry → List (List ℕ)
+abbrev pub folders_in : List ℕ → List FolderEntry → List (List ℕ)
 folders_in folder [] = []
 folders_in folder (Folder name ∷ entries) = path_of folder (string_bytes name) ∷ folders_in folder entries
 folders_in folder (Font name ∷ entries) = folders_in folder entries
 
-abbrev pub fonts_in : List ℕ → List Entry → List (List ℕ)
+abbrev pub fonts_in : List ℕ → List FolderEntry → List (List ℕ)
 fonts_in folder [] = []
 fonts_in folder (Folder name ∷ entries) = fonts_in folder entries
 fonts_in folder (Font name ∷ entries) = path_of folder (string_bytes name) ∷ fonts_in folder entries

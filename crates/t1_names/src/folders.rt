@@ -9,7 +9,7 @@ use std::alloc::{AllocError, Global};
 
 /// What is in a folder, by its name there: a folder, or a file or a link to one that [`is_font_name`] takes for a font.
 #[derive(Drop)]
-pub enum Entry {
+pub enum FolderEntry {
     Folder(String),
     Font(String),
 }
@@ -18,7 +18,7 @@ pub enum Entry {
 #[derive(Drop)]
 pub struct Listing {
     /// The folders and the fonts in it.
-    pub entries: Vec<Entry>,
+    pub entries: Vec<FolderEntry>,
     /// Whether it could be read, and every name in it.
     pub whole: bool,
 }
@@ -94,7 +94,7 @@ fn in_order(fonts: Vec<String>, unsearched: Vec<String>) -> Result<Below, AllocE
 fn take_entries(
     alloc: Global,
     folder: &str,
-    entries: Vec<Entry>,
+    entries: Vec<FolderEntry>,
     folders: &mut Vec<String>,
     fonts: &mut Vec<String>,
 ) -> Result<(), AllocError>
@@ -103,8 +103,8 @@ fn take_entries(
 {
     for entry in entries {
         match entry {
-            Entry::Folder(name) => folders.push(path_of(alloc, folder, name)?)?,
-            Entry::Font(name) => fonts.push(path_of(alloc, folder, name)?)?,
+            FolderEntry::Folder(name) => folders.push(path_of(alloc, folder, name)?)?,
+            FolderEntry::Font(name) => fonts.push(path_of(alloc, folder, name)?)?,
         }
     }
     Ok(())

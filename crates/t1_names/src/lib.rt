@@ -20,7 +20,7 @@ mod words;
 pub use causes::Cause;
 pub use file_store::FileStore;
 pub use filesystem::FileSystem;
-pub use folders::{Below, Entry, Listing, fonts_below, is_font_name};
+pub use folders::{Below, FolderEntry, Listing, fonts_below, is_font_name};
 pub use globs::{CharSet, Glob, Piece, is_excluded};
 pub use laws::{
     each_name_is_included, each_name_is_once, globs_match, input_stays_apart, lists_are_one,

@@ -6,7 +6,7 @@ use std::io;
 use std::io::ErrorKind;
 use std::test::Fail;
 use t1_names::{
-    Entry, FileSystem, Listing, Named, each_once, fonts_below, fonts_named, is_font_name, is_input,
+    FolderEntry, FileSystem, Listing, Named, each_once, fonts_below, fonts_named, is_font_name, is_input,
     trim_word,
 };
 
@@ -94,13 +94,13 @@ fn list(alloc: Global, folder: &str) -> Result<Listing, AllocError> {
 }
 
 /// Folders and fonts of these names.
-fn entries_of(alloc: Global, folders: &[&str], fonts: &[&str]) -> Result<Vec<Entry>, AllocError> {
+fn entries_of(alloc: Global, folders: &[&str], fonts: &[&str]) -> Result<Vec<FolderEntry>, AllocError> {
     let mut entries = Vec::new(alloc);
     for name in folders {
-        entries.push(Entry::Folder(String::from_str(alloc, name)?))?;
+        entries.push(FolderEntry::Folder(String::from_str(alloc, name)?))?;
     }
     for name in fonts {
-        entries.push(Entry::Font(String::from_str(alloc, name)?))?;
+        entries.push(FolderEntry::Font(String::from_str(alloc, name)?))?;
     }
     Ok(entries)
 }

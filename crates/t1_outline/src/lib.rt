@@ -43,7 +43,7 @@ pub use laws::{
     rules_ask_is_open, seacs_draw_their_components, short_forms_draw_alike,
     steps_end_at_the_current_point, subpaths_begin_at_moves, whole_flexes_are_drawn,
 };
-pub use outline::{Drawn, Outline};
+pub use outline::{DrawnSegment, Outline};
 pub use parts::{ORIGIN, Part, SeacPart, SeacParts};
 pub use pen::{DrawnStep, Pen};
 pub use segment::{Segment, Segments};

@@ -13,7 +13,7 @@ use t1_font::{Font, copy_of};
 
 /// A segment, and where it was drawn.
 #[derive(Debug, PartialEq, Eq, Drop)]
-pub struct Drawn {
+pub struct DrawnSegment {
     pub segment: Segment,
     /// The number of the step that draws it.
     pub step: u32,
@@ -59,13 +59,13 @@ impl<'a> Outline<'a> {
     }
 
     /// The next segment.
-    pub fn next(&mut self) -> Option<Drawn>
+    pub fn next(&mut self) -> Option<DrawnSegment>
         ensures { MatchOption result ((self.old ≡ []) × (self.new ≡ [])) (λ drawn. self.old ≡ drawn_value drawn ∷ self.new) }
     {
         loop {
             if let Some(segment) = self.drawn.as_slice().get(self.given) {
                 let step = self.machine.current();
-                let drawn = Drawn {
+                let drawn = DrawnSegment {
                     segment: *segment,
                     step: step.number,
                     path: copy_of(&step.path),

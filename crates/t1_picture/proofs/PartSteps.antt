@@ -1,4 +1,5 @@
 -- The steps of a part that were drawn so far.
+-- What n steps draw is kept as a fold over the first n; one step more is one turn more of the fold.
 use Rattle.std.proofs.Common.{◌≡◌, ℕ, zero, suc, ◌+◌, ◌-◌, ◌<◌, ◌≤◌, ◌==◌, Bool, true, false, cond, nat_le, nat_lt, Option, None, Some, List, [], ◌∷◌, ◌++◌, drop, length, length-take, slice_get, take, take_all, append_assoc, append-nil, refl, sym, ap, ◌∙◌, arith, le-leb}
 use Rattle.std.proofs.lemmas.Bool.{eqb-true, leb-true, ltb-true, ltb-false}
 use Rattle.std.proofs.lemmas.List.{drop_all}

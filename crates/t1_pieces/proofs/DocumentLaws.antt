@@ -1,4 +1,5 @@
 -- Calls one after another hand over the document.
+-- Each call hands over the results from one place of the document to the next, and the places follow one another.
 use Rattle.std.proofs.Common.{◌≡◌, ◌∙◌, ◌<◌, ◌≤◌, ◌+◌, ℕ, suc, List, [], ◌∷◌, ◌++◌, length, map, slice_get, take, drop, Some, ap, arith, append_assoc, append-nil, length-append, length-take, refl, subst, sym}
 use Rattle.std.proofs.Math.Seq.{drop-cons}
 use Rattle.std.proofs.lemmas.List.{take-append-drop, take_all}

@@ -1,4 +1,5 @@
 -- Results that are handed over, one after another.
+-- What is in the room is the results since the place where the call began; one more is put where it fits, and else the call ends there.
 use Rattle.std.proofs.Common.{◌≡◌, ◌∙◌, ◌<◌, ◌≤◌, ◌+◌, ◌-◌, ℕ, zero, suc, List, [], ◌∷◌, ◌++◌, length, take, ap, arith, append_assoc, append-nil, length-append, refl, subst, sym}
 use Rattle.serde_json.specs.Written.{comma_if, compact_text}
 use Rattle.t1_forms.specs.Sarif.{SarifState, closing, count_of, resumed}

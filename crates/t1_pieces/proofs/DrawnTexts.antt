@@ -12,7 +12,7 @@ use Rattle.t1_pieces.specs.Drawings.IsDrawn.{picture}
 use Rattle.t1_pieces.specs.Drawings.IsRefused.{refused}
 use Rattle.t1_pieces.specs.Numbered.{IsNumbered}
 use Rattle.t1_pieces.specs.Reading.{Input, IsFailureOf}
-use Rattle.t1_pieces.specs.declared.drawn.Drawn.TheVariants as drawn
+use Rattle.t1_pieces.specs.declared.drawn.PictureOutcome.TheVariants as drawn
 use Rattle.t1_pieces.specs.declared.extent.Extent.{Extent}
 use Rattle.t1_pieces.specs.declared.extent.Extent.TheVariants.{Fault}
 use Rattle.t1_pieces.specs.declared.picture_result.PictureResult.{PictureResult}

@@ -3,7 +3,7 @@ use Rattle.std.proofs.Common.{◌≡◌, ◌∙◌, ℕ, Bool, true, List, [], O
 use Rattle.t1_answer.specs.Answers.{Answer, IsAnswerTo, IsReported, IsShown, at_most, refused, reported, selection, waived_by}
 use Rattle.t1_answer.specs.Told.{program, told_of}
 use Rattle.t1_answer.specs.Waived.{asks_waivers}
-use Rattle.t1_answer.specs.declared.asked.Options.{Options}
+use Rattle.t1_answer.specs.declared.asked.CheckOptions.{CheckOptions}
 use Rattle.t1_font.specs.Fonts.{FontValue}
 use Rattle.t1_report.specs.Refusals.{refusal_code_of, Refusal}
 use Rattle.t1_font.specs.declared.unread.RefusalCode.{RefusalCode}
@@ -17,15 +17,15 @@ use Rattle.t1_run.specs.WaiverFiles.{waivers_in}
 use Rattle.t1_pieces.specs.T1check.{AskAll, IsRefusedFor, T1checkRefusesThem, T1checkWritesThem}
 
 -- These options request the waivers of the text, and no trace.
-asked : (options : Options) (text : List ℕ) → asks_waivers options ≡ true → waived_by options text ≡ waivers_in options.edition text
+asked : (options : CheckOptions) (text : List ℕ) → asks_waivers options ≡ true → waived_by options text ≡ waivers_in options.edition text
 asked options text is = ap (λ (b : Bool). if b then waivers_in options.edition text else Ok []) is
 
-untraced : (options : Options) (font : FontValue) (waived : Result (List Waiver) Refusal) (answer : Answer) → options.trace ≡ None
+untraced : (options : CheckOptions) (font : FontValue) (waived : Result (List Waiver) Refusal) (answer : Answer) → options.trace ≡ None
     → IsShown options font waived (option_map string_bytes options.trace) answer → IsReported options font waived answer
 untraced options font waived answer none shown =
     subst (λ (trace : Option (List ℕ)). IsShown options font waived trace answer) (ap (option_map string_bytes) none) shown
 
-whole : (options : Options) (faults : List FaultValue) → AskAll options → selection options faults ≡ faults
+whole : (options : CheckOptions) (faults : List FaultValue) → AskAll options → selection options faults ≡ faults
 whole options faults all =
     ap (λ (max : Option ℕ). at_most max (drop options.after faults)) all.max ∙ ap (λ (k : ℕ). drop k faults) all.after
 
@@ -45,7 +45,7 @@ told : (reason : Refusal) (code : RefusalCode) (answer : Answer) → refusal_cod
 told reason code answer coded is =
     ap (λ (a : Answer). a.told) is ∙ ap (λ (c : Option RefusalCode). failure_line program (refused_by c)) coded
 
-by_read : (options : Options) (read : Result FontValue Refusal) (waived : Result (List Waiver) Refusal) (reason : Refusal) (code : RefusalCode)
+by_read : (options : CheckOptions) (read : Result FontValue Refusal) (waived : Result (List Waiver) Refusal) (reason : Refusal) (code : RefusalCode)
     (answer : Answer) → options.trace ≡ None → IsRefusedFor read waived reason → refusal_code_of reason ≡ Some code
     → IsAnswerTo options read waived answer → answer.told ≡ refusal_line code
 by_read options (Err why) waived reason code answer none is coded answered =

@@ -12,8 +12,8 @@ use Rattle.t1_report.specs.Waivers.{Waiver}
 use Rattle.t1_rules.specs.Components.{glyph_named}
 use Rattle.t1_pieces.specs.Numbered.{IsNumbered}
 use Rattle.t1_pieces.specs.Reading.{Input}
-use Rattle.t1_pieces.specs.declared.drawn.Drawn.{Drawn}
-use Rattle.t1_pieces.specs.declared.drawn.Drawn.TheVariants as drawn
+use Rattle.t1_pieces.specs.declared.drawn.PictureOutcome.{PictureOutcome}
+use Rattle.t1_pieces.specs.declared.drawn.PictureOutcome.TheVariants as drawn
 use Rattle.t1_pieces.specs.declared.extent.Extent.{Extent}
 use Rattle.t1_pieces.specs.declared.extent.Extent.TheVariants.{All, Fault, UpTo}
 use Rattle.t1_pieces.specs.declared.picture_result.PictureResult.{PictureResult}
@@ -80,7 +80,7 @@ ShowsNothing extent input None = ⊥
 ShowsNothing extent input (Some glyph) = IsShown extent input glyph None
 
 -- The picture of the glyph of a name is; the font has no such glyph; or nothing is shown of it.
-abbrev pub IsDrawnAs : List ℕ → Extent → Input → Drawn → Type 0
+abbrev pub IsDrawnAs : List ℕ → Extent → Input → PictureOutcome → Type 0
 IsDrawnAs name extent input (drawn.Picture text) = IsPictureBy extent input (glyph_named input.font.value name) (string_bytes text)
 IsDrawnAs name extent input drawn.NoGlyph = glyph_named input.font.value name ≡ None
 IsDrawnAs name extent input drawn.NoFault = ShowsNothing extent input (glyph_named input.font.value name)
@@ -105,6 +105,6 @@ IsDrawing name extent (Err reason) room drawn = IsRefused reason room drawn
 IsDrawing name extent (Ok input) room drawn = IsDrawn name extent input room drawn
 
 -- Before it is put into the room, without refusals.
-abbrev pub IsReadDrawn : List ℕ → Extent → Result Input Refusal → Drawn → Type 0
+abbrev pub IsReadDrawn : List ℕ → Extent → Result Input Refusal → PictureOutcome → Type 0
 IsReadDrawn name extent (Err reason) drawn = ⊥
 IsReadDrawn name extent (Ok input) drawn = IsDrawnAs name extent input drawn

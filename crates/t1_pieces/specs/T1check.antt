@@ -2,7 +2,7 @@
 use Rattle.std.specs.Prelude.{◌≡◌, ℕ, true, List, None, Some, Result, Ok, Err}
 use Rattle.t1_answer.specs.Answers.{Answer, IsAnswer}
 use Rattle.t1_answer.specs.Waived.{asks_waivers}
-use Rattle.t1_answer.specs.declared.asked.Options.{Options}
+use Rattle.t1_answer.specs.declared.asked.CheckOptions.{CheckOptions}
 use Rattle.t1_font.specs.Fonts.{FontValue}
 use Rattle.t1_report.specs.Refusals.{refusal_code_of, Refusal}
 use Rattle.t1_font.specs.declared.unread.RefusalCode.{RefusalCode}
@@ -16,8 +16,8 @@ use Rattle.t1_run.specs.Failures.{refusal_line}
 use Rattle.t1_run.specs.FontFiles.{font_of}
 use Rattle.t1_run.specs.WaiverFiles.{waivers_in}
 
--- Options of t1check that request a whole report, with waivers.
-pub record AskAll (options : Options) : Type 0 where
+-- CheckOptions of t1check that request a whole report, with waivers.
+pub record AskAll (options : CheckOptions) : Type 0 where
   pub after : options.after ≡ 0
   pub max : options.max ≡ None
   pub trace : options.trace ≡ None
@@ -26,7 +26,7 @@ pub record AskAll (options : Options) : Type 0 where
 -- Of bytes that are read t1check writes the lines of the report.
 abbrev pub T1checkWritesThem : Type 0
 T1checkWritesThem =
-    (options : Options) (bytes text : List ℕ) (font : FontValue) (waivers : List Waiver) (faults : List FaultValue) (answer : Answer)
+    (options : CheckOptions) (bytes text : List ℕ) (font : FontValue) (waivers : List Waiver) (faults : List FaultValue) (answer : Answer)
     → AskAll options → font_of bytes ≡ Ok font → waivers_in options.edition text ≡ Ok waivers
     → IsReport (checked font options.edition) waivers faults → IsAnswer options bytes text answer
     → answer.output ≡ lines_as Text (checked font options.edition) waivers faults
@@ -39,6 +39,6 @@ IsRefusedFor (Ok font) (Ok waivers) reason = ⊥
 
 abbrev pub T1checkRefusesThem : Type 0
 T1checkRefusesThem =
-    (options : Options) (bytes text : List ℕ) (reason : Refusal) (code : RefusalCode) (answer : Answer)
+    (options : CheckOptions) (bytes text : List ℕ) (reason : Refusal) (code : RefusalCode) (answer : Answer)
     → AskAll options → IsRefusedFor (font_of bytes) (waivers_in options.edition text) reason → refusal_code_of reason ≡ Some code
     → IsAnswer options bytes text answer → answer.told ≡ refusal_line code

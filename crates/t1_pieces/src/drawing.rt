@@ -9,7 +9,7 @@ ghost use Rattle.t1_run.specs.WaiverFiles.{waivers_in};
 ghost use Rattle.t1_pieces.specs.Drawings.{IsDrawing, IsReadDrawn, IsRefusedBy, IsShown, IsTextIn, IsWith, is_with};
 ghost use Rattle.t1_pieces.specs.Reading.{IsFailureOf, input_in, input_of};
 
-use crate::drawn::Drawn;
+use crate::drawn::PictureOutcome;
 use crate::extent::Extent;
 use crate::numbered::fault_numbered;
 use crate::picture_request::PictureRequest;
@@ -30,9 +30,9 @@ pub fn picture(alloc: Global, request: &PictureRequest<'_>, room: &mut [u8]) -> 
     ensures length { length room.new ≡ length room.old }
 {
     match drawn_of_file(alloc, request) {
-        Ok(Drawn::Picture(text)) => put_text(text.as_bytes(), room),
-        Ok(Drawn::NoGlyph) => PictureResult::NoGlyph,
-        Ok(Drawn::NoFault) => PictureResult::NoFault,
+        Ok(PictureOutcome::Picture(text)) => put_text(text.as_bytes(), room),
+        Ok(PictureOutcome::NoGlyph) => PictureResult::NoGlyph,
+        Ok(PictureOutcome::NoFault) => PictureResult::NoFault,
         Err(Failure::Refused(code)) => put_refusal(code, room),
         Err(_) => PictureResult::Memory,
     }
@@ -64,7 +64,7 @@ fn put_refusal(code: RefusalCode, room: &mut [u8]) -> PictureResult
 }
 
 /// Reads the font, and draws the glyph.
-fn drawn_of_file(alloc: Global, request: &PictureRequest<'_>) -> Result<Drawn, Failure>
+fn drawn_of_file(alloc: Global, request: &PictureRequest<'_>) -> Result<PictureOutcome, Failure>
     ensures drawn { IfOk result (IsReadDrawn request.now.glyph.now request.now.extent
         (input_in request.now.edition request.now.font.now request.now.waivers.now)) }
     ensures failed { IfErr result (IsFailureOf (input_in request.now.edition request.now.font.now request.now.waivers.now)) }
@@ -81,18 +81,18 @@ fn drawn_of_font(
     alloc: Global,
     font: &Font<'_>,
     request: &PictureRequest<'_>,
-) -> Result<Drawn, Failure>
+) -> Result<PictureOutcome, Failure>
     ensures drawn { IfOk result (IsReadDrawn request.now.glyph.now request.now.extent
         (input_of request.now.edition (Ok font.now) (waivers_in request.now.edition request.now.waivers.now))) }
     ensures failed { IfErr result (IsFailureOf (input_of request.now.edition (Ok font.now) (waivers_in request.now.edition request.now.waivers.now))) }
 {
     let waivers = read_waivers(alloc, request.waivers, request.edition)?;
     let Some(glyph) = glyph_named(font, request.glyph) else {
-        return Ok(Drawn::NoGlyph);
+        return Ok(PictureOutcome::NoGlyph);
     };
     let sidebearings = Sidebearings::prepare(alloc, font, request.edition)?;
     let Some(shown) = shown_by(font, &sidebearings, &waivers, glyph, request.extent) else {
-        return Ok(Drawn::NoFault);
+        return Ok(PictureOutcome::NoFault);
     };
     let view = View {
         font: &*font,
@@ -101,7 +101,7 @@ fn drawn_of_font(
         glyph,
         shown,
     };
-    Ok(Drawn::Picture(draw(alloc, &view)?))
+    Ok(PictureOutcome::Picture(draw(alloc, &view)?))
 }
 
 /// What an extent shows of a glyph; None where it is no fault of the font or of this glyph.

@@ -2,7 +2,7 @@
 
 /// A picture, or why there is none of a font and waivers that are read.
 #[derive(Debug, Drop)]
-pub(crate) enum Drawn {
+pub(crate) enum PictureOutcome {
     /// The text of the picture.
     Picture(String),
     /// The font has no glyph of the name.

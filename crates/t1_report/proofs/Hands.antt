@@ -1,4 +1,5 @@
 -- What a walk has in hand: the next of its rules, the next place, and that there is none.
+-- The rules in hand that are above the mark's are still to be returned; where there is none, the next place comes, or the end.
 use Rattle.t1_io.specs.Devices.{one_more}
 use Rattle.std.proofs.Common.{◌≡◌, ◌⊎◌, ℕ, suc, ◌+◌, ◌-◌, ◌*◌, ◌<◌, ◌≤◌, inl, inr, true, false, true≢false, List, length, refl, sym, ap, subst, ◌∙◌, arith, cond}
 use Rattle.std.proofs.lemmas.Bool.{cases_lt, eq-eqb, le-leb, lt-leb, ne_eqb}

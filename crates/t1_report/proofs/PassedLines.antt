@@ -8,8 +8,8 @@ use Rattle.t1_char.specs.declared.lines.Passing.{Passing}
 use Rattle.t1_char.specs.declared.lines.Passing.TheVariants as passing
 use Rattle.t1_char.specs.declared.edition.Edition.{Edition}
 use Rattle.t1_char.specs.declared.command.Command.TheVariants.{Closepath, Rlineto, Hlineto, Vlineto, Rrcurveto, Vhcurveto, Hvcurveto, Rmoveto, Hmoveto, Vmoveto}
-use Rattle.t1_char.specs.declared.lines.Drawn.{Drawn}
-use Rattle.t1_char.specs.declared.lines.Drawn.TheVariants.{Nothing, Open, Closed}
+use Rattle.t1_char.specs.declared.lines.DrawnPath.{DrawnPath}
+use Rattle.t1_char.specs.declared.lines.DrawnPath.TheVariants.{Nothing, Open, Closed}
 use Rattle.t1_char.specs.declared.lines.Way.{Way}
 use Rattle.t1_char.specs.Seacs.{is_seac}
 use Rattle.t1_char.specs.declared.machine.Answer.{Answer}
@@ -55,7 +55,7 @@ use Rattle.t1_report.proofs.RunSteps.{IsRunAt, IsTold, count_at_end, run_at, tol
 calm_on : (w : Watches) (way : Way) → IsCalm w → IsCalm (moved_on w way)
 calm_on w way calm = by_drawn way.drawn
   where
-    by_drawn : (drawn : Drawn) → IsCalm (record (led_by drawn w) { flex = record w.flex { point = point_on w.flex.point way; moves = w.flex.moves + way.moves } })
+    by_drawn : (drawn : DrawnPath) → IsCalm (record (led_by drawn w) { flex = record w.flex { point = point_on w.flex.point way; moves = w.flex.moves + way.moves } })
     by_drawn Nothing = record { replaced = calm.replaced; hints_popped = calm.hints_popped; ended = calm.ended; popped = calm.popped; popped_twice = calm.popped_twice }
     by_drawn Open = record { replaced = calm.replaced; hints_popped = calm.hints_popped; ended = calm.ended; popped = calm.popped; popped_twice = calm.popped_twice }
     by_drawn Closed = record { replaced = calm.replaced; hints_popped = calm.hints_popped; ended = calm.ended; popped = calm.popped; popped_twice = calm.popped_twice }
@@ -63,7 +63,7 @@ calm_on w way calm = by_drawn way.drawn
 steady_on : (w : Watches) (way : Way) → is_closed way.drawn ≡ false → IsSteady w → IsSteady (moved_on w way)
 steady_on w way unclosed steady = by_drawn way.drawn unclosed
   where
-    by_drawn : (drawn : Drawn) → is_closed drawn ≡ false → IsSteady (record (led_by drawn w) { flex = record w.flex { point = point_on w.flex.point way; moves = w.flex.moves + way.moves } })
+    by_drawn : (drawn : DrawnPath) → is_closed drawn ≡ false → IsSteady (record (led_by drawn w) { flex = record w.flex { point = point_on w.flex.point way; moves = w.flex.moves + way.moves } })
     by_drawn Nothing is = record { begun = steady.begun; path_flex = steady.path_flex; moved = steady.moved; stem_flex = steady.stem_flex; flex = steady.flex; seac_flex = steady.seac_flex; opened = steady.opened; going_on = steady.going_on }
     by_drawn Open is = record { begun = steady.begun; path_flex = steady.path_flex; moved = steady.moved; stem_flex = steady.stem_flex; flex = steady.flex; seac_flex = steady.seac_flex; opened = steady.opened; going_on = steady.going_on }
     by_drawn Closed is = let no : true ≡ false = is in cc
@@ -102,13 +102,13 @@ flex_twice f one other =
     ∙ ap (λ moves. record f { point = point_on f.point (further one other); moves = moves }) same
 
 -- Watchers that are moved on twice, and once, by what was drawn.
-twice : Watches → Way → Way → Drawn → Drawn → Watches
+twice : Watches → Way → Way → DrawnPath → DrawnPath → Watches
 twice w one other first second =
     record (led_by second (record (led_by first w) { flex = record w.flex { point = point_on w.flex.point one; moves = w.flex.moves + one.moves } })) {
       flex = record w.flex { point = point_on (point_on w.flex.point one) other; moves = w.flex.moves + one.moves + other.moves };
     }
 
-once : Watches → Way → Way → Drawn → Watches
+once : Watches → Way → Way → DrawnPath → Watches
 once w one other drawn =
     record (led_by drawn w) { flex = record w.flex { point = point_on w.flex.point (further one other); moves = w.flex.moves + (one.moves + other.moves) } }
 
@@ -118,7 +118,7 @@ unfolding twice once
 moved_by_line w one other unclosed is =
     subst (λ second. twice w one other one.drawn second ≡ once w one other (drawn_after one.drawn second)) (sym is) (by_drawn one.drawn unclosed)
   where
-    by_drawn : (first : Drawn) → is_closed first ≡ false → twice w one other first Open ≡ once w one other Open
+    by_drawn : (first : DrawnPath) → is_closed first ≡ false → twice w one other first Open ≡ once w one other Open
     by_drawn Nothing open_yet = ap (λ flex. record (drawn_on w) { flex = flex }) (flex_twice w.flex one other)
     by_drawn Open open_yet = ap (λ flex. record (drawn_on w) { flex = flex }) (flex_twice w.flex one other)
     by_drawn Closed open_yet = let no : true ≡ false = open_yet in cc
@@ -233,12 +233,12 @@ over_command what font glyph n taken w after before way there so_far passed no_s
     }
 
 -- Where a command can follow, the path isn't closed, and where a move can, nothing is drawn.
-follows_unclosed : (command : Commands) (drawn : Drawn) → can_follow command drawn ≡ true → is_closed drawn ≡ false
+follows_unclosed : (command : Commands) (drawn : DrawnPath) → can_follow command drawn ≡ true → is_closed drawn ≡ false
 follows_unclosed command Nothing from = refl
 follows_unclosed command Open from = refl
 follows_unclosed command Closed from = let no : false ≡ true = from in cc
 
-move_follows : (command : Commands) (drawn : Drawn) → is_move_command command ≡ true → can_follow command drawn ≡ true → drawn ≡ Nothing
+move_follows : (command : Commands) (drawn : DrawnPath) → is_move_command command ≡ true → can_follow command drawn ≡ true → drawn ≡ Nothing
 move_follows command Nothing move from = refl
 move_follows command Closed move from = let no : false ≡ true = from in cc
 move_follows command Open move from = absurd (no_line command move from)

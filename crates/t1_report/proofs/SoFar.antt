@@ -1,4 +1,5 @@
 -- How far a report was returned: the next fault, the mark after it, and the end.
+-- Places of a report rise, so the first k faults are those up to its k-th place; the next one is the least place after these.
 use Rattle.t1_io.specs.Devices.{one_more}
 use Rattle.std.proofs.Common.{◌≡◌, ℕ, ◌+◌, ◌-◌, ◌^◌, length-take, length-drop, ◌<◌, ◌≤◌, ◌⊎◌, inl, inr, List, length, slice_get, slice_index_or, Some, refl, sym, ap, subst, ◌∙◌, arith}
 use Rattle.std.proofs.lemmas.Bool.{cases_lt, cases_order}

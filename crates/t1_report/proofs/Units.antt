@@ -1,4 +1,5 @@
 -- A search from unit to unit: what was passed, and what is first.
+-- What was passed grows by one unit in which nothing is broken; then the first fault of the next unit is the first of all.
 use Rattle.std.proofs.Common.{◌≡◌, ℕ, zero, suc, ◌+◌, ◌-◌, ◌*◌, ◌<◌, ◌≤◌, inl, inr, true, false, true≢false, List, length, refl, sym, ap, subst, ◌∙◌, arith, ◌⊎◌}
 use Rattle.std.proofs.lemmas.Bool.{cases_lt}
 use Rattle.t1_char.proofs.EditionLemmas.{limit_few}

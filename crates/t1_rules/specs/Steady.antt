@@ -1,8 +1,8 @@
 -- Watchers in the midst of a path, of which lines, curves and closepaths change nothing but the current point and what
 -- is drawn, and moves nothing but that point and how many there were.
 use Rattle.std.specs.Prelude.{◌≡◌, true, false, ◌+ℤ◌, ◌+◌}
-use Rattle.t1_char.specs.declared.lines.Drawn.{Drawn}
-use Rattle.t1_char.specs.declared.lines.Drawn.TheVariants.{Nothing, Open, Closed}
+use Rattle.t1_char.specs.declared.lines.DrawnPath.{DrawnPath}
+use Rattle.t1_char.specs.declared.lines.DrawnPath.TheVariants.{Nothing, Open, Closed}
 use Rattle.t1_char.specs.declared.lines.Way.{Way}
 use Rattle.t1_rules.specs.declared.step_rules.flex.Point.{Point}
 use Rattle.t1_rules.specs.declared.watches.Watches.{Watches}
@@ -37,7 +37,7 @@ drawn_on watches = record watches {
 abbrev pub closed_on : Watches → Watches
 closed_on watches = record watches { paths = record watches.paths { drawn = false; moved = false } }
 
-abbrev pub led_by : Drawn → Watches → Watches
+abbrev pub led_by : DrawnPath → Watches → Watches
 led_by Nothing watches = watches
 led_by Open watches = drawn_on watches
 led_by Closed watches = closed_on (drawn_on watches)

@@ -26,7 +26,7 @@ use crate::step_rules::stems::StemWatcher;
 use crate::step_rules::tokens::call_of;
 use crate::step_rules::triples::TripleWatcher;
 use crate::watch::Watch;
-use t1_char::{CharToken, Command, Drawn, Edition, MOST_NUMBERS, OthersubrCall, Step, Way};
+use t1_char::{CharToken, Command, DrawnPath, Edition, MOST_NUMBERS, OthersubrCall, Step, Way};
 
 /// How often a machine may look for moves in vain.
 const MOST_TRIES: u32 = 8;
@@ -232,9 +232,9 @@ impl Watches {
     {
         self.flex.go(way);
         match way.drawn {
-            Drawn::Nothing => {}
-            Drawn::Open => self.draw(),
-            Drawn::Closed => {
+            DrawnPath::Nothing => {}
+            DrawnPath::Open => self.draw(),
+            DrawnPath::Closed => {
                 self.draw();
                 self.paths.close();
             }

@@ -1,4 +1,6 @@
 -- The order in which the rules are printed: it is there, and is one.
+-- No two rules tie, since no two have one code. So of two lists that rise and have each rule equally often the first rules are the same, and then those
+-- of the rests.
 use Rattle.std.proofs.Common.{◌≡◌, ◌+◌, ◌<◌, ℕ, suc, zero, nat_eq, Bool, true, false, true≢false, cond, List, [], ◌∷◌, get_or, length, Some, inl, inr, refl, sym, subst, ap, ap₂, ◌∙◌, arith}
 use Rattle.std.proofs.lemmas.Bool.{cases_Bool, eqb-true}
 use Rattle.std.proofs.lemmas.Bool.Decides.{nat_tests}

@@ -16,7 +16,7 @@ use Rattle.t1_waiving.specs.Waived.{WaivesFont}
 module _ {F : Type 0} (takes : F → F → Handed → Option Lost → Type 0) (rules : Mask) (old new : F) (kept kept' : List FontText)
     (name : List ℕ) (report : Report) (taken : Result FontClass Lost) where
   abbrev keeping : Keeping FontText
-  keeping = record { form = recipient_by takes old new; old = kept; new = kept' }
+  keeping = record { printer = recipient_by takes old new; old = kept; new = kept' }
 
   abbrev entry : Entry
   entry = record { name = name; outcome = reported report }
@@ -25,16 +25,16 @@ module _ {F : Type 0} (takes : F → F → Handed → Option Lost → Type 0) (r
   kept_of = texts_of name (report_text rules report.font report.waivers report.faults)
 
   by_name : (is : Bool) → is_input name ≡ is
-      → HandsFont keeping.form (if is then of_rules rules else outside_glyphs rules) entry taken
+      → HandsFont keeping.printer (if is then of_rules rules else outside_glyphs rules) entry taken
       → kept' ≡ kept ++ (if is then [] else kept_of) → WaivesFont keeping rules entry taken
   by_name is name_is hands keeps = record {
-    hands = subst (λ (b : Bool). HandsFont keeping.form (if b then of_rules rules else outside_glyphs rules) entry taken) (sym name_is) hands;
+    hands = subst (λ (b : Bool). HandsFont keeping.printer (if b then of_rules rules else outside_glyphs rules) entry taken) (sym name_is) hands;
     keeps = keeps ∙ ap (λ (b : Bool). kept ++ (if b then [] else kept_of)) (sym name_is);
   }
 
-  pub input_told : is_input name ≡ true → HandsFont keeping.form (of_rules rules) entry taken → kept' ≡ kept → WaivesFont keeping rules entry taken
+  pub input_told : is_input name ≡ true → HandsFont keeping.printer (of_rules rules) entry taken → kept' ≡ kept → WaivesFont keeping rules entry taken
   input_told is hands same = by_name true is hands (same ∙ sym (append-nil kept))
 
-  pub font_waived : is_input name ≡ false → HandsFont keeping.form (outside_glyphs rules) entry taken → kept' ≡ kept ++ kept_of
+  pub font_waived : is_input name ≡ false → HandsFont keeping.printer (outside_glyphs rules) entry taken → kept' ≡ kept ++ kept_of
       → WaivesFont keeping rules entry taken
   font_waived = by_name false

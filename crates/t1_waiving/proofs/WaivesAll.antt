@@ -23,7 +23,7 @@ use Rattle.t1_waiving.specs.Waived.WaivesAll.{cut_short, whole}
 
 module _ {T F : Type 0} (takes : F → F → Handed → Option Lost → Type 0) (rules : T → Mask) (form : T → F) (kept : T → List FontText) where
   abbrev keeping : T → T → Keeping FontText
-  keeping old new = record { form = recipient_by takes (form old) (form new); old = kept old; new = kept new }
+  keeping old new = record { printer = recipient_by takes (form old) (form new); old = kept old; new = kept new }
 
   -- A font is taken by rules that stay.
   abbrev Takes : T → T → Entry → Result FontClass Lost → Type 0

@@ -15,7 +15,7 @@ use Rattle.t1_waiving.specs.GlyphLines.{but_waived}
 
 -- All of a font was handed on, but the lines of its glyphs, and their waivers are kept; or it stopped there.
 pub record WaivesFont (keeping : Keeping FontText) (rules : Mask) (entry : Entry) (taken : Result FontClass Lost) : Type 0 where
-  pub hands : HandsFont keeping.form (but_waived rules entry.name) entry taken
+  pub hands : HandsFont keeping.printer (but_waived rules entry.name) entry taken
   pub keeps : keeping.new ≡ keeping.old ++ entry_texts rules entry
 
 -- The same of all fonts: the status is the greatest of theirs; or it stopped at one of them.
@@ -23,10 +23,10 @@ pub data WaivesAll (keeping : Keeping FontText) (rules : Mask) (files : Files) (
     (result : Result Status Lost) : Type 0 where
   whole :
       (entries : List Entry) → AreEntries files edition names entries
-      → HandsOn keeping.form.takes keeping.form.old keeping.form.new (all_handed (but_waived rules) entries) None
+      → HandsOn keeping.printer.takes keeping.printer.old keeping.printer.new (all_handed (but_waived rules) entries) None
       → keeping.new ≡ keeping.old ++ all_texts rules entries → result ≡ Ok (status_of_all (founds_of (but_waived rules) entries))
       → WaivesAll keeping rules files edition names result
   cut_short :
       (count : ℕ) → (entries : List Entry) → AreEntries files edition (take count names) entries → (lost : Lost)
-      → HandsOn keeping.form.takes keeping.form.old keeping.form.new (all_handed (but_waived rules) entries) (Some lost)
+      → HandsOn keeping.printer.takes keeping.printer.old keeping.printer.new (all_handed (but_waived rules) entries) (Some lost)
       → keeping.new ≡ keeping.old ++ all_texts rules entries → result ≡ Err lost → WaivesAll keeping rules files edition names result

@@ -26,15 +26,15 @@ use t1_run::Status;
 pub struct WriteWaivers<F: Printer> {
     /// Of which rules lines are reported or waived.
     pub rules: Mask,
-    /// The form that takes those that are reported.
-    pub form: F,
+    /// The printer that takes those that are reported.
+    pub printer: F,
     /// The waivers of the others.
     pub kept: Kept,
 }
 
 impl<F: Printer> Policy for WriteWaivers<F> {
     ghost takes = { λ old new entry taken.
-        (new.rules ≡ old.rules) × WaivesFont (record { form = recipient_by F.takes old.form new.form; old = old.kept; new = new.kept })
+        (new.rules ≡ old.rules) × WaivesFont (record { printer = recipient_by F.takes old.printer new.printer; old = old.kept; new = new.kept })
         old.rules entry taken };
 
     fn report<'a>(
@@ -47,7 +47,7 @@ impl<F: Printer> Policy for WriteWaivers<F> {
     ) -> Result<Taken, AllocError> {
         if is_input(name) {
             return Ok(hand_report(
-                &mut self.form,
+                &mut self.printer,
                 name,
                 font,
                 sidebearings,
@@ -61,11 +61,11 @@ impl<F: Printer> Policy for WriteWaivers<F> {
         let text = waivers_text(alloc, font, sidebearings, waivers, self.rules)?;
         self.kept.push(alloc, name, text)?;
         let outside = OutsideGlyphs { rules: self.rules };
-        Ok(hand_report(&mut self.form, name, font, sidebearings, waivers, &outside))
+        Ok(hand_report(&mut self.printer, name, font, sidebearings, waivers, &outside))
     }
 
     fn failure(&mut self, name: &str, error: FontError) -> Taken {
-        hand_failure(&mut self.form, name, error)
+        hand_failure(&mut self.printer, name, error)
     }
 }
 
@@ -81,7 +81,7 @@ pub fn waive_all<S: FontFiles, F: Printer>(
     waiving: &mut WriteWaivers<F>,
 ) -> Result<Status, Lost>
     ensures { WaivesAll
-        (record { form = recipient_by F.takes waiving.old.form waiving.new.form; old = waiving.old.kept; new = waiving.new.kept })
+        (record { printer = recipient_by F.takes waiving.old.printer waiving.new.printer; old = waiving.old.kept; new = waiving.new.kept })
         waiving.old.rules (files_by S.calls beside files.old files.new) edition (map string_bytes names.now) result }
 {
     check_all(alloc, names, beside, files, edition, waiving)

@@ -5,7 +5,7 @@ use Rattle.t1_answer.specs.CommandLine.{t1check}
 use Rattle.t1_answer.specs.Laws.Runs.{RunsKeepPromises}
 use Rattle.t1_answer.specs.Told.{program}
 use Rattle.t1_answer.specs.Words.{AreTaken, checking}
-use Rattle.t1_answer.specs.declared.asked.Options.{Options}
+use Rattle.t1_answer.specs.declared.asked.CheckOptions.{CheckOptions}
 use Rattle.t1_io.specs.Devices.{SinkState, SourceState}
 use Rattle.t1_run.specs.Answering.{IsOpened, RunsOn}
 use Rattle.t1_run.specs.Answering.Answers.{explained, not_opened, read_file, read_input}
@@ -47,7 +47,7 @@ module _ (words : List Text) (fonts waivers : Folder) (input : SourceState) (sin
     sound_waivers named text (none_named is sound at) = sound
 
     by_running : RunsKeepPromises → sinks.old.out.failed ≡ false → sinks.old.errors.failed ≡ false
-        → (options : Options) → AreTaken words options → (source : Transition SourceState)
+        → (options : CheckOptions) → AreTaken words options → (source : Transition SourceState)
         → IsFontOf fonts input (option_map string_bytes options.file) source.old
         → RunsOn checking options (file_in waivers left) source sinks result → IsAnswered words fonts waivers input sinks result
     by_running keep out_sound errors_sound options taken source of (ran text opening ends) =

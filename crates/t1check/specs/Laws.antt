@@ -5,7 +5,7 @@ use Rattle.t1_answer.specs.CommandLine.{t1check}
 use Rattle.t1_answer.specs.Laws.Runs.{Answered, IfKnown}
 use Rattle.t1_answer.specs.Waived.{waivers_named}
 use Rattle.t1_answer.specs.Words.{AreTaken, checking}
-use Rattle.t1_answer.specs.declared.asked.Options.{Options}
+use Rattle.t1_answer.specs.declared.asked.CheckOptions.{CheckOptions}
 use Rattle.t1_io.specs.Devices.{Delivered, SourceState}
 use Rattle.t1_run.specs.Answering.{Answers}
 use Rattle.t1_run.specs.Opening.{NamedFile, Opening, Sinks, Transition}
@@ -39,7 +39,7 @@ pub data IsAnswered (words : List Text) (fonts waivers : Folder) (input : Source
       (text : _) → AreRefused t1check words (Help text) → Delivered sinks.old.out sinks.new.out (string_bytes text)
       → IsAnswered words fonts waivers input sinks result
   answered :
-      (options : Options) → AreTaken words options
+      (options : CheckOptions) → AreTaken words options
       → (source : SourceState) → IsFontOf fonts input (option_map string_bytes options.file) source
       → (text : SourceState) → AreWaiversOf waivers (waivers_named options) text
       → IfKnown options source.left text.left (Answered options result sinks)

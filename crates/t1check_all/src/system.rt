@@ -10,7 +10,7 @@ use std::{fs, io};
 use t1_answer_all::ShowsProgress;
 use t1_io::In;
 use t1_many::FontFiles;
-use t1_names::{Entry, FileStore, FileSystem, Listing, is_font_name, is_input};
+use t1_names::{FolderEntry, FileStore, FileSystem, Listing, is_font_name, is_input};
 
 /// The system's files.
 #[derive(Drop)]
@@ -140,12 +140,12 @@ fn list_folder(rt: &HostRuntime, folder: &str) -> Result<Listing, AllocError> {
         let name = entry.file_name();
         if kind.is_dir() {
             let name = String::from_str(alloc, name)?;
-            listing.entries.push(Entry::Folder(name))?;
+            listing.entries.push(FolderEntry::Folder(name))?;
         } else if is_font_name(name)
             && !(kind.is_symlink() && is_folder(rt, entry.path().as_str()))
         {
             let name = String::from_str(alloc, name)?;
-            listing.entries.push(Entry::Font(name))?;
+            listing.entries.push(FolderEntry::Font(name))?;
         }
     }
     Ok(listing)

@@ -1,4 +1,4 @@
--- Options, a font's file and the text of waivers have an answer.
+-- DrawOptions, a font's file and the text of waivers have an answer.
 use Rattle.std.proofs.Common.{◌++◌, ℕ, Bool, true, false, List, [], ◌∷◌, Option, None, Some, Result, Ok, Err, IfOk, refl, arith}
 use Rattle.t1_char.specs.declared.edition.Edition.{Edition}
 use Rattle.t1_font.specs.Fonts.{FontValue}

@@ -1,4 +1,4 @@
--- Options, a font's file and the text of waivers have one answer.
+-- DrawOptions, a font's file and the text of waivers have one answer.
 use Rattle.std.proofs.Common.{◌≡◌, ◌++◌, ℕ, Bool, List, [], ◌∷◌, Option, None, Some, Result, Ok, Err, ap, ap₂, refl, subst, sym, ◌∙◌}
 use Rattle.std.specs.Option.{is_some}
 use Rattle.clap.specs.Words.{Text}
@@ -26,7 +26,7 @@ use Rattle.t1draw.specs.Laws.{Answer, HasNoOtherAnswer, IsAnswerAt, IsAnswerTo, 
 use Rattle.t1draw.specs.Laws.Answer.{Files, Picture}
 use Rattle.t1draw.specs.declared.options.Extent.{Extent}
 use Rattle.t1draw.specs.declared.options.Extent.TheVariants as extent
-use Rattle.t1draw.specs.declared.options.Options.{Options}
+use Rattle.t1draw.specs.declared.options.DrawOptions.{DrawOptions}
 
 -- ---- the answer
 
@@ -113,13 +113,13 @@ one_some : {A : Type 0} (o : Option A) (x y : A) → o ≡ Some x → o ≡ Some
 unfolding some_or
 one_some o x y is is' = ap (some_or x) (sym is ∙ is')
 
-same_wish : (words : List Text) (options options' : Options) → AreGiven words options → AreGiven words options' → wish_of options' ≡ wish_of options
+same_wish : (words : List Text) (options options' : DrawOptions) → AreGiven words options → AreGiven words options' → wish_of options' ≡ wish_of options
 same_wish words options options' given given' =
     let edition = same_edition _ options'.edition options.edition given'.edition given.edition in
     let asked = one_some (asked_in (given_by words)) (asked_value options'.asked) (asked_value options.asked) given'.asked given.asked in
     rw (edition, asked) refl
 
-same_asking : (words : List Text) (options options' : Options) → AreGiven words options → AreGiven words options'
+same_asking : (words : List Text) (options options' : DrawOptions) → AreGiven words options → AreGiven words options'
     → asks_waivers drawing options' ≡ asks_waivers drawing options
 same_asking words options options' given given' =
     ap is_some (given'.waive ∙ sym given.waive)

@@ -15,7 +15,7 @@ use Rattle.t1draw.specs.declared.options.Asked.{Asked}
 use Rattle.t1draw.specs.declared.options.Asked.TheVariants as asked
 use Rattle.t1draw.specs.declared.options.Extent.{Extent}
 use Rattle.t1draw.specs.declared.options.Extent.TheVariants.{All, Fault, UpTo}
-use Rattle.t1draw.specs.declared.options.Options.{Options}
+use Rattle.t1draw.specs.declared.options.DrawOptions.{DrawOptions}
 
 -- ---- the arguments
 
@@ -128,7 +128,7 @@ abbrev pub font_in : GivenValue → Option Text
 font_in given = if given.faulty then Some given.word else given.font
 
 -- The options are those that the words give.
-pub record AreGiven (words : List Text) (options : Options) : Type 0 where
+pub record AreGiven (words : List Text) (options : DrawOptions) : Type 0 where
   pub edition : IsEditionOrFirst (first_of (codes "edition") (matches_of t1draw words)) options.edition
   pub waive : option_map string_bytes options.waive ≡ first_of (codes "waive") (matches_of t1draw words)
   pub fitting : wrong_in (given_by words) ≡ None
@@ -136,7 +136,7 @@ pub record AreGiven (words : List Text) (options : Options) : Type 0 where
   pub font : option_map string_bytes options.font ≡ font_in (given_by words)
 
 -- They are, and clap's rules find no fault in the words.
-pub record AreTaken (words : List Text) (options : Options) : Type 0 where
+pub record AreTaken (words : List Text) (options : DrawOptions) : Type 0 where
   pub given : AreGiven words options
   pub sound : fault_of t1draw words ≡ []
 

@@ -22,7 +22,7 @@ use Rattle.t1draw.specs.CommandLine.{AskedValue, all_faulty, asked_value, one_gl
 use Rattle.t1draw.specs.Folders.{FolderFile, faulty_glyphs, folder_text, index_file, picture_name_of}
 use Rattle.t1draw.specs.declared.options.Extent.{Extent}
 use Rattle.t1draw.specs.declared.options.Extent.TheVariants as extent
-use Rattle.t1draw.specs.declared.options.Options.{Options}
+use Rattle.t1draw.specs.declared.options.DrawOptions.{DrawOptions}
 
 -- The program's name, before what it prints.
 abbrev pub program : List ℕ
@@ -125,5 +125,5 @@ abbrev pub DrawsAsked : AskedValue → FontValue → Edition → List Waiver →
 DrawsAsked (one_glyph name wanted) font edition waivers sinks sinks' status = DrawsGlyph font edition waivers name wanted sinks sinks' status
 DrawsAsked (all_faulty folder) font edition waivers sinks sinks' status = DrawsFolder font edition waivers sinks sinks' status
 
-abbrev pub Draws : Options → FontValue → List Waiver → Sinks → Sinks → Status → Type 0
+abbrev pub Draws : DrawOptions → FontValue → List Waiver → Sinks → Sinks → Status → Type 0
 Draws options font waivers sinks sinks' status = DrawsAsked (asked_value options.asked) font options.edition waivers sinks sinks' status

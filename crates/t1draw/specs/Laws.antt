@@ -22,7 +22,7 @@ use Rattle.t1draw.specs.Draws.{AreFiles, fault_for, subject}
 use Rattle.t1draw.specs.Folders.{FolderFile, is_small, spelled}
 use Rattle.t1draw.specs.declared.options.Extent.{Extent}
 use Rattle.t1draw.specs.declared.options.Extent.TheVariants as extent
-use Rattle.t1draw.specs.declared.options.Options.{Options}
+use Rattle.t1draw.specs.declared.options.DrawOptions.{DrawOptions}
 
 -- What is answered where memory is there and no device fails: a picture, the files of a folder, why the font or the waivers aren't read,
 -- or that the font has no glyph of the name, or the report no such fault.
@@ -38,7 +38,7 @@ pub record Wish : Type 0 where
   pub edition : Edition
   pub asked : AskedValue
 
-abbrev pub wish_of : Options → Wish
+abbrev pub wish_of : DrawOptions → Wish
 wish_of options = record { edition = options.edition; asked = asked_value options.asked }
 
 -- A font, with the edition and the waivers that count.
@@ -88,17 +88,17 @@ abbrev pub waived_by : Edition → Bool → List ℕ → Result (List Waiver) Re
 waived_by edition asked text = if asked then waivers_in edition text else Ok []
 
 -- This is answered to options, the bytes of the font's file and the text of the waivers.
-abbrev pub IsAnswer : Options → List ℕ → List ℕ → Answer → Type 0
+abbrev pub IsAnswer : DrawOptions → List ℕ → List ℕ → Answer → Type 0
 IsAnswer options file text answer = IsAnswerTo (wish_of options) (font_of file) (waived_by (wish_of options).edition (asks_waivers drawing options) text) answer
 
 -- There is an answer.
 abbrev pub HasAnAnswer : Type 0
-HasAnAnswer = (options : Options) (file text : List ℕ) → (answer : Answer) × IsAnswer options file text answer
+HasAnAnswer = (options : DrawOptions) (file text : List ℕ) → (answer : Answer) × IsAnswer options file text answer
 
--- Options that the same words give have no two answers for the same bytes.
+-- DrawOptions that the same words give have no two answers for the same bytes.
 abbrev pub HasNoOtherAnswer : Type 0
 HasNoOtherAnswer =
-    (words : List Text) (options options' : Options) (file text : List ℕ) (a b : Answer)
+    (words : List Text) (options options' : DrawOptions) (file text : List ℕ) (a b : Answer)
     → AreGiven words options → AreGiven words options'
     → IsAnswer options file text a → IsAnswer options' file text b → a ≡ b
 

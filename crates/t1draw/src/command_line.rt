@@ -10,7 +10,7 @@ ghost use Rattle.t1draw.specs.Given.{IsUsageOf, given_value};
 use crate::PROGRAM;
 use crate::complaint::{Complaint, complaint_text};
 use crate::glyph_word::name_in;
-use crate::options::{Asked, Extent, Options};
+use crate::options::{Asked, Extent, DrawOptions};
 use crate::running::show;
 use clap::{Arg, ArgAction, ArgMatches, Command};
 use std::alloc::{AllocError, Global};
@@ -99,14 +99,14 @@ pub(crate) struct Given<'a> {
     pub(crate) font: Option<&'a str>,
 }
 
-impl Program for Options {
+impl Program for DrawOptions {
     ghost meaning = { drawing };
 
     fn name() -> &'static str {
         PROGRAM
     }
 
-    fn read_words<S: AsStr>(alloc: Global, words: &[S]) -> Result<Options, UsageError> {
+    fn read_words<S: AsStr>(alloc: Global, words: &[S]) -> Result<DrawOptions, UsageError> {
         read_words(alloc, words)
     }
 
@@ -135,7 +135,7 @@ impl Program for Options {
 }
 
 /// Reads the words of the command line, the program's name first.
-pub fn read_words<S: AsStr>(alloc: Global, words: &[S]) -> Result<Options, UsageError>
+pub fn read_words<S: AsStr>(alloc: Global, words: &[S]) -> Result<DrawOptions, UsageError>
     ensures taken { IfOk result (AreTaken (map S.text words.now)) }
     ensures untaken { IfErr result (AreUntaken (map S.text words.now)) }
 {
@@ -150,7 +150,7 @@ pub fn read_words<S: AsStr>(alloc: Global, words: &[S]) -> Result<Options, Usage
         return Err(usage_error(alloc, Complaint::BadName)?);
     };
     let font = owned(alloc, font_in(&given))?;
-    Ok(Options {
+    Ok(DrawOptions {
         edition,
         waive,
         asked,

@@ -29,7 +29,7 @@ mod spelling;
 
 use crate::command_line::read_words;
 use crate::files::Files;
-use crate::options::{Asked, Options};
+use crate::options::{Asked, DrawOptions};
 use std::alloc::Global;
 use std::fs;
 use std::io::BufWriter;
@@ -101,7 +101,7 @@ fn run<W: Sink, E: Sink>(
     out: &mut W,
     errors: &mut E,
 ) -> Status {
-    let answered = answer::<Options, _, _, _, _, _, _, _>(
+    let answered = answer::<DrawOptions, _, _, _, _, _, _, _>(
         rt.alloc(),
         words,
         &mut In::new(rt.stdin()),

@@ -4,7 +4,7 @@ use t1_char::Edition;
 
 /// What is to be drawn.
 #[derive(Drop)]
-pub struct Options {
+pub struct DrawOptions {
     /// By which edition of the rule book faults are found, and how many steps count.
     pub edition: Edition,
     /// The name of the file of waivers, if there is one.

@@ -9,7 +9,7 @@ ghost use Rattle.t1draw.specs.Private.Sheets.{CanShow, DrawsAs, IsSound, TellsNo
 use crate::PROGRAM;
 use crate::drawing::{drawn, fault_for};
 use crate::folder::folder_text;
-use crate::options::{Asked, Extent, Options};
+use crate::options::{Asked, Extent, DrawOptions};
 use crate::sheet::Sheet;
 use itoa::Buffer;
 use std::alloc::Global;
@@ -25,7 +25,7 @@ use t1_run::{Failure, Status, give, tell_failure, tell_no_glyph, tell_parts};
 /// nothing is put on the output.
 pub(crate) fn show<W: Sink, E: Sink>(
     alloc: Global,
-    options: &Options,
+    options: &DrawOptions,
     font: &Font<'_>,
     waivers: &Waivers<'_>,
     out: &mut W,

@@ -4,7 +4,7 @@ use Rattle.std.specs.Io.KnownBytes.{Appends, Keeps}
 use Rattle.t1_answer.specs.Told.{program}
 use Rattle.t1_font.specs.Fonts.{FontValue}
 use Rattle.t1_io.specs.Devices.{AppendsFront, SourceState, one_more}
-use Rattle.t1_answer.specs.declared.asked.Options.{Options}
+use Rattle.t1_answer.specs.declared.asked.CheckOptions.{CheckOptions}
 use Rattle.t1_run.specs.declared.status.Status.{Status}
 use Rattle.t1_run.specs.declared.status.Status.TheVariants.{Clean, Failed, Faults, Refused}
 use Rattle.t1_report.specs.Refusals.{Refusal}
@@ -25,22 +25,22 @@ pub record Gave (answer : Answer) (result : Status) (sinks : Transition Sinks) :
   pub told : Appends sinks.old.errors.written sinks.new.errors.written answer.told
 
 -- It is so of what the font's file and the waivers are read as, where their bytes are known.
-abbrev pub IfKnown : Options → Option (List ℕ) → Option (List ℕ)
+abbrev pub IfKnown : CheckOptions → Option (List ℕ) → Option (List ℕ)
     → (Result FontValue Refusal → Result (List Waiver) Refusal → Type 0) → Type 0
 IfKnown options left text P = IfSome left (λ input. IfWaived options.edition (asks_waivers options) text (P (font_of input)))
 
 -- The answer to files that were read so was printed.
-abbrev pub Answered : Options → Status → Transition Sinks → Result FontValue Refusal → Result (List Waiver) Refusal → Type 0
+abbrev pub Answered : CheckOptions → Status → Transition Sinks → Result FontValue Refusal → Result (List Waiver) Refusal → Type 0
 Answered options result sinks read waived = (answer : Answer) × (IsAnswerTo options read waived answer × Gave answer result sinks)
 
 -- A prefix of the answer's text was written.
-abbrev pub WentOut : Options → Transition Sinks → Result FontValue Refusal → Result (List Waiver) Refusal → Type 0
+abbrev pub WentOut : CheckOptions → Transition Sinks → Result FontValue Refusal → Result (List Waiver) Refusal → Type 0
 WentOut options sinks read waived =
     (answer : Answer)
     × (IsAnswerTo options read waived answer × AppendsFront sinks.old.out.written sinks.new.out.written answer.output)
 
 -- The source of waivers is as it was, unless they are requested and the font was read.
-pub record IsSpared (options : Options) (source waivers : Transition SourceState) : Type 0 where
+pub record IsSpared (options : CheckOptions) (source waivers : Transition SourceState) : Type 0 where
   pub unasked : asks_waivers options ≡ false → waivers.new ≡ waivers.old
   pub unread : source.new.failed ≡ true → waivers.new ≡ waivers.old
   pub refused : IfSome source.old.left (λ input. (reason : Refusal) → font_of input ≡ Err reason → waivers.new ≡ waivers.old)
@@ -51,7 +51,7 @@ ReadFailed source waivers = (source.new.failed ≡ true) ⊎ (waivers.new.failed
 
 -- Status 0, 1 or 2: the bytes and the options decide what was printed on the output and on standard error, and
 -- nothing waits on the output.
-pub record IsDecided (options : Options) (source waivers : Transition SourceState) (sinks : Transition Sinks) (result : Status) : Type 0 where
+pub record IsDecided (options : CheckOptions) (source waivers : Transition SourceState) (sinks : Transition Sinks) (result : Status) : Type 0 where
   pub answer : IfKnown options source.old.left waivers.old.left (Answered options result sinks)
   pub nothing_waits : sinks.old.out.flushed ≡ true → sinks.new.out.flushed ≡ true
 
@@ -62,7 +62,7 @@ pub record IsFlushed (sinks : Transition Sinks) : Type 0 where
 
 -- Status 3: the reason is printed, if it can be (that no glyph has the name is an answer). What was written is a
 -- prefix of the answer's text, and nothing was where the output didn't fail.
-pub record HasFailed (options : Options) (source waivers : Transition SourceState) (sinks : Transition Sinks) (result : Status) : Type 0 where
+pub record HasFailed (options : CheckOptions) (source waivers : Transition SourceState) (sinks : Transition Sinks) (result : Status) : Type 0 where
   pub read_failed : ReadFailed source waivers → sinks.new.errors.failed ≡ false
       → Appends sinks.old.errors.written sinks.new.errors.written (read_failed_line program)
   pub write_failed : sinks.new.out.failed ≡ true → sinks.new.errors.failed ≡ false
@@ -77,7 +77,7 @@ pub record HasFailed (options : Options) (source waivers : Transition SourceStat
   pub unflushed : sinks.new.out.flushes ≡ sinks.old.out.flushes
 
 -- The facts, by the status. A run that begins with sources and sinks of which no call has failed keeps each of them.
-pub record Promises (options : Options) (source waivers : Transition SourceState) (sinks : Transition Sinks) (result : Status) : Type 0 where
+pub record Promises (options : CheckOptions) (source waivers : Transition SourceState) (sinks : Transition Sinks) (result : Status) : Type 0 where
   -- The status is 3 wherever a device failed.
   pub broken : ReadFailed source waivers ⊎ ((sinks.new.out.failed ≡ true) ⊎ (sinks.new.errors.failed ≡ true)) → result ≡ Failed
   pub decided : result ≢ Failed → IsDecided options source waivers sinks result
@@ -91,6 +91,6 @@ pub record Promises (options : Options) (source waivers : Transition SourceState
 -- Each way in which a run ends keeps them.
 abbrev pub RunsKeepPromises : Type 0
 RunsKeepPromises =
-    (options : Options) (source waivers : Transition SourceState) (sinks : Transition Sinks) (result : Status)
+    (options : CheckOptions) (source waivers : Transition SourceState) (sinks : Transition Sinks) (result : Status)
     → waivers.old.failed ≡ false → sinks.old.out.failed ≡ false → sinks.old.errors.failed ≡ false
     → Ends checking options source waivers sinks result → Promises options source waivers sinks result

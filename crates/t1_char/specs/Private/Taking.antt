@@ -3,8 +3,8 @@ use Rattle.std.specs.Prelude.{◌≡◌, ◌⊎◌, ℕ, zero, suc, ℤ, ◌+◌
 use Rattle.t1_char.specs.declared.command.Command.{Command as Commands}
 use Rattle.t1_char.specs.declared.cursor.Cursor.{Cursor}
 use Rattle.t1_char.specs.declared.cursor.Ahead.{Ahead}
-use Rattle.t1_char.specs.declared.lines.Drawn.{Drawn}
-use Rattle.t1_char.specs.declared.lines.Drawn.TheVariants.{Open}
+use Rattle.t1_char.specs.declared.lines.DrawnPath.{DrawnPath}
+use Rattle.t1_char.specs.declared.lines.DrawnPath.TheVariants.{Open}
 use Rattle.t1_char.specs.declared.lines.Passing.{Passing}
 use Rattle.t1_char.specs.declared.lines.Way.{Way}
 use Rattle.t1_char.specs.declared.taking.Lines.{Lines}
@@ -72,12 +72,12 @@ abbrev pub closepath_byte : ℕ
 closepath_byte = 9
 
 -- It is one that is passed after what was drawn.
-pub record IsLedAfter (what : Passing) (drawn : Drawn) (token : CharToken) (numbers : List ℤ) (way : Way) : Type 0 where
+pub record IsLedAfter (what : Passing) (drawn : DrawnPath) (token : CharToken) (numbers : List ℤ) (way : Way) : Type 0 where
   pub by : IsLedBy (is_led what) token numbers way
   pub from : can_follow by.command drawn ≡ true
 
 -- The first byte is that of such a command, which it alone writes.
-abbrev pub IsLedFirst : Passing → Drawn → Option ℕ → List ℤ → Way → Type 0
+abbrev pub IsLedFirst : Passing → DrawnPath → Option ℕ → List ℤ → Way → Type 0
 IsLedFirst what drawn None numbers way = ⊥
 IsLedFirst what drawn (Some first) numbers way = ((rest : List ℕ) → IsLedAfter what drawn (token_at first rest) numbers way) × (more_of first ≡ 0)
 

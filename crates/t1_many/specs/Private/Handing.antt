@@ -13,7 +13,7 @@ use Rattle.t1_report.specs.Waivers.{Waiver}
 -- The lines of a report that aren't omitted.
 abbrev pub HandsLines : Recipient Handed (Option Lost) → (FaultValue → Verdict) → List ℕ → CheckedFont → List Waiver → Result FontClass Lost
     → Type 0
-HandsLines form judges name font waivers taken =
+HandsLines printer judges name font waivers taken =
     (faults : List FaultValue) × IsReport font waivers faults
-    × HandsOn form.takes form.old form.new (lines_by judges name font waivers faults) (lost_of taken)
+    × HandsOn printer.takes printer.old printer.new (lines_by judges name font waivers faults) (lost_of taken)
     × IfOk taken (λ found. found ≡ found_by judges faults)

@@ -15,7 +15,7 @@ use Rattle.t1_char.specs.Steps.{StepView, is_callsubr, is_return}
 use Rattle.t1_char.specs.declared.command.Command.{Command as Commands}
 use Rattle.t1_char.specs.declared.command.Command.TheVariants.{Rlineto, Hlineto, Vlineto, Rrcurveto, Vhcurveto, Hvcurveto, Closepath, Rmoveto, Hmoveto, Vmoveto}
 use Rattle.t1_char.specs.declared.edition.Edition.{Edition}
-use Rattle.t1_char.specs.declared.lines.Drawn.TheVariants.{Nothing, Open}
+use Rattle.t1_char.specs.declared.lines.DrawnPath.TheVariants.{Nothing, Open}
 use Rattle.t1_char.specs.declared.lines.Way.{Way}
 use Rattle.t1_char.specs.declared.token.CharToken.TheVariants.{Command}
 use Rattle.t1_rules.specs.declared.step_rules.flex.Point.{Point}

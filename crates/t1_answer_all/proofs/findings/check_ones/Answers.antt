@@ -11,13 +11,13 @@ returns-in-ReportAll g c =
 
 pub returns-in-ReportNew : goal.returns-in-ReportNew
 returns-in-ReportNew g c =
-    beyond_fonts _ (λ t. t.form) (λ t. t.readings.items) (λ t. t.rules) (λ t. t.known)
+    beyond_fonts _ (λ t. t.printer) (λ t. t.readings.items) (λ t. t.rules) (λ t. t.known)
     (λ (b : Borrowed) key. min (count_at b.known.now key) (2 ^ 64 - 1)) _ _ _ _ _ c.in-ReportNew.known.now (ap mode_value c.in-ReportNew.is)
     refl refl c.new-in-ReportNew.ensures.items c.new-in-ReportNew-2.ensures c.check_all-status.ensures
 
 pub returns-in-UpdateBaseline : goal.returns-in-UpdateBaseline
 returns-in-UpdateBaseline g c =
-    anew_fonts _ (λ t. t.form) (λ t. t.readings.items) (λ t. t.rules) _ _ _ _ _ c.in-UpdateBaseline.field-0.now (ap mode_value c.in-UpdateBaseline.is)
+    anew_fonts _ (λ t. t.printer) (λ t. t.readings.items) (λ t. t.rules) _ _ _ _ _ c.in-UpdateBaseline.field-0.now (ap mode_value c.in-UpdateBaseline.is)
     refl c.new-in-UpdateBaseline.ensures.items c.new-in-UpdateBaseline-2.ensures c.check_all-status-in-UpdateBaseline.ensures
 
 pub returns-in-WriteWaivers : goal.returns-in-WriteWaivers

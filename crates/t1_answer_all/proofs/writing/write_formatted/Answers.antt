@@ -19,9 +19,9 @@ returns g c =
       errors = g.E.Sink.state c.new-form.result.errors;
     })
     (record {
-      formatter = c.check_fonts-checked.result.form.formatter;
-      out = g.W.Sink.state c.check_fonts-checked.result.form.out;
-      errors = g.E.Sink.state c.check_fonts-checked.result.form.errors;
+      formatter = c.check_fonts-checked.result.printer.formatter;
+      out = g.W.Sink.state c.check_fonts-checked.result.printer.out;
+      errors = g.E.Sink.state c.check_fonts-checked.result.printer.errors;
     })
     (rw (c.new-form.ensures.formatter, c.new-form.ensures.out) c.in_default.ensures)
     (ap g.E.Sink.state c.new-form.ensures.errors) (ap g.E.Sink.state c.into_parts-formatter.ensures.errors) _ _

@@ -5,7 +5,7 @@ use Rattle.t1_printers.specs.RuleGroups.{values_of}
 pub returns : goal.returns
 returns g c =
     let grouped = c.new-grouped.result in
-    let left = c.check_fonts-checked.result.form in
+    let left = c.check_fonts-checked.result.printer in
     let room = (g.T.GroupForm.writing c.args.form).room in
     let seen = fonts-seen (λ f. f.form) g.T.GroupForm.writing
     (λ w f. record { out = g.W.Sink.state f.out; errors = g.E.Sink.state f.errors; groups = values_of w.room f.groups }) _ grouped left _ _

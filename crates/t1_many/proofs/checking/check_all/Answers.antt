@@ -22,9 +22,9 @@ pub loop-name-preserved : goal.loop-name-preserved
 loop-name-preserved g c =
     subst (λ (w : Status). HaveGone g.T.Policy.takes g.F.FontFiles.calls c.args.beside c.args.edition
     (map string_bytes (take (c.loop-name.name-index + 1) c.args.names.now)) c.args.files.now c.check_one.new.files
-    c.args.recipient.now c.check_one.new.recipient w) (sym (c.worse-worst.ensures ∙ ap (worse c.loop-name.worst) c.status_of.ensures))
+    c.args.policy.now c.check_one.new.policy w) (sym (c.worse-worst.ensures ∙ ap (worse c.loop-name.worst) c.status_of.ensures))
     (subst (λ (ns : List (List ℕ)). HaveGone g.T.Policy.takes g.F.FontFiles.calls c.args.beside c.args.edition ns c.args.files.now
-    c.check_one.new.files c.args.recipient.now c.check_one.new.recipient (worse c.loop-name.worst (status_of_found c.in_ok-found.found)))
+    c.check_one.new.files c.args.policy.now c.check_one.new.policy (worse c.loop-name.worst (status_of_found c.in_ok-found.found)))
     (sym (names_next string_bytes c.args.names.now c.loop-name.name-index c.name-item.result c.loop-name-test.true c.name-item.is))
     (one_gone g.T.Policy.takes g.F.FontFiles.calls c.args.beside c.args.edition
     (map string_bytes (take c.loop-name.name-index c.args.names.now)) (string_bytes c.name-item.result) _ _ _ _ _ _ c.loop-name.worst
@@ -35,4 +35,4 @@ returns g c =
     let whole : take c.loop-name.name-index c.args.names.now ≡ c.args.names.now = take_all c.loop-name.name-index c.args.names.now c.loop-name-test.false in
     all_gone g.T.Policy.takes g.F.FontFiles.calls c.args.beside c.args.edition (map string_bytes c.args.names.now) _ _ _ _ c.loop-name.worst
     (subst (λ (ns : List (String Global)). HaveGone g.T.Policy.takes g.F.FontFiles.calls c.args.beside c.args.edition (map string_bytes ns)
-    c.args.files.now c.loop-name.files c.args.recipient.now c.loop-name.recipient c.loop-name.worst) whole c.loop-name.invariant)
+    c.args.files.now c.loop-name.files c.args.policy.now c.loop-name.policy c.loop-name.worst) whole c.loop-name.invariant)

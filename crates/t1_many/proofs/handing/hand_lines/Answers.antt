@@ -49,15 +49,15 @@ returns-in_err-line g c =
     c.loop-fault.invariant.font c.in-Some.ensures.next) in (
       some.0,
       some.1,
-      subst (λ (lost : Option Lost). HandsOn g.F.Printer.takes c.args.form.now c.line.new.self
+      subst (λ (lost : Option Lost). HandsOn g.F.Printer.takes c.args.printer.now c.line.new.self
           (lines_by judges c.args.name.now font c.args.waivers.now some.0) lost)
           (sym (lost_same {T = FontClass} c.from_residual.result c.in_err-line.field-0.0 c.from_residual.ensures.1))
-          (one_failed judges c.args.name.now font c.args.waivers.now g.F.Printer.takes c.loop-fault._fault c.loop-fault.walk.mark c.args.form.now
-          c.loop-fault.form c.loop-fault.found c.loop-fault.invariant.gone c.marks_count_the_faults_given.ensures.start
+          (one_failed judges c.args.name.now font c.args.waivers.now g.F.Printer.takes c.loop-fault._fault c.loop-fault.walk.mark c.args.printer.now
+          c.loop-fault.printer c.loop-fault.found c.loop-fault.invariant.gone c.marks_count_the_faults_given.ensures.start
           c.marks_count_the_faults_given.ensures.given c.requires.few c.requires.few_waivers some.0 some.1 (fault_value c.in-Some.fault)
           c.line.new.self c.in_err-line.field-0.0
           (ap is_told (sym c.judge-verdict.ensures) ∙ sym c.is_told.ensures ∙ c.if-is_told.true) next
-          (subst (λ (f : CheckedFont). g.F.Printer.takes c.loop-fault.form c.line.new.self
+          (subst (λ (f : CheckedFont). g.F.Printer.takes c.loop-fault.printer c.line.new.self
           (line c.args.name.now f c.args.waivers.now (fault_value c.in-Some.fault)) (Some c.in_err-line.field-0.0)) c.loop-fault.invariant.reasons
           c.in_err-line.ensures.took)),
       no_ok {T = FontClass} {E = Lost} c.from_residual.result _ _ c.from_residual.ensures.1,
@@ -79,28 +79,28 @@ loop-fault-preserved g c =
         | else-is_told w ↦ w.reasons-is ∙ c.loop-fault.invariant.reasons
       ];
       gone = subst (λ (mark : Mark). HaveGone judges c.args.name.now font c.args.waivers.now g.F.Printer.takes (c.loop-fault._fault + 1) mark
-          c.args.form.now c.if-is_told.form c.found_with-found.result)
+          c.args.printer.now c.if-is_told.printer c.found_with-found.result)
           (sym (ap (λ (w : WalkView). w.mark) c.in-Some.ensures.state))
           (subst (λ (found : FontClass). HaveGone judges c.args.name.now font c.args.waivers.now g.F.Printer.takes (c.loop-fault._fault + 1)
-          (mark_of (fault_value c.in-Some.fault)) c.args.form.now c.if-is_told.form found)
+          (mark_of (fault_value c.in-Some.fault)) c.args.printer.now c.if-is_told.printer found)
           (sym (c.found_with-found.ensures ∙ ap (λ (v : Verdict). found_with v c.loop-fault.found) c.judge-verdict.ensures))
           (elim c.if-is_told.branch [
             | then-is_told+in_ok-line w ↦
-                subst (λ (form : g.row.F.Denot). HaveGone judges c.args.name.now font c.args.waivers.now g.F.Printer.takes (c.loop-fault._fault + 1)
-                (mark_of (fault_value c.in-Some.fault)) c.args.form.now form (found_with (judges (fault_value c.in-Some.fault)) c.loop-fault.found))
-                (sym w.form-is)
-                (one_gone judges c.args.name.now font c.args.waivers.now g.F.Printer.takes c.loop-fault._fault c.loop-fault.walk.mark c.args.form.now
-                c.loop-fault.form c.loop-fault.found c.loop-fault.invariant.gone (fault_value c.in-Some.fault) next w.line.new.self
+                subst (λ (printer : g.row.F.Denot). HaveGone judges c.args.name.now font c.args.waivers.now g.F.Printer.takes (c.loop-fault._fault + 1)
+                (mark_of (fault_value c.in-Some.fault)) c.args.printer.now printer (found_with (judges (fault_value c.in-Some.fault)) c.loop-fault.found))
+                (sym w.printer-is)
+                (one_gone judges c.args.name.now font c.args.waivers.now g.F.Printer.takes c.loop-fault._fault c.loop-fault.walk.mark c.args.printer.now
+                c.loop-fault.printer c.loop-fault.found c.loop-fault.invariant.gone (fault_value c.in-Some.fault) next w.line.new.self
                 (ap is_told (sym c.judge-verdict.ensures) ∙ sym c.is_told.ensures ∙ w.if-is_told.true)
-                (subst (λ (f : CheckedFont). g.F.Printer.takes c.loop-fault.form w.line.new.self
+                (subst (λ (f : CheckedFont). g.F.Printer.takes c.loop-fault.printer w.line.new.self
                 (line c.args.name.now f c.args.waivers.now (fault_value c.in-Some.fault)) None) c.loop-fault.invariant.reasons
                 w.in_ok-line.ensures.took))
             | else-is_told w ↦
-                subst (λ (form : g.row.F.Denot). HaveGone judges c.args.name.now font c.args.waivers.now g.F.Printer.takes (c.loop-fault._fault + 1)
-                (mark_of (fault_value c.in-Some.fault)) c.args.form.now form (found_with (judges (fault_value c.in-Some.fault)) c.loop-fault.found))
-                (sym w.form-is)
-                (one_passed judges c.args.name.now font c.args.waivers.now g.F.Printer.takes c.loop-fault._fault c.loop-fault.walk.mark c.args.form.now
-                c.loop-fault.form c.loop-fault.found c.loop-fault.invariant.gone (fault_value c.in-Some.fault) next
+                subst (λ (printer : g.row.F.Denot). HaveGone judges c.args.name.now font c.args.waivers.now g.F.Printer.takes (c.loop-fault._fault + 1)
+                (mark_of (fault_value c.in-Some.fault)) c.args.printer.now printer (found_with (judges (fault_value c.in-Some.fault)) c.loop-fault.found))
+                (sym w.printer-is)
+                (one_passed judges c.args.name.now font c.args.waivers.now g.F.Printer.takes c.loop-fault._fault c.loop-fault.walk.mark c.args.printer.now
+                c.loop-fault.printer c.loop-fault.found c.loop-fault.invariant.gone (fault_value c.in-Some.fault) next
                 (ap is_told (sym c.judge-verdict.ensures) ∙ sym c.is_told.ensures ∙ w.if-is_told.false))
           ]));
     }
@@ -110,7 +110,7 @@ returns-after-loop-fault g c =
     let font = checked c.args.font.now c.args.sidebearings.now.edition in
     let some = c.each_font_has_a_report.ensures font c.args.waivers.now in
     let all = most_gone (g.J.Judge.judges c.args.judge.now c.args.font.now c.args.waivers.now) c.args.name.now font c.args.waivers.now g.F.Printer.takes
-    c.loop-fault._fault c.loop-fault.walk.mark c.args.form.now c.loop-fault.form c.loop-fault.found c.loop-fault.invariant.gone
+    c.loop-fault._fault c.loop-fault.walk.mark c.args.printer.now c.loop-fault.printer c.loop-fault.found c.loop-fault.invariant.gone
     c.marks_count_the_faults_given.ensures.start c.marks_count_the_faults_given.ensures.given c.requires.few c.requires.few_waivers
     some.0 some.1 (omega (arith, c.loop-fault-test.false)) in
     (some.0, some.1, all.0, all.1)

@@ -9,5 +9,5 @@ invariant-loop-fault g l = record {
   waivers : l.walk.waivers ≡ l.waivers;
   reasons : l.reasons ≡ checked l.font l.sidebearings.edition;
   gone : HaveGone (g.J.Judge.judges l.judge l.font l.waivers) l.name (checked l.font l.sidebearings.edition) l.waivers g.F.Printer.takes
-      l._fault l.walk.mark l.fn.form l.form l.found;
+      l._fault l.walk.mark l.fn.printer l.printer l.found;
 }
