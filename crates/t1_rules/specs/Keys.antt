@@ -1,7 +1,8 @@
 -- The keys that a font's faults are at: their numbers, what they are called, and how many indexes each has. Key 0
 -- is the file. Keys 4, 20 and 21 are entries of a form of their own. The others are plain keys (Type 1 Font
 -- Format, chapters 2 and 5).
-use Rattle.std.specs.Prelude.{ℕ, ◌+◌, min, max, if◌then◌else◌, List, [], ◌∷◌, codes, length, map, slice_index_or}
+use Rattle.std.specs.Prelude.{ℕ, ◌+◌, ◌==◌, min, max, if◌then◌else◌, Option, List, [], ◌∷◌, codes, length, map, slice_index_or}
+use Rattle.std.specs.List.{find}
 use Rattle.t1_char.specs.Editions.{has_later_rules}
 use Rattle.t1_char.specs.declared.edition.Edition.{Edition}
 use Rattle.t1_font.specs.declared.key.Key.{Key}
@@ -10,6 +11,8 @@ use Rattle.t1_font.specs.Keys.{index_of}
 use Rattle.t1_font.specs.Fonts.{FontValue}
 use Rattle.t1_font.specs.Values.{Value, absent}
 use Rattle.t1_font.specs.Bounds.{code_count}
+use Rattle.t1_rules.specs.declared.keys.KeyKind.{KeyKind}
+use Rattle.t1_rules.specs.declared.keys.KeyKind.TheVariants.{File, Value as ValueOf, Encoding, Subrs, CharStrings}
 
 -- How many keys there are, and how many indexes a key has at most.
 abbrev pub key_count : ℕ
@@ -58,6 +61,18 @@ key_number FontMatrix = 22
 key_number FontBBox = 23
 key_number Xuid = 24
 key_number LanguageGroup = 25
+
+-- The number of the key that a kind is.
+abbrev pub kind_number : KeyKind → ℕ
+kind_number File = file_key
+kind_number (ValueOf key) = key_number key
+kind_number Encoding = encoding_key
+kind_number Subrs = subrs_key
+kind_number CharStrings = glyphs_key
+
+-- Which of some plain keys has a number, if one has.
+abbrev pub key_among : List Key → ℕ → Option Key
+key_among keys number = find (λ key. number == key_number key) keys
 
 -- What a font's plain key has.
 abbrev pub value_at : FontValue → Key → Value

@@ -2,7 +2,6 @@
 -- these only that there is such a relation.
 pub mod BookRows
 pub mod Edges
-pub mod KeyKinds
 pub mod KeyTests
 pub mod Quiet
 pub mod Seac

@@ -2,20 +2,19 @@
 
 ghost use Rattle.std.specs.Prelude.{◌≡◌, ℕ};
 ghost use Rattle.t1_rules.specs.FontRules.{first_font_rules, font_rules, later_font_rules, violated};
-ghost use Rattle.t1_rules.specs.Keys.{key_number};
+ghost use Rattle.t1_rules.specs.Keys.{key_number, kind_number};
 ghost use Rattle.t1_rules.specs.Mask.{has};
-ghost use Rattle.t1_rules.specs.Private.KeyKinds.{kind_number};
 
-mod dictionaries;
+pub(crate) mod dictionaries;
 pub(crate) mod encoding;
 mod entries;
 mod file;
 mod glyphs;
 pub(crate) mod hints;
-mod ids;
-mod stems;
-mod subrs;
-mod values;
+pub(crate) mod ids;
+pub(crate) mod stems;
+pub(crate) mod subrs;
+pub(crate) mod values;
 pub(crate) mod zones;
 
 use crate::keys::{KeyKind, kind_of};

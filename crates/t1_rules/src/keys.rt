@@ -1,11 +1,10 @@
 //! The keys that a font's faults are at: what they are called, what is there, and how many indexes each has. Type 1
 //! Font Format 1.1, chapters 2 and 5.
 
-ghost use Rattle.std.specs.Prelude.{◌≡◌, ◌≤◌, ◌+◌, IfNone, IfSome, map};
+ghost use Rattle.std.specs.Prelude.{◌≡◌, ◌≤◌, ◌+◌, ◌==◌, IfNone, IfSome, map};
 ghost use Rattle.std.specs.List.{range_with_len};
 ghost use Rattle.t1_font.specs.Fonts.{FontValue};
-ghost use Rattle.t1_rules.specs.Keys.{glyph_places, key_count, key_number, key_text_of, key_texts, list_limit_of, of_later, places_of, subr_places};
-ghost use Rattle.t1_rules.specs.Private.KeyKinds.{kind_number};
+ghost use Rattle.t1_rules.specs.Keys.{glyph_places, key_among, key_count, key_number, key_text_of, key_texts, kind_number, list_limit_of, of_later, places_of, subr_places};
 
 use crate::font_rules::hints::list_limit_of;
 use t1_char::Edition;
@@ -21,8 +20,8 @@ pub(crate) const XUID_PLACES: u32 = 16;
 pub const INDEXES: u32 = 65_536;
 
 /// What is at a key.
-#[derive(Clone, Copy)]
-pub(crate) enum KeyKind {
+#[derive(Clone, Copy, Debug, PartialEq, Eq)]
+pub enum KeyKind {
     /// The file as a whole.
     File,
     /// The value of a plain key.
@@ -96,6 +95,23 @@ pub(crate) fn kind_of(key: u8) -> Option<KeyKind>
         Some(row) => Some(row.1),
         None => None,
     }
+}
+
+/// Whether this is at a key.
+pub fn has_kind(key: u8, kind: KeyKind) -> bool
+    ensures { result ≡ (key == kind_number kind) }
+{
+    match kind_of(key) {
+        Some(own) => own == kind,
+        None => false,
+    }
+}
+
+/// Returns which of some plain keys a key is, if it is one of them.
+pub fn key_among(keys: &[Key], key: u8) -> Option<Key>
+    ensures { result ≡ key_among keys.now key }
+{
+    keys.iter().copied().find(|own| has_kind(key, KeyKind::Value(*own)))
 }
 
 /// How many indexes of a key can have a fault by an edition, from 0 on: there is none past them.

@@ -56,12 +56,22 @@ mod watch;
 mod watches;
 
 pub use book::{rule_code, rule_level, rule_text};
+pub use font_rules::dictionaries::{is_malformed, is_no_group};
 pub use font_rules::encoding::encodes_missing;
 pub use font_rules::font_faults;
-pub use font_rules::hints::numbers_at;
-pub use font_rules::zones::{distance, scale};
+pub use font_rules::hints::{
+    falls_at, has_too_many, is_of_another_kind, is_past_fuzzes, is_past_scales, is_past_shifts,
+    list_limit_of, numbers_at, repeats_at,
+};
+pub use font_rules::ids::{is_id, is_past_range};
+pub use font_rules::stems::is_not_one_width;
+pub use font_rules::subrs::is_wrong_subr;
+pub use font_rules::values::{
+    count_in, first_in, is_sixteen_twice, is_so_many, is_the_number, is_whole,
+};
+pub use font_rules::zones::{difference, distance, has_odd_count, is_too_high, is_too_near, scale};
 pub use glyph_names::glyph_named;
-pub use keys::{INDEXES, KEYS, key_text, places};
+pub use keys::{INDEXES, KEYS, KeyKind, has_kind, key_among, key_text, places};
 pub use laws::{
     absent_entries_are_fine, arguments_count_from_the_bottom, codes_are_judged_by_their_names,
     codes_are_whole_to_255, components_are_found_by_their_names,
@@ -84,15 +94,19 @@ pub use mask::Mask;
 pub use rule::{RULE_COUNT, Rule, all_rules};
 pub use sidebearings::Sidebearings;
 pub use standard_encoding::standard_name;
-pub use step_rules::arguments::ArgumentWatcher;
+pub use step_rules::arguments::{ArgumentWatcher, is_past, quotient_is_past};
 pub use step_rules::calls::CallWatcher;
-pub use step_rules::counters::CounterWatcher;
+pub use step_rules::counters::{CounterWatcher, ends_counting};
 pub use step_rules::flex::{FlexWatcher, Point};
-pub use step_rules::othersubrs::OthersubrWatcher;
+pub use step_rules::othersubrs::{
+    OthersubrWatcher, is_counter_control, is_flex_or_hints, is_good_count,
+};
 pub use step_rules::paths::PathWatcher;
-pub use step_rules::seac::{SeacWatcher, accent_code, base_code};
-pub use step_rules::stems::{Stem, StemWatcher, are_unequal};
-pub use step_rules::tokens::{clears, closes, is_line, is_move, is_seac, sets_width};
+pub use step_rules::seac::{SeacWatcher, accent_code, base_code, is_unnamed};
+pub use step_rules::stems::{
+    MOST_STEMS, Stem, StemWatcher, are_unequal, is_stem, is_triple, keep, lies_across, stands_upright, stem_at, three_stems,
+};
+pub use step_rules::tokens::{clears, closes, is_line, is_move, is_pop, is_seac, sets_width};
 pub use step_rules::triples::{
     Triple, TripleWatcher, is_hstem, is_hstem3, is_vstem, is_vstem3, triple_of,
 };

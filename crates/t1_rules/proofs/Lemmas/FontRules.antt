@@ -11,7 +11,6 @@ use Rattle.t1_font.specs.declared.key.Key.{Key}
 use Rattle.t1_font.specs.declared.key.Key.TheVariants.{FontType, PaintType, UniqueId, PrivateUniqueId, Password, MinFeature, LenIv}
 use Rattle.t1_rules.specs.declared.keys.KeyKind.{KeyKind}
 use Rattle.t1_rules.specs.declared.keys.KeyKind.TheVariants.{File, Encoding, CharStrings}
-use Rattle.t1_rules.specs.Private.KeyKinds.{kind_number}
 use Rattle.t1_rules.specs.declared.mask.Mask.{Mask}
 use Rattle.t1_rules.specs.declared.rule.Rule.{Rule}
 use Rattle.t1_rules.specs.Book.{number_of, last_number, last_number_before}
@@ -20,7 +19,7 @@ use Rattle.t1_rules.specs.Private.KeyTests.{broken_among}
 use Rattle.t1_rules.specs.Laws.FontRules.{BrokenIsInTheBook, EarlierEditionsKnowNoLaterRule, LaterRulesChangeNoOther, RuleNumbersAreInOrder}
 use Rattle.t1_rules.specs.FontRules.{KeyTest, FontRule, first_font_rules, font_rules, later_font_rules, later_rules_in, says, violated}
 use Rattle.t1_rules.proofs.Lemmas.Book.{both, in_book}
-use Rattle.t1_rules.specs.Keys.{key_count, key_number}
+use Rattle.t1_rules.specs.Keys.{key_count, key_number, kind_number}
 
 -- The keys of all tests are less than m.
 abbrev pub keys_below : ℕ → List FontRule → Bool

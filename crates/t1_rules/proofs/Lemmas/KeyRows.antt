@@ -8,8 +8,7 @@ use Rattle.std.specs.List.{range_with_len}
 use Rattle.t1_rules.specs.declared.keys.KeyKind.{KeyKind}
 use Rattle.t1_char.specs.declared.edition.Edition.{Edition}
 use Rattle.t1_font.specs.Fonts.{FontValue}
-use Rattle.t1_rules.specs.Keys.{key_count, key_text_of, key_texts, places_by_key, places_of}
-use Rattle.t1_rules.specs.Private.KeyKinds.{kind_number}
+use Rattle.t1_rules.specs.Keys.{key_count, key_text_of, key_texts, kind_number, places_by_key, places_of}
 
 pub row_text : (table : List (Bor (List ℕ) × KeyKind)) → map (λ row. row.0.now) table ≡ key_texts → (key : ℕ) (d : Bor (List ℕ) × KeyKind)
     → key < length table → (slice_index_or table key d).0.now ≡ key_text_of key

@@ -35,7 +35,7 @@ fn has_corners_exchanged(value: &Entry, index: u32) -> bool
 }
 
 /// Whether an entry is there, and has no number or isn't numbers.
-fn is_malformed(value: &Entry) -> bool
+pub fn is_malformed(value: &Entry) -> bool
     ensures { result ≡ is_malformed (entry_view value.now) }
 {
     match value {
@@ -55,7 +55,7 @@ fn has_number_past_range(value: &Entry, index: u32) -> bool
 }
 
 /// Whether an entry is there, and is neither 0 nor 1.
-fn is_no_group(value: &Entry) -> bool
+pub fn is_no_group(value: &Entry) -> bool
     ensures { result ≡ is_no_group (entry_view value.now) }
 {
     !matches!(value, Entry::Absent) && !(is_the_number(0, value) || is_the_number(1, value))

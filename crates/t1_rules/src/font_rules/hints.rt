@@ -15,8 +15,8 @@ use crate::mask::Mask;
 use crate::rule::Rule;
 use t1_font::{BILLION, Entry, Font, Key};
 
-/// How many numbers a list of zones or stem snaps has at most.
-pub(crate) fn list_limit_of(key: Key) -> usize
+/// Returns how many numbers a list of zones or stem snaps has at most; 0 at other keys.
+pub fn list_limit_of(key: Key) -> usize
     ensures { result ≡ list_limit_of key }
 {
     match key {
@@ -45,23 +45,23 @@ fn is_of_kind(key: Key, value: &Entry) -> bool
     }
 }
 
-/// Whether a hint entry is there, and of another kind than it should be.
-pub(crate) fn is_of_another_kind(key: Key, value: &Entry, index: u32) -> bool
+/// Whether a hint entry is there, and of another kind than it should be, where the index is 0.
+pub fn is_of_another_kind(key: Key, value: &Entry, index: u32) -> bool
     ensures { result ≡ is_of_another_kind key (entry_view value.now) index }
 {
     index == 0 && !matches!(value, Entry::Absent) && !is_of_kind(key, value)
 }
 
 /// Whether a list has too many numbers, where the index is the first that is too much.
-pub(crate) fn has_too_many(key: Key, value: &Entry, index: u32) -> bool
+pub fn has_too_many(key: Key, value: &Entry, index: u32) -> bool
     ensures { result ≡ has_too_many key (entry_view value.now) index }
 {
     let limit = list_limit_of(key);
     index as usize == limit && limit < count_in(value)
 }
 
-/// Whether a number follows another here, and is less.
-pub(crate) fn falls_at(numbers: &[i64], index: usize) -> bool
+/// Whether a number of a list follows another here, and is less.
+pub fn falls_at(numbers: &[i64], index: usize) -> bool
     ensures { result ≡ falls_at numbers.now index }
 {
     0 < index && index < numbers.len() && numbers[index] < numbers[index - 1]
@@ -82,8 +82,8 @@ fn has_fraction_at(numbers: &[i64], index: usize) -> bool
     index < numbers.len() && !is_whole(numbers[index])
 }
 
-/// Whether a number follows an equal one here.
-pub(crate) fn repeats_at(numbers: &[i64], index: usize) -> bool
+/// Whether a number of a list follows an equal one here.
+pub fn repeats_at(numbers: &[i64], index: usize) -> bool
     ensures { result ≡ repeats_at numbers.now index }
 {
     0 < index && index < numbers.len() && numbers[index] == numbers[index - 1]
@@ -92,8 +92,8 @@ pub(crate) fn repeats_at(numbers: &[i64], index: usize) -> bool
 /// Half of one.
 const HALF: i64 = BILLION / 2;
 
-/// Whether a value is a number that no BlueScale has.
-fn is_past_scales(value: &Entry) -> bool
+/// Whether a value is a number that no BlueScale has: 0 or less, or above 0.5.
+pub fn is_past_scales(value: &Entry) -> bool
     ensures { result ≡ is_number_so is_past_scales (entry_view value.now) }
 {
     match value {
@@ -102,8 +102,8 @@ fn is_past_scales(value: &Entry) -> bool
     }
 }
 
-/// Whether a value is a number that no BlueShift has.
-fn is_past_shifts(value: &Entry) -> bool
+/// Whether a value is a number that no BlueShift has: negative, or with a fraction.
+pub fn is_past_shifts(value: &Entry) -> bool
     ensures { result ≡ is_number_so is_past_shifts (entry_view value.now) }
 {
     match value {
@@ -112,8 +112,8 @@ fn is_past_shifts(value: &Entry) -> bool
     }
 }
 
-/// Whether a value is a number that no BlueFuzz has.
-fn is_past_fuzzes(value: &Entry) -> bool
+/// Whether a value is a number that no BlueFuzz has: none of the whole ones from 0 to 10.
+pub fn is_past_fuzzes(value: &Entry) -> bool
     ensures { result ≡ is_number_so is_past_fuzzes (entry_view value.now) }
 {
     match value {

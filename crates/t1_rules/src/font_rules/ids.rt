@@ -15,15 +15,15 @@ use t1_font::{BILLION, Entry, Font, Key};
 /// The greatest UniqueID.
 const LAST_ID: i64 = 16_777_215;
 
-/// Whether a number is whole, from 0 to the greatest UniqueID.
-pub(crate) fn is_id(number: i64) -> bool
+/// Whether a number in units of 10^-9 is whole, from 0 to the greatest UniqueID.
+pub fn is_id(number: i64) -> bool
     ensures { result ≡ is_whole_to 16777215 number }
 {
     number >= 0 && number % BILLION == 0 && number <= LAST_ID * BILLION
 }
 
 /// Whether a UniqueID is there, and no whole number in its range.
-fn is_past_range(value: &Entry) -> bool
+pub fn is_past_range(value: &Entry) -> bool
     ensures { result ≡ is_past_range (entry_view value.now) }
 {
     match value {

@@ -15,7 +15,7 @@ use crate::rule::Rule;
 use t1_font::{Entry, Font, Key};
 
 /// Whether a value is numbers, and not one.
-fn is_not_one_width(value: &Entry) -> bool
+pub fn is_not_one_width(value: &Entry) -> bool
     ensures { result ≡ is_not_one_width (entry_view value.now) }
 {
     match value {

@@ -13,7 +13,7 @@ use t1_char::has_return;
 use t1_font::Font;
 
 /// Whether the Subr of this number is given twice, or not below the size of the array.
-fn is_wrong_subr(font: &Font<'_>, number: u32) -> bool
+pub fn is_wrong_subr(font: &Font<'_>, number: u32) -> bool
     ensures { result ≡ is_wrong_subr font.now number }
 {
     number < INDEXES

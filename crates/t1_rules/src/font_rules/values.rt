@@ -8,7 +8,7 @@ ghost use Rattle.t1_rules.specs.FontRules.Values.{count_in, first_in, is_sixteen
 use t1_font::{BILLION, Entry};
 
 /// Whether a value is this whole number.
-pub(crate) fn is_the_number(whole: u32, value: &Entry) -> bool
+pub fn is_the_number(whole: u32, value: &Entry) -> bool
     ensures { result ≡ is_the_number whole (entry_view value.now) }
 {
     match value {
@@ -18,7 +18,7 @@ pub(crate) fn is_the_number(whole: u32, value: &Entry) -> bool
 }
 
 /// Whether a value is the two numbers 16 and 16.
-pub(crate) fn is_sixteen_twice(value: &Entry) -> bool
+pub fn is_sixteen_twice(value: &Entry) -> bool
     ensures { result ≡ is_sixteen_twice (entry_view value.now) }
 {
     let Entry::Numbers { count, first } = value else {
@@ -40,8 +40,8 @@ pub(crate) fn number_or(otherwise: i64, value: &Entry) -> i64
     }
 }
 
-/// How many numbers a value has.
-pub(crate) fn count_in(value: &Entry) -> usize
+/// Returns how many numbers a value has; 0 where it is no list.
+pub fn count_in(value: &Entry) -> usize
     ensures { result ≡ count_in (entry_view value.now) }
 {
     match value {
@@ -50,8 +50,8 @@ pub(crate) fn count_in(value: &Entry) -> usize
     }
 }
 
-/// The first numbers of a value, up to its limit.
-pub(crate) fn first_in(limit: usize, value: &Entry) -> &[i64]
+/// Returns the first numbers of a value, up to a limit, in units of 10^-9.
+pub fn first_in(limit: usize, value: &Entry) -> &[i64]
     ensures { result.now ≡ first_in limit (entry_view value.now) }
 {
     match value {
@@ -67,15 +67,15 @@ pub(crate) fn first_in(limit: usize, value: &Entry) -> &[i64]
     }
 }
 
-/// Whether a number has no fraction.
-pub(crate) fn is_whole(number: i64) -> bool
+/// Whether a number in units of 10^-9 has no fraction.
+pub fn is_whole(number: i64) -> bool
     ensures { result ≡ is_whole number }
 {
     number.unsigned_abs() % BILLION as u64 == 0
 }
 
-/// Whether a value is so many numbers.
-pub(crate) fn is_so_many(many: usize, value: &Entry) -> bool
+/// Whether a value is a list of so many numbers.
+pub fn is_so_many(many: usize, value: &Entry) -> bool
     ensures { result ≡ is_so_many many (entry_view value.now) }
 {
     match value {

@@ -43,8 +43,8 @@ pub fn scale(font: &Font<'_>) -> i64
     number_or(USUAL_SCALE, font.value(Key::BlueScale))
 }
 
-/// How far a number is above another.
-fn difference(above: i64, below: i64) -> i128
+/// Returns how far a number is above another.
+pub fn difference(above: i64, below: i64) -> i128
     ensures { result ≡ above -ℤ below }
 {
     i128::from(above) - i128::from(below)
@@ -57,8 +57,8 @@ fn begins_zone(numbers: &[i64], index: usize) -> bool
     index % 2 == 0 && index < numbers.len() && index + 1 < numbers.len()
 }
 
-/// Whether a zone begins here that is nearer to the one before it than the distance.
-fn is_too_near(font: &Font<'_>, numbers: &[i64], index: usize) -> bool
+/// Whether a zone begins here that is nearer to the one before it than the distance that zones keep.
+pub fn is_too_near(font: &Font<'_>, numbers: &[i64], index: usize) -> bool
     ensures { result ≡ is_too_near (distance font.now) numbers.now index }
 {
     0 < index
@@ -113,7 +113,7 @@ fn reaches_one(lower: i64, upper: i64, scale: i64) -> bool
 }
 
 /// Whether the height of the zone that ends here, times BlueScale, is 1 or more.
-fn is_too_high(font: &Font<'_>, numbers: &[i64], index: usize) -> bool
+pub fn is_too_high(font: &Font<'_>, numbers: &[i64], index: usize) -> bool
     ensures { result ≡ is_too_high (scale font.now) numbers.now index }
 {
     index % 2 == 1
@@ -121,8 +121,8 @@ fn is_too_high(font: &Font<'_>, numbers: &[i64], index: usize) -> bool
         && reaches_one(numbers[index - 1], numbers[index], scale(font))
 }
 
-/// Whether the count of numbers is odd.
-fn has_odd_count(value: &Entry, index: u32) -> bool
+/// Whether the count of a value's numbers is odd, where the index is 0.
+pub fn has_odd_count(value: &Entry, index: u32) -> bool
     ensures { result ≡ has_odd_count (entry_view value.now) index }
 {
     index == 0 && count_in(value) % 2 == 1

@@ -123,8 +123,8 @@ fn count_faults(command: Command, numbers: &[i64]) -> Mask
     }
 }
 
-/// Whether a number is past 32000 in absolute value.
-fn is_past(number: i64) -> bool
+/// Whether a number is past 32000 in absolute value, in units of 1/65536.
+pub fn is_past(number: i64) -> bool
     ensures { result ≡ is_past number }
 {
     (GREATEST < number) | (number < -GREATEST)
@@ -161,8 +161,8 @@ pub(crate) fn has_its_arguments(command: Command, numbers: &[i64]) -> bool {
     }
 }
 
-/// Whether the divisor isn't 0, and the quotient is past 32000.
-fn quotient_is_past(dividend: i64, divisor: i64) -> bool
+/// Whether the divisor isn't 0, and the quotient is past 32000 in absolute value.
+pub fn quotient_is_past(dividend: i64, divisor: i64) -> bool
     ensures { result ≡ quotient_is_past dividend divisor }
 {
     if divisor == 0 {

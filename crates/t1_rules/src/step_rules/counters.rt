@@ -169,8 +169,8 @@ fn goes_on_counting(step: &Step) -> bool
     step.stack.from_top(0) == 12 * UNIT && has_good_count(step)
 }
 
-/// Whether a call is that which ends counter control.
-fn ends_counting(step: &Step) -> bool
+/// Whether a call of an OtherSubr is that which ends counter control.
+pub fn ends_counting(step: &Step) -> bool
     requires token { IsCommand (step_view step.now) Callothersubr }
     requires two { 2 ≤ length step.now.stack }
     ensures { result ≡ ends_counting (step_view step.now) }

@@ -97,8 +97,8 @@ fn number_faults(is_good: bool, is_effective: bool, number: i64) -> Mask
         .with(Rule::O01, is_good & !(is_own | is_counter_control(number)))
 }
 
-/// Whether the number is a count of so many at most.
-fn is_good_count(most: usize, count: i64) -> bool
+/// Whether a number, in units of 1/65536, is a count of so many at most: whole, and not negative.
+pub fn is_good_count(most: usize, count: i64) -> bool
     ensures { result ≡ is_good_count most count }
 {
     match natural(count) {
@@ -116,15 +116,15 @@ fn is_effective(call: OthersubrCall, step: &Step) -> bool
         | (starts_flex(call, step) | (gives_flex_point(call, step) | replaces_hints(call, step)))
 }
 
-/// Whether it is the number of an OtherSubr of flex or hint replacement.
-fn is_flex_or_hints(number: i64) -> bool
+/// Whether it is the number of an OtherSubr of flex or hint replacement, in units of 1/65536.
+pub fn is_flex_or_hints(number: i64) -> bool
     ensures { result ≡ is_flex_or_hints number }
 {
     (number == 0) | ((number == UNIT) | ((number == 2 * UNIT) | (number == 3 * UNIT)))
 }
 
-/// Whether it is the number of an OtherSubr of counter control.
-fn is_counter_control(number: i64) -> bool
+/// Whether it is the number of an OtherSubr of counter control, in units of 1/65536.
+pub fn is_counter_control(number: i64) -> bool
     ensures { result ≡ is_counter_control number }
 {
     (number == 12 * UNIT) | (number == 13 * UNIT)

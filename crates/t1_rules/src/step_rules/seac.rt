@@ -144,8 +144,8 @@ fn has_unnamed_code(step: &Step) -> bool
     is_seac(step.token) && (is_unnamed(base_code(step)) || is_unnamed(accent_code(step)))
 }
 
-/// Whether a code has no name.
-pub(crate) fn is_unnamed(code: Option<u8>) -> bool
+/// Whether it is a code without a name in StandardEncoding.
+pub fn is_unnamed(code: Option<u8>) -> bool
     ensures { result ≡ is_unnamed code }
 {
     match code {

@@ -31,7 +31,7 @@ use t1_char::{
 };
 
 /// How many stems a hint set has at most, in each direction.
-const MOST_STEMS: usize = 96;
+pub const MOST_STEMS: usize = 96;
 
 /// The widths that mean one edge, in units of 1/65536.
 const TOP_EDGE: i64 = -20 * UNIT;
@@ -330,32 +330,35 @@ fn is_quiet(token: CharToken) -> bool
 }
 
 /// Whether a command sets stems.
-pub(crate) fn is_stem(token: CharToken) -> bool
+pub fn is_stem(token: CharToken) -> bool
     ensures { result ≡ is_stem token }
 {
     lies_across(token) | stands_upright(token)
 }
 
-fn lies_across(token: CharToken) -> bool
+/// Whether a command sets stems that lie across the glyph.
+pub fn lies_across(token: CharToken) -> bool
     ensures { result ≡ is_command lies_across token }
 {
     matches!(token, CharToken::Command(Command::Hstem | Command::Hstem3))
 }
 
-fn stands_upright(token: CharToken) -> bool
+/// Whether a command sets upright stems.
+pub fn stands_upright(token: CharToken) -> bool
     ensures { result ≡ is_command stands_upright token }
 {
     matches!(token, CharToken::Command(Command::Vstem | Command::Vstem3))
 }
 
-fn is_triple(token: CharToken) -> bool
+/// Whether a command sets three stems.
+pub fn is_triple(token: CharToken) -> bool
     ensures { result ≡ is_command is_triple token }
 {
     matches!(token, CharToken::Command(Command::Hstem3 | Command::Vstem3))
 }
 
-/// The stem of two arguments.
-pub(crate) fn stem_at(step: &Step, place: usize) -> Stem
+/// Returns the stem of the argument at a place and the next one.
+pub fn stem_at(step: &Step, place: usize) -> Stem
     requires { place < most_numbers }
     ensures { result ≡ stem_at step.now.stack place }
 {
@@ -365,9 +368,9 @@ pub(crate) fn stem_at(step: &Step, place: usize) -> Stem
     }
 }
 
-/// The three stems of a command.
+/// Returns the stems of a step that sets three.
 #[inline(never)]
-fn three_stems(step: &Step) -> [Stem; 3]
+pub fn three_stems(step: &Step) -> [Stem; 3]
     ensures { result ≡ stem_at step.now.stack 0 ∷ stem_at step.now.stack 2 ∷ stem_at step.now.stack 4 ∷ [] }
 {
     [stem_at(step, 0), stem_at(step, 2), stem_at(step, 4)]
@@ -411,7 +414,7 @@ fn keep_one(kept: &mut Stems, stem: Stem)
 
 /// Keeps stems, while there are fewer than 96.
 #[inline(never)]
-fn keep(kept: &mut Stems, stems: &[Stem])
+pub fn keep<T: Copy>(kept: &mut ArrayVec<T, MOST_STEMS>, stems: &[T])
     ensures { kept.new.items ≡ take most_stems (kept.old.items ++ stems.now) }
 {
     // This can't fail: there are no more than there is room for.
@@ -419,7 +422,7 @@ fn keep(kept: &mut Stems, stems: &[Stem])
 }
 
 /// The first stems, so many or all.
-fn first(count: usize, stems: &[Stem]) -> &[Stem]
+fn first<T>(count: usize, stems: &[T]) -> &[T]
     ensures { result.now ≡ take count stems.now }
 {
     if count < stems.len() {

@@ -67,7 +67,8 @@ pub fn closes(token: CharToken) -> bool
     matches!(token, CharToken::Command(Command::Closepath))
 }
 
-pub(crate) fn is_pop(token: CharToken) -> bool
+/// Whether it takes a number from PostScript's stack.
+pub fn is_pop(token: CharToken) -> bool
     ensures { result ≡ is_pop token }
 {
     matches!(token, CharToken::Command(Command::Pop))

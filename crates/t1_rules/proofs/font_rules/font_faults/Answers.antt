@@ -1,6 +1,5 @@
 use Rattle.std.proofs.Common.{◌≤◌, refl, sym, ◌∙◌, rules}
-use Rattle.t1_rules.specs.Keys.{key_count}
-use Rattle.t1_rules.specs.Private.KeyKinds.{kind_number}
+use Rattle.t1_rules.specs.Keys.{key_count, kind_number}
 use Rattle.t1_rules.proofs.Lemmas.FontRules.{past_last, with_later, without_later}
 use Rattle.t1_rules.proofs.font_rules.font_faults.Goals as goal
 

@@ -1,5 +1,5 @@
 use Rattle.std.proofs.Common.{ap, ◌∙◌}
-use Rattle.t1_rules.specs.Private.KeyKinds.{kind_number}
+use Rattle.t1_rules.specs.Keys.{kind_number}
 use Rattle.t1_rules.proofs.Lemmas.KeyRows.{row_kind}
 use Rattle.t1_rules.proofs.keys.kind_of.Goals as goal
 

@@ -1,6 +1,5 @@
 use Rattle.std.proofs.Common.{sym, ap, ◌∙◌}
-use Rattle.t1_rules.specs.Keys.{places_of}
-use Rattle.t1_rules.specs.Private.KeyKinds.{kind_number}
+use Rattle.t1_rules.specs.Keys.{kind_number, places_of}
 use Rattle.t1_rules.proofs.keys.KeyKind.places.Goals as goal
 
 pub returns-in-Value : goal.returns-in-Value

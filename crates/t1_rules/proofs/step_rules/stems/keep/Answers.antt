@@ -4,7 +4,7 @@ use Rattle.t1_rules.proofs.Lemmas.Before.{on_ok, take_room}
 use Rattle.t1_rules.proofs.step_rules.stems.keep.Goals as goal
 
 pub returns : goal.returns
-returns c =
+returns g c =
     let kept = c.args.kept.now.items in
     let room = c.remaining_capacity.result in
     let few : length kept + length c.first.result.now ≤ 96 = grind (arith, common_steps, c.first.ensures, c.remaining_capacity.ensures) in
