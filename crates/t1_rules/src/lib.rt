@@ -69,7 +69,9 @@ pub use font_rules::subrs::is_wrong_subr;
 pub use font_rules::values::{
     count_in, first_in, is_sixteen_twice, is_so_many, is_the_number, is_whole,
 };
-pub use font_rules::zones::{difference, distance, has_odd_count, is_too_high, is_too_near, scale};
+pub use font_rules::zones::{
+    Edges, difference, distance, has_odd_count, is_too_high, is_too_near, scale,
+};
 pub use glyph_names::glyph_named;
 pub use keys::{INDEXES, KEYS, KeyKind, has_kind, key_among, key_text, places};
 pub use laws::{

@@ -22,11 +22,11 @@ const PRODUCT_ONE: i128 = BILLION as i128 * BILLION as i128;
 /// BlueScale where the font doesn't state it: 0.039625.
 const USUAL_SCALE: i64 = 39_625_000;
 
-/// The edges of a zone.
-#[derive(Clone, Copy)]
-pub(crate) struct Edges {
-    lower: i64,
-    upper: i64,
+/// The edges of a zone, in units of 10^-9.
+#[derive(Clone, Copy, Debug, PartialEq, Eq)]
+pub struct Edges {
+    pub lower: i64,
+    pub upper: i64,
 }
 
 /// The distance that zones keep: twice BlueFuzz and one, in units of 10^-9. BlueFuzz is 1 where it isn't a number.
