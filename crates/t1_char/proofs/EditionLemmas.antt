@@ -1,5 +1,5 @@
 -- The limits and the numbers of the editions.
-use Rattle.std.proofs.Common.{◌≡◌, ◌≤◌, Option, Some, None, refl, sym, ap, ◌∙◌, arith}
+use Rattle.std.proofs.Common.{◌≡◌, ◌≤◌, Some, refl, sym, ap, ◌∙◌, arith}
 use Rattle.t1_char.specs.declared.edition.Edition.{Edition}
 use Rattle.t1_char.specs.declared.edition.Edition.TheVariants.{One, Three, Two}
 use Rattle.t1_char.specs.Editions.{edition_numbered, limit_of, number_of_edition}

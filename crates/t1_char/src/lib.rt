@@ -60,8 +60,9 @@ pub use endings::token_behind_end;
 pub use expansion::expand;
 pub use laws::{
     machines_answer_in_order, quotients_are_cut_towards_zero, runs_go_step_by_step,
-    short_and_cut_charstrings_are_returned, stacks_are_taken_from_the_top, steps_are_looked_back_on,
-    steps_follow_the_tokens, steps_go_on, steps_tell_calls_and_ends, written_charstrings_are_read,
+    short_and_cut_charstrings_are_returned, stacks_are_taken_from_the_top,
+    steps_are_looked_back_on, steps_follow_the_tokens, steps_go_on, steps_tell_calls_and_ends,
+    written_charstrings_are_read,
 };
 pub use lines::{DrawnPath, Passing, Way};
 pub use machine::{Answer, Far, Machine, Numbers, Turn};

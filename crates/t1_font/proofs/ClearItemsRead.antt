@@ -13,7 +13,7 @@ use Rattle.t1_font.specs.declared.unread.Unread.TheVariants.{NoEexec}
 use Rattle.t1_font.specs.Keys.{all_notes, clear_key, clear_note, same_name}
 use Rattle.t1_font.specs.Fonts.{Stated, Marks, FontValue, value_of, plain, encoding}
 use Rattle.t1_font.specs.TextTurns.{TextTurn, over, goes, stated_in}
-use Rattle.t1_font.specs.ClearText.{clear_turn, clear_value, is_code_count, begins, array_at, encoding_at, encoding_turn, clear_outside, clear_of, clear_turn_by, clear_outside_by, clear_of_by}
+use Rattle.t1_font.specs.ClearText.{clear_turn, clear_value, is_code_count, begins, array_at, encoding_at, encoding_turn, clear_outside, clear_turn_by, clear_outside_by, clear_of_by}
 use Rattle.t1_font.specs.Laws.Written.{token, IsWritten, IsWhole}
 use Rattle.t1_font.specs.Laws.UsualClearText.{code_states, ClearItem, IsClearNote, key, noted_key, standard, custom, other_name, other_token, clear_pieces, clear_states, IsOtherClearName, PassesInClear, IsClearItem, all_clear_states}
 use Rattle.t1_font.specs.Laws.UsualTexts.{ReadsUsualClear}

@@ -22,7 +22,7 @@ use Rattle.t1_font.specs.Notes.{noted}
 use Rattle.t1_font.specs.PrivateText.{dup_turn, glyph_turn, glyphs_at, glyphs_token, has_key, is_blank_text, is_len_iv, is_len_iv_key, private_of_by, private_outside_by, private_turn_by, private_value, subr_at, subrs_at, subrs_token_by, subrs_turn}
 use Rattle.t1_font.specs.Puts.{put}
 use Rattle.t1_font.specs.Readings.{◌>>=◌}
-use Rattle.t1_font.specs.TextTurns.{Reader, TextRead, TextTurn, goes, over, pass, stated_in, stated_within, with_one}
+use Rattle.t1_font.specs.TextTurns.{Reader, TextTurn, goes, over, pass, stated_in, stated_within, with_one}
 use Rattle.t1_font.specs.Tokens.{charstring_at, inside_of, is_array_kind, is_name_kind, is_number_kind, is_word_kind, name_of, natural, past_word, spells, token_ahead, wanted, whole_up_to, ◌>?◌}
 use Rattle.t1_font.proofs.Compose.{choose, found_or, glance, which}
 use Rattle.t1_font.proofs.Running.{follow}

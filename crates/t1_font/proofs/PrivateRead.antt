@@ -3,7 +3,7 @@ use Rattle.std.proofs.Common.{◌≡◌, ◌≤◌, ℕ, Ok, Bool, List, [], ◌
 use Rattle.std.proofs.lemmas.Grind.{flat_map-append}
 use Rattle.t1_font.specs.Keys.{same_name}
 use Rattle.t1_font.specs.Fonts.{Stated, Marks, size_of, glyph_of, firsts}
-use Rattle.t1_font.specs.PrivateText.{private_of, private_of_by}
+use Rattle.t1_font.specs.PrivateText.{private_of_by}
 use Rattle.t1_font.specs.declared.mode.PrivateMode.TheVariants.{Outside}
 use Rattle.t1_font.specs.Laws.Written.{IsWritten}
 use Rattle.t1_font.specs.Laws.UsualPrivateText.{PrivateItem, key, noted_key, other_name, other_token, private_pieces, private_states, SubrItem, subr_entry, between_subrs, subr_states, SubrsPart, no_subrs, empty_subrs, some_subrs, subrs_pieces, subrs_states, glyph_names, glyph_states, glyphs_pieces, PrivateParts, all_private_pieces, all_private_states, IsUsualParts, StatesNoCharstring}

@@ -1,5 +1,5 @@
 -- The keys of a font that was read are different.
-use Rattle.std.proofs.Common.{◌≡◌, ℕ, Result, Ok, Err, IfOk, List}
+use Rattle.std.proofs.Common.{ℕ, Result, Ok, Err, IfOk, List}
 use Rattle.t1_seal.specs.Eexec.{private_text_of}
 use Rattle.t1_seal.specs.Segments.{JoinedText, joined_of}
 use Rattle.t1_seal.specs.declared.errors.SealError.{SealError}

@@ -11,7 +11,7 @@ use Rattle.t1_font.specs.Fonts.{Stated, Marks, FontValue, value_of}
 use Rattle.t1_font.specs.TextTurns.{TextRead, stated_in}
 use Rattle.t1_font.specs.Runs.{FontRead, run_of, value_read}
 use Rattle.t1_font.specs.ClearText.{begins_as_font, clear_turn, clear_of, clear_of_by}
-use Rattle.t1_font.specs.PrivateText.{private_turn, private_of, private_of_by}
+use Rattle.t1_font.specs.PrivateText.{private_turn, private_of_by}
 use Rattle.t1_font.specs.Texts.{clear_value_of, clear_read, font_value_of, font_read, value_alone}
 use Rattle.t1_font.specs.Laws.Statements.{ReadAsStated}
 use Rattle.t1_font.proofs.Running.{IsEndOf, run_ends, run_is_read}

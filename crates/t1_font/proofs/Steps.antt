@@ -16,8 +16,8 @@ use Rattle.t1_font.specs.Readings.{◌>>=◌}
 use Rattle.t1_font.specs.Tokens.{token_at, wanted}
 use Rattle.t1_font.specs.Fonts.{Stated, Marks, FontValue, value_of}
 use Rattle.t1_font.specs.TextTurns.{TextTurn, over, goes, Reader, with_one, stated_within, stated_in}
-use Rattle.t1_font.specs.ClearText.{code_at, code_turn, clear_turn, clear_outside, code_token, clear_turn_by, clear_outside_by}
-use Rattle.t1_font.specs.PrivateText.{private_turn, private_outside, subrs_token, glyphs_token, private_turn_by, private_outside_by, subrs_token_by}
+use Rattle.t1_font.specs.ClearText.{code_at, code_turn, clear_turn, code_token, clear_turn_by, clear_outside_by}
+use Rattle.t1_font.specs.PrivateText.{private_turn, glyphs_token, private_turn_by, private_outside_by, subrs_token_by}
 use Rattle.t1_font.specs.Laws.UsualTexts.{BlanksPass, BlanksPassInPrivate, DupPassesInCodes, WordsPass, WordsPassInCodes, WordsPassInPrivate, WordsPassInSubrs, WordsPassInGlyphs}
 use Rattle.t1_font.proofs.Running.{follow, Leaves, Shortens, is_shorter}
 use Rattle.t1_font.proofs.Shorter.{clear_shortens, private_shortens}

@@ -1,5 +1,5 @@
 -- A noted key: the token behind its name is its value, if there is one that reads. It isn't taken: reading goes on at it.
-use Rattle.std.specs.Prelude.{Option, Some, None, List, ℕ}
+use Rattle.std.specs.Prelude.{Option, Some, List, ℕ}
 use Rattle.t1_font.specs.declared.key.Key.{Key}
 use Rattle.t1_font.specs.Fonts.{Stated, plain}
 use Rattle.t1_font.specs.Tokens.{token_ahead, ◌>?◌}

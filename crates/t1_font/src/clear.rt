@@ -10,8 +10,8 @@ ghost use Rattle.t1_seal.specs.Joined.{joined_text};
 ghost use Rattle.t1_font.specs.TextTurns.{TextRead};
 
 use crate::font::Font;
-use crate::unread::Unread;
 use crate::texts::{take_clear, take_private};
+use crate::unread::Unread;
 use std::alloc::Global;
 use std::marker::Model;
 use t1_seal::Joined;

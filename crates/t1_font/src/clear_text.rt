@@ -12,9 +12,9 @@ use crate::bounds::CODES;
 use crate::encoding::Encoding;
 use crate::key::{clear_key, clear_note};
 use crate::mode::ClearMode;
-use crate::unread::Unread;
 use crate::statement::{Statement, Turn, noted};
 use crate::tokens::{BILLION, is_name, is_number, is_word, name, token_ahead, wanted, whole_up_to};
+use crate::unread::Unread;
 use t1_scan::Kind;
 
 /// Takes a plain key's value, whatever it is, and looks at a noted key's.
@@ -178,10 +178,7 @@ fn code_token<'a>(kind: Kind, text: &'a [u8], rest: &'a [u8]) -> Turn<'a, ClearM
 
 /// One turn of the clear text.
 #[tactic(auto, unfolding(crate::specs::ClearText::clear_turn_by))]
-pub(crate) fn clear_turn<'a>(
-    mode: ClearMode,
-    text: &'a [u8],
-) -> Result<Turn<'a, ClearMode>, Unread>
+pub(crate) fn clear_turn<'a>(mode: ClearMode, text: &'a [u8]) -> Result<Turn<'a, ClearMode>, Unread>
     ensures { (v : FontValue) → Is turn_view result (clear_turn v mode text.now) }
 {
     let (token, rest) = wanted(text, Unread::NoEexec)?;

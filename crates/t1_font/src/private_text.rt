@@ -10,12 +10,12 @@ use crate::bounds::{GREATEST_LEN_IV, MOST_GLYPHS, MOST_SUBRS};
 use crate::font::Font;
 use crate::key::{Key, private_key, private_note};
 use crate::mode::PrivateMode;
-use crate::unread::Unread;
 use crate::statement::{Statement, Turn, noted};
 use crate::tokens::{
     BILLION, charstring, first, inside, is_any_word, is_array, is_name, is_number, is_word, name,
     natural, past_word, wanted, whole_up_to,
 };
+use crate::unread::Unread;
 use t1_scan::Kind;
 
 /// The greatest number of a Subr.

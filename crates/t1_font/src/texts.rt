@@ -14,8 +14,8 @@ use crate::clear_text::clear_turn;
 use crate::font::Font;
 use crate::mode::{ClearMode, PrivateMode};
 use crate::private_text::private_turn;
-use crate::unread::Unread;
 use crate::statement::Turn;
+use crate::unread::Unread;
 
 /// Takes what the clear text states, and returns what follows its word `eexec`.
 pub(crate) fn take_clear<'a>(font: &mut Font<'a>, text: &'a [u8]) -> Result<&'a [u8], Unread>
