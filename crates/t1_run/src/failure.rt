@@ -1,7 +1,7 @@
 //! Why a run has no result.
 
 ghost use Rattle.std.specs.Prelude.{◌≡◌};
-ghost use Rattle.t1_report.specs.Refusals.Refusal as refusal;
+ghost use Rattle.t1_report.specs.Refusals.Refusal.{Font, Waivers};
 ghost use Rattle.t1_run.specs.Failures.{failure_of, refused_by};
 ghost use Rattle.t1_run.specs.declared.failure.Failure.TheVariants.{Memory};
 
@@ -33,7 +33,7 @@ impl Failure {
 }
 
 impl From<Unread> for Failure {
-    ghost from_gives = { λ unread failure. failure ≡ failure_of (refusal.Font unread) };
+    ghost from_gives = { λ unread failure. failure ≡ failure_of (Font unread) };
 
     fn from(unread: Unread) -> Failure {
         Failure::by(unread.code())
@@ -41,7 +41,7 @@ impl From<Unread> for Failure {
 }
 
 impl From<WaiverError> for Failure {
-    ghost from_gives = { λ error failure. failure ≡ failure_of (refusal.Waivers error) };
+    ghost from_gives = { λ error failure. failure ≡ failure_of (Waivers error) };
 
     fn from(error: WaiverError) -> Failure {
         Failure::by(error.code())

@@ -1,5 +1,5 @@
 use Rattle.std.proofs.lemmas.Grind.{common_steps}
-use Rattle.std.proofs.Common.{arith, ◌≡◌, ◌++◌, ◌∙◌, ℕ, length, take, drop, ap, vec_len, length-append, ◌+◌}
+use Rattle.std.proofs.Common.{arith, ◌≡◌, ◌++◌, ◌∙◌, ℕ, length, take, drop, ap, vec_len, length-append, ◌+◌, refl}
 use Rattle.std.proofs.lemmas.List.{length-take}
 use Rattle.t1_run.specs.Input.AreUnread.{too_large}
 use Rattle.t1_run.proofs.InputLemmas.{Consumes-more, items-extended, none_read, not_late, one_read}
@@ -39,7 +39,7 @@ returns-then-len-most-clause-gathers g c =
     let after : vec_len c.extend_from_slice.new.self ≡ length c.extend_from_slice.new.self.items = c.extend_from_slice.new.self.ok.0 in
     too_large c.extend_from_slice.new.self.items
     (Consumes-more _ _ _ c.loop-turn.bytes.items _ _ c.loop-turn.invariant.consumed c.in-Ok.ensures.takes.bytes items)
-    (omega (arith, after, c.if-len-most.true)) (c.in-Ok.ensures.takes.failed ∙ c.loop-turn.invariant.kept) c.from.ensures
+    (omega (arith, after, c.if-len-most.true)) (c.in-Ok.ensures.takes.failed ∙ c.loop-turn.invariant.kept) refl
 
 pub overflow_add-turn-end : goal.overflow_add-turn-end
 overflow_add-turn-end g c = grind (arith, common_steps)
