@@ -111,7 +111,9 @@ pub fn has_kind(key: u8, kind: KeyKind) -> bool
 pub fn key_among(keys: &[Key], key: u8) -> Option<Key>
     ensures { result ≡ key_among keys.now key }
 {
-    keys.iter().copied().find(|own| has_kind(key, KeyKind::Value(*own)))
+    keys.iter()
+        .copied()
+        .find(|own| has_kind(key, KeyKind::Value(*own)))
 }
 
 /// How many indexes of a key can have a fault by an edition, from 0 on: there is none past them.
