@@ -45,7 +45,7 @@ mod book;
 mod font_rules;
 mod glyph_names;
 mod keys;
-mod laws;
+pub mod laws;
 mod level;
 mod mask;
 mod rule;
@@ -72,23 +72,6 @@ pub use font_rules::values::{
 pub use font_rules::zones::{difference, distance, has_odd_count, is_too_high, is_too_near, scale};
 pub use glyph_names::glyph_named;
 pub use keys::{INDEXES, KEYS, KeyKind, has_kind, key_among, key_text, places};
-pub use laws::{
-    absent_entries_are_fine, arguments_count_from_the_bottom, codes_are_judged_by_their_names,
-    codes_are_whole_to_255, components_are_found_by_their_names,
-    components_are_judged_by_their_steps, current_points_move_on, editions_agree_on_other_rules,
-    editions_differ_in_stems_of_one_edge, ends_break_one_rule, flex_goes_from_its_start_to_its_end,
-    hint_sets_begin_anew, hint_sets_grow, kept_numbers_are_not_past, later_rules_stand_alone,
-    later_step_rules_stand_alone, later_steps_have_no_say, letters_name_themselves,
-    levels_have_their_words, numbers_are_counted, numbers_rise_where_none_falls,
-    one_step_starts_without_width, other_counts_are_no_flex, othersubr_calls_are_one_of_five,
-    paths_are_by_places, points_are_put, pops_of_nothing_change_nothing, replacements_are_followed,
-    rules_are_in_the_book, rules_are_on_zones, rules_have_their_numbers, rules_have_their_places,
-    setcurrentpoint_follows_flex, short_forms_lead_as_far, sound_calls_go_in,
-    standard_encoding_names_149_codes, stems_are_late_behind_drawing,
-    stems_overlap_where_they_share_a_place, stems_stand_beside_three_once,
-    step_rules_have_their_numbers, three_stems_are_even, zones_are_pairs,
-    zones_come_near_both_ways,
-};
 pub use level::Level;
 pub use mask::Mask;
 pub use rule::{RULE_COUNT, Rule, all_rules};
@@ -104,7 +87,8 @@ pub use step_rules::othersubrs::{
 pub use step_rules::paths::PathWatcher;
 pub use step_rules::seac::{SeacWatcher, accent_code, base_code, is_unnamed};
 pub use step_rules::stems::{
-    MOST_STEMS, Stem, StemWatcher, are_unequal, is_stem, is_triple, keep, lies_across, stands_upright, stem_at, three_stems,
+    MOST_STEMS, Stem, StemWatcher, are_unequal, is_stem, is_triple, keep, lies_across,
+    stands_upright, stem_at, three_stems,
 };
 pub use step_rules::tokens::{clears, closes, is_line, is_move, is_pop, is_seac, sets_width};
 pub use step_rules::triples::{
