@@ -1,12 +1,12 @@
 -- The first such in lists that are made of a list's elements one after another.
-use Rattle.std.proofs.Common.{◌≡◌, ℕ, suc, ◌-◌, ◌≤◌, Bool, false, Option, Some, None, List, [], ◌∷◌, ◌++◌, length, take, drop, get_or, refl, sym, ap, ◌∙◌, arith}
+use Rattle.std.proofs.Common.{◌≡◌, ℕ, suc, ◌-◌, ◌≤◌, ◌&&◌, Bool, true, false, Option, Some, None, List, [], ◌∷◌, ◌++◌, length, take, drop, get_or, refl, sym, ap, ◌∙◌, arith}
 use Rattle.std.proofs.Math.Seq.{take-length}
 use Rattle.std.proofs.Common.{◌+◌, ℤ, pos}
 use Rattle.t1_rules.specs.StepRules.Arguments.{is_past}
 use Rattle.t1_reasons.specs.declared.reason.Reason.{Reason}
 use Rattle.t1_reasons.specs.declared.reason.Reason.TheVariants.{Width}
 use Rattle.t1_reasons.specs.FontReasons.{is_apart, nearer, nearest, widths_in}
-use Rattle.t1_reasons.specs.StepReasons.{is_past_range, placed_from}
+use Rattle.t1_reasons.specs.StepReasons.{is_past_range, only_where, placed_from}
 use Rattle.std.specs.List.{find}
 use Rattle.std.specs.Option.{option_or}
 use Rattle.std.proofs.lemmas.List.Folds.{find-append}
@@ -16,6 +16,11 @@ found_in_front p xs ys x e = find-append p xs ys ∙ rw e refl
 
 pub found_behind : {A : Type 0} (p : A → Bool) (xs ys : List A) → find p xs ≡ None → find p (xs ++ ys) ≡ find p ys
 found_behind p xs ys e = find-append p xs ys ∙ rw e refl
+
+-- One candidate, where there is one, and it is such.
+pub found_where : (b : Bool) (p : Reason → Bool) (x : Reason) → (b && p x) ≡ true → find p (only_where b x) ≡ Some x
+found_where true p x e = rw e refl
+found_where false p x e = let no : false ≡ true = e in cc
 
 -- The first of three, by what is found of each.
 pub found_of_three : (p : Reason → Bool) (x y z : Reason)

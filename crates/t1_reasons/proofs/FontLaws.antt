@@ -27,14 +27,14 @@ use Rattle.t1_rules.specs.FontRules.Stems.{has_no_snap, is_not_above_zero, is_no
 use Rattle.t1_rules.specs.FontRules.Subrs.{is_wrong_subr as wrong_subr}
 use Rattle.t1_rules.specs.FontRules.Values.{count_in, first_in, is_absent, is_number_so, is_numbers, is_one_number, is_sixteen_twice, is_so_many, is_the_number, product_one}
 use Rattle.t1_rules.specs.FontRules.Zones.{begins_zone, come_near, comes_near_high, distance, has_odd_count, high_of, is_too_high, is_too_near, low_zone_keys, meets, scale, zone_keys, zones}
-use Rattle.t1_rules.specs.Keys.{index_count, key_number, list_limit_of, value_at, xuid_limit}
+use Rattle.t1_rules.specs.Keys.{index_count, key_among, key_number, list_limit_of, value_at, xuid_limit}
 use Rattle.t1_rules.proofs.Lemmas.Book.{both}
 use Rattle.t1_rules.proofs.Lemmas.FontRules.{in_later, in_parts, later_rules_change_no_other}
 use Rattle.t1_reasons.specs.declared.reason.Edges.{Edges}
 use Rattle.t1_reasons.specs.declared.reason.EntryKind.TheVariants.{Number as OneNumber, Numbers as ManyNumbers}
 use Rattle.t1_reasons.specs.declared.reason.Reason.{Reason}
 use Rattle.t1_reasons.specs.declared.reason.Reason.TheVariants.{Corners, Entry, Following, Form, Gap, Ids, Kind, Number, Numbers, SubrEntry, TooMany, Width, Zone, Zones}
-use Rattle.t1_reasons.specs.FontReasons.{FontReasonRow, are_exchanged, are_so_many, corners_at, corners_of, first_of, first_widths_at, is_found_so, is_wrong_entry, is_wrong_found, is_wrong_listed, is_wrong_number, later_font_row, listed_in, repeats, row_in, unsnapped_at, are_near, are_two_ids, at_key, at_keys, counts_at, excess_at, fits, forms_at, is_excess, is_misfit, is_nothing, is_odd, is_unknown_form, is_wrong_subr, kinds_at, kinds_of, subrs_in, wanted_at, beside_zones, compared_font_row, compares_in_fonts, entries_at, falls, falls_in, features_at, features_in, first_in_font_row, font_reason_row, font_row_of, found_in, gap_in, ids_at, ids_of, is_apart, is_found_number, is_near, is_unusual_feature, key_among, meetings_at, meetings_in, nearer, nearest, of_key, reaches_one, scale_for, told_in_font, told_in_fonts, widths_at, widths_in, zone_from, zone_in, zones_in}
+use Rattle.t1_reasons.specs.FontReasons.{FontReasonRow, are_exchanged, are_so_many, corners_at, corners_of, first_of, first_widths_at, is_found_so, is_wrong_entry, is_wrong_found, is_wrong_listed, is_wrong_number, later_font_row, listed_in, repeats, unsnapped_at, are_near, are_two_ids, at_key, at_keys, counts_at, excess_at, fits, forms_at, is_excess, is_misfit, is_nothing, is_odd, is_unknown_form, is_wrong_subr, kinds_at, kinds_of, subrs_in, wanted_at, beside_zones, entries_at, falls, falls_in, features_at, features_in, first_in_font_row, font_row_of, found_in, gap_in, ids_at, ids_of, is_apart, is_found_number, is_near, is_unusual_feature, meetings_at, meetings_in, nearer, nearest, of_key, reaches_one, scale_for, told_font_row, told_in_font, widths_at, widths_in, zone_from, zone_in, zones_in}
 use Rattle.t1_reasons.specs.Laws.{FontReasonsAreAgainstTheirRules, FontsBreakWhereThereIsAReason, ScalesDo}
 use Rattle.t1_reasons.specs.StepReasons.{is_any, only_where}
 use Rattle.t1_reasons.proofs.LawProofs.{found_such, found_there, one_such, such_in_both, such_where, where_so}
@@ -157,7 +157,7 @@ differing : (font : FontValue) (k : Key) (index : ℕ)
     → (index == 0 && differ (value_at font UniqueId) (value_at font k)) ≡ is_some (find are_two_ids (ids_at font k index))
 differing font k index = where_so (index == 0) are_two_ids (ids_of (value_at font UniqueId) (value_at font k)) (ids_agree (value_at font UniqueId) (value_at font k))
 
-feature_agrees : (v : Value) → not (is_sixteen_twice v) ≡ is_unusual_feature (features_in v)
+pub feature_agrees : (v : Value) → not (is_sixteen_twice v) ≡ is_unusual_feature (features_in v)
 feature_agrees absent = refl
 feature_agrees (one_number z) = refl
 feature_agrees (several_numbers count []) = sym (unequal (count == 2))
@@ -345,15 +345,39 @@ unsnapped font k index = go (index == 0) (first_in 1 (value_at font (width_of k)
     go true widths false same = same
     go false widths c same = refl
 
+-- A rule that compares no numbers.
+told_decides : (edition : Edition) (font : FontValue) (rule : Rule) (key index : ℕ)
+    → violated (font_rules edition) (number_of rule) font key index ≡ is_some (first_in_font_row (told_font_row edition rule) font key index)
+told_decides edition font rule key index = and_true is_broken ∙ sym (such_where is_broken is_any (told_in_font rule font index))
+  where
+    is_broken : Bool
+    is_broken = violated (font_rules edition) (number_of rule) font key index
+
+either_decides : (b : Bool) (edition : Edition) (font : FontValue) (rule : Rule) (key index : ℕ)
+    → violated (font_rules edition) (number_of rule) font key index
+    ≡ is_some (first_in_font_row (if b then told_font_row edition rule else told_font_row edition rule) font key index)
+either_decides true edition font rule key index = told_decides edition font rule key index
+either_decides false edition font rule key index = told_decides edition font rule key index
+
 -- A rule that the first part of the book hasn't says what the later part does, where the edition has that.
-later_decides : (edition : Edition) (n : ℕ) → without_number n first_font_rules ≡ true → (font : FontValue) (key index : ℕ) (row : FontReasonRow)
-    → violated later_font_rules n font key index ≡ is_some (first_in_font_row row font key index)
-    → violated (font_rules edition) n font key index ≡ is_some (first_in_font_row (row_in edition row) font key index)
-later_decides edition n other font key index row same =
-    in_parts edition n font key index
-    ∙ ap (λ b. b || violated (later_rules_in edition) n font key index) (none_says n first_font_rules other font key index)
-    ∙ in_later edition n font key index
-    ∙ where_so (has_later_rules edition) row.is_against (row.candidates font key index) same
+later_decides : (edition : Edition) (rule : Rule) → without_number (number_of rule) first_font_rules ≡ true → (font : FontValue) (key index : ℕ) (row : FontReasonRow)
+    → violated later_font_rules (number_of rule) font key index ≡ is_some (first_in_font_row row font key index)
+    → violated (font_rules edition) (number_of rule) font key index
+    ≡ is_some (first_in_font_row (if has_later_rules edition then row else told_font_row edition rule) font key index)
+later_decides edition rule other font key index row same = go (has_later_rules edition) refl
+  where
+    n : ℕ
+    n = number_of rule
+
+    go : (b : Bool) → has_later_rules edition ≡ b
+        → violated (font_rules edition) n font key index ≡ is_some (first_in_font_row (if b then row else told_font_row edition rule) font key index)
+    go true has =
+        in_parts edition n font key index
+        ∙ ap (λ b. b || violated (later_rules_in edition) n font key index) (none_says n first_font_rules other font key index)
+        ∙ in_later edition n font key index
+        ∙ ap (λ b. b && violated later_font_rules n font key index) has
+        ∙ same
+    go false has = told_decides edition font rule key index
 
 -- A rule up to number 70 says what the first part of the book does.
 of_first : (edition : Edition) (n : ℕ) → nat_le n last_number_before ≡ true → (font : FontValue) (key index : ℕ)
@@ -362,138 +386,126 @@ of_first edition n few font key index = later_rules_change_no_other edition n fo
 
 -- ---- all of them
 
-compared_decides : (edition : Edition) (font : FontValue) (rule : Rule) (key index : ℕ) → compares_in_fonts rule ≡ true
-    → violated (font_rules edition) (number_of rule) font key index ≡ is_some (first_in_font_row (compared_font_row edition rule) font key index)
+pub fonts_broken_where_reason : FontsBreakWhereThereIsAReason
 unfolding first_font_rules later_font_rules
-compared_decides edition font F03 key index e =
+fonts_broken_where_reason edition font F03 key index =
     of_first edition 3 refl font key index
     ∙ font_row_decides 3 first_font_rules 2 _ refl refl refl refl font key index
     ∙ keys_agree (is_wrong_entry F03) (λ font k index. index == 0 && not (is_the_number 1 (value_at font k))) entries_at (entry_agrees F03 (λ v. not (is_the_number 1 v)) not_one) (FontType ∷ []) font key index
-compared_decides edition font F04 key index e =
+fonts_broken_where_reason edition font F04 key index =
     of_first edition 4 refl font key index
     ∙ font_row_decides 4 first_font_rules 3 _ refl refl refl refl font key index
     ∙ keys_agree (is_wrong_entry F04) (λ font k index. index == 0 && not (is_the_number 0 (value_at font k) || is_the_number 2 (value_at font k))) entries_at (entry_agrees F04 (λ v. not (is_the_number 0 v || is_the_number 2 v)) not_painted) (PaintType ∷ []) font key index
-compared_decides edition font F05 key index e =
+fonts_broken_where_reason edition font F05 key index =
     of_first edition 5 refl font key index
     ∙ font_row_decides 5 first_font_rules 4 _ refl refl refl refl font key index
     ∙ keys_agree (is_wrong_entry F05) (λ font k index. index == 0 && is_past_range (value_at font k)) entries_at (entry_agrees F05 is_past_range id_agrees) id_keys font key index
-compared_decides edition font F06 key index e =
+fonts_broken_where_reason edition font F06 key index =
     of_first edition 6 refl font key index
     ∙ font_row_decides 6 first_font_rules 5 _ refl refl refl refl font key index
     ∙ keys_agree are_two_ids (λ font k index. index == 0 && differ (value_at font UniqueId) (value_at font k)) ids_at differing (PrivateUniqueId ∷ []) font key index
-compared_decides edition font F07 key index e =
+fonts_broken_where_reason edition font F07 key index =
     of_first edition 7 refl font key index
     ∙ font_row_decides 7 first_font_rules 6 _ refl refl refl refl font key index
     ∙ keys_agree (is_wrong_entry F07) (λ font k index. index == 0 && not (is_the_number 5839 (value_at font k))) entries_at (entry_agrees F07 (λ v. not (is_the_number 5839 v)) not_password) (Password ∷ []) font key index
-compared_decides edition font F08 key index e =
+fonts_broken_where_reason edition font F08 key index =
     of_first edition 8 refl font key index
     ∙ font_row_decides 8 first_font_rules 7 _ refl refl refl refl font key index
     ∙ keys_agree is_unusual_feature (λ font k index. index == 0 && not (is_sixteen_twice (value_at font k))) features_at unusual (MinFeature ∷ []) font key index
-compared_decides edition font F11 key index e =
+fonts_broken_where_reason edition font F11 key index =
     of_first edition 11 refl font key index
     ∙ font_row_decides 11 first_font_rules 10 _ refl refl refl refl font key index
     ∙ key_agrees is_unknown_form (λ font index. index == 0 && is_no_form font.encoding) forms_at formed 4 font key index
-compared_decides edition font F14 key index e =
+fonts_broken_where_reason edition font F14 key index =
     of_first edition 14 refl font key index
     ∙ font_row_decides 14 first_font_rules 13 _ refl refl refl refl font key index ∙ key_agrees is_wrong_subr wrong_subr subrs_in wrong 20 font key index
-compared_decides edition font Z01 key index e =
+fonts_broken_where_reason edition font Z01 key index =
     of_first edition 15 refl font key index
     ∙ font_row_decides 15 first_font_rules 14 _ refl refl refl refl font key index
     ∙ keys_agree is_misfit (λ font k index. is_of_another_kind k (value_at font k) index) kinds_at of_kind hint_keys font key index
-compared_decides edition font Z02 key index e =
+fonts_broken_where_reason edition font Z02 key index =
     of_first edition 16 refl font key index
     ∙ font_row_decides 16 first_font_rules 15 _ refl refl refl refl font key index
     ∙ keys_agree is_excess (λ font k index. has_too_many k (value_at font k) index) excess_at many zone_keys font key index
-compared_decides edition font Z03 key index e =
+fonts_broken_where_reason edition font Z03 key index =
     of_first edition 17 refl font key index
     ∙ font_row_decides 17 first_font_rules 16 _ refl refl refl refl font key index
     ∙ keys_agree is_odd (λ font k index. has_odd_count (value_at font k) index) counts_at odd zone_keys font key index
-compared_decides edition font Z04 key index e =
+fonts_broken_where_reason edition font Z04 key index =
     of_first edition 18 refl font key index
     ∙ font_row_decides 18 first_font_rules 17 _ refl refl refl refl font key index
     ∙ keys_agree falls (λ font k index. falls_at (numbers_at font k) index) (λ font k index. falls_in (numbers_at font k) index) (λ font k index. fallen (numbers_at font k) index) zone_keys font key index
-compared_decides edition font Z05 key index e =
+fonts_broken_where_reason edition font Z05 key index =
     of_first edition 19 refl font key index
     ∙ font_row_decides 19 first_font_rules 18 _ refl refl refl refl font key index
     ∙ keys_agree is_near (λ font k index. is_too_near (distance font) (numbers_at font k) index) (λ font k index. gap_in (distance font) (numbers_at font k) index) (λ font k index. near (distance font) (numbers_at font k) index) zone_keys font key index
-compared_decides edition font Z06 key index e =
+fonts_broken_where_reason edition font Z06 key index =
     of_first edition 20 refl font key index
     ∙ font_row_decides 20 first_font_rules 19 _ refl refl refl refl font key index
     ∙ keys_agree are_near comes_near_high meetings_at (λ font k index. met (distance font) (numbers_at font k) (numbers_at font (high_of k)) index) low_zone_keys font key index
-compared_decides edition font Z07 key index e =
+fonts_broken_where_reason edition font Z07 key index =
     of_first edition 21 refl font key index
     ∙ font_row_decides 21 first_font_rules 20 _ refl refl refl refl font key index
     ∙ keys_agree reaches_one (λ font k index. is_too_high (scale font) (numbers_at font k) index) (λ font k index. zone_in (scale font) (numbers_at font k) index) (λ font k index. high (scale font) (numbers_at font k) index) zone_keys font key index
-compared_decides edition font Z08 key index e =
+fonts_broken_where_reason edition font Z08 key index =
     of_first edition 22 refl font key index
     ∙ font_row_decides 22 first_font_rules 21 _ refl refl refl refl font key index
     ∙ keys_agree (is_wrong_entry Z08) (λ font k index. index == 0 && is_not_one_width (value_at font k)) entries_at (entry_agrees Z08 is_not_one_width width_agrees) width_keys font key index
-compared_decides edition font Z09 key index e =
+fonts_broken_where_reason edition font Z09 key index =
     of_first edition 23 refl font key index
     ∙ font_row_decides 23 first_font_rules 22 _ refl refl refl refl font key index
     ∙ keys_agree is_excess (λ font k index. has_too_many k (value_at font k) index) excess_at many snap_keys font key index
-compared_decides edition font Z10 key index e =
+fonts_broken_where_reason edition font Z10 key index =
     of_first edition 24 refl font key index
     ∙ font_row_decides 24 first_font_rules 23 _ refl refl refl refl font key index
     ∙ keys_agree falls (λ font k index. falls_at (numbers_at font k) index) (λ font k index. falls_in (numbers_at font k) index) (λ font k index. fallen (numbers_at font k) index) snap_keys font key index
-compared_decides edition font Z11 key index e =
+fonts_broken_where_reason edition font Z11 key index =
     of_first edition 25 refl font key index
     ∙ font_row_decides 25 first_font_rules 24 _ refl refl refl refl font key index
     ∙ keys_agree is_apart (λ font k index. index == 0 && width_is_apart font k) widths_at snapped snap_keys font key index
-compared_decides edition font F15 key index e = later_decides edition 71 refl font key index (later_font_row F15)
+fonts_broken_where_reason edition font F15 key index = later_decides edition F15 refl font key index (later_font_row edition F15)
     (font_row_decides 71 later_font_rules 0 _ refl refl refl refl font key index
     ∙ keys_agree (is_wrong_entry F15) (λ font k index. index == 0 && not (is_so_many 6 (value_at font k))) entries_at (entry_agrees F15 (λ v. not (is_so_many 6 v)) not_six) (FontMatrix ∷ []) font key index)
-compared_decides edition font F16 key index e = later_decides edition 72 refl font key index (later_font_row F16)
+fonts_broken_where_reason edition font F16 key index = later_decides edition F16 refl font key index (later_font_row edition F16)
     (font_row_decides 72 later_font_rules 1 _ refl refl refl refl font key index
     ∙ keys_agree (is_wrong_entry F16) (λ font k index. index == 0 && not (is_so_many 4 (value_at font k))) entries_at (entry_agrees F16 (λ v. not (is_so_many 4 v)) not_four) (FontBBox ∷ []) font key index)
-compared_decides edition font F17 key index e = later_decides edition 73 refl font key index (later_font_row F17)
+fonts_broken_where_reason edition font F17 key index = later_decides edition F17 refl font key index (later_font_row edition F17)
     (font_row_decides 73 later_font_rules 2 _ refl refl refl refl font key index
     ∙ keys_agree are_exchanged (λ font k index. has_corners_exchanged (value_at font k) index) corners_at exchanged_at (FontBBox ∷ []) font key index)
-compared_decides edition font F18 key index e = later_decides edition 74 refl font key index (later_font_row F18)
+fonts_broken_where_reason edition font F18 key index = later_decides edition F18 refl font key index (later_font_row edition F18)
     (font_row_decides 74 later_font_rules 3 _ refl refl refl refl font key index
     ∙ keys_agree (is_wrong_entry F18) (λ font k index. index == 0 && is_malformed (value_at font k)) entries_at (entry_agrees F18 is_malformed malformed) (Xuid ∷ []) font key index)
-compared_decides edition font F19 key index e = later_decides edition 75 refl font key index (later_font_row F19)
+fonts_broken_where_reason edition font F19 key index = later_decides edition F19 refl font key index (later_font_row edition F19)
     (font_row_decides 75 later_font_rules 4 _ refl refl refl refl font key index
     ∙ keys_agree (is_wrong_listed F19) (λ font k index. has_number_past_range (value_at font k) index) (λ font k index. listed_in (first_in xuid_limit (value_at font k)) index) (λ font k index. listed F19 (first_in xuid_limit (value_at font k)) index) (Xuid ∷ []) font key index)
-compared_decides edition font F20 key index e = later_decides edition 76 refl font key index (later_font_row F20)
+fonts_broken_where_reason edition font F20 key index = later_decides edition F20 refl font key index (later_font_row edition F20)
     (font_row_decides 76 later_font_rules 5 _ refl refl refl refl font key index
     ∙ keys_agree (is_wrong_entry F20) (λ font k index. index == 0 && is_no_group (value_at font k)) entries_at (entry_agrees F20 is_no_group no_group) (LanguageGroup ∷ []) font key index)
-compared_decides edition font Z12 key index e = later_decides edition 78 refl font key index (later_font_row Z12)
+fonts_broken_where_reason edition font Z12 key index = later_decides edition Z12 refl font key index (later_font_row edition Z12)
     (font_row_decides 78 later_font_rules 7 _ refl refl refl refl font key index
     ∙ keys_agree (is_wrong_entry Z12) (λ font k index. index == 0 && is_absent (value_at font k)) entries_at (entry_agrees Z12 is_absent nothing_there) (BlueValues ∷ []) font key index)
-compared_decides edition font Z13 key index e = later_decides edition 79 refl font key index (later_font_row Z13)
+fonts_broken_where_reason edition font Z13 key index = later_decides edition Z13 refl font key index (later_font_row edition Z13)
     (font_row_decides 79 later_font_rules 8 _ refl refl refl refl font key index
     ∙ keys_agree (is_wrong_listed Z13) (λ font k index. index == 0 && is_not_above_zero (first_in 1 (value_at font k))) first_widths_at not_above width_keys font key index)
-compared_decides edition font Z14 key index e = later_decides edition 80 refl font key index (later_font_row Z14)
+fonts_broken_where_reason edition font Z14 key index = later_decides edition Z14 refl font key index (later_font_row edition Z14)
     (font_row_decides 80 later_font_rules 9 _ refl refl refl refl font key index
     ∙ keys_agree (is_wrong_listed Z14) (λ font k index. has_fraction_at (numbers_at font k) index) (λ font k index. listed_in (numbers_at font k) index) (λ font k index. listed Z14 (numbers_at font k) index) zone_keys font key index)
-compared_decides edition font Z15 key index e = later_decides edition 81 refl font key index (later_font_row Z15)
+fonts_broken_where_reason edition font Z15 key index = later_decides edition Z15 refl font key index (later_font_row edition Z15)
     (font_row_decides 81 later_font_rules 10 _ refl refl refl refl font key index
     ∙ keys_agree repeats (λ font k index. repeats_at (numbers_at font k) index) (λ font k index. falls_in (numbers_at font k) index) (λ font k index. repeated (numbers_at font k) index) snap_keys font key index)
-compared_decides edition font Z16 key index e = later_decides edition 82 refl font key index (later_font_row Z16)
+fonts_broken_where_reason edition font Z16 key index = later_decides edition Z16 refl font key index (later_font_row edition Z16)
     (font_row_decides 82 later_font_rules 11 _ refl refl refl refl font key index
     ∙ keys_agree is_any (λ font k index. index == 0 && has_no_snap font k) unsnapped_at unsnapped snap_keys font key index)
-compared_decides edition font Z17 key index e = later_decides edition 83 refl font key index (later_font_row Z17)
+fonts_broken_where_reason edition font Z17 key index = later_decides edition Z17 refl font key index (later_font_row edition Z17)
     (font_row_decides 83 later_font_rules 12 _ refl refl refl refl font key index
     ∙ keys_agree (is_wrong_entry Z17) (λ font k index. index == 0 && (is_number_so is_past_scales) (value_at font k)) entries_at (entry_agrees Z17 (is_number_so is_past_scales) (number_so is_past_scales)) (BlueScale ∷ []) font key index)
-compared_decides edition font Z18 key index e = later_decides edition 84 refl font key index (later_font_row Z18)
+fonts_broken_where_reason edition font Z18 key index = later_decides edition Z18 refl font key index (later_font_row edition Z18)
     (font_row_decides 84 later_font_rules 13 _ refl refl refl refl font key index
     ∙ keys_agree (is_wrong_entry Z18) (λ font k index. index == 0 && (is_number_so is_past_shifts) (value_at font k)) entries_at (entry_agrees Z18 (is_number_so is_past_shifts) (number_so is_past_shifts)) (BlueShift ∷ []) font key index)
-compared_decides edition font Z19 key index e = later_decides edition 85 refl font key index (later_font_row Z19)
+fonts_broken_where_reason edition font Z19 key index = later_decides edition Z19 refl font key index (later_font_row edition Z19)
     (font_row_decides 85 later_font_rules 14 _ refl refl refl refl font key index
     ∙ keys_agree (is_wrong_entry Z19) (λ font k index. index == 0 && (is_number_so is_past_fuzzes) (value_at font k)) entries_at (entry_agrees Z19 (is_number_so is_past_fuzzes) (number_so is_past_fuzzes)) (BlueFuzz ∷ []) font key index)
-compared_decides edition font _ key index e = let no : false ≡ true = e in cc
-
-pub fonts_broken_where_reason : FontsBreakWhereThereIsAReason
-fonts_broken_where_reason edition font rule key index = go (compares_in_fonts rule) refl
-  where
-    is_broken : Bool
-    is_broken = violated (font_rules edition) (number_of rule) font key index
-
-    go : (b : Bool) → compares_in_fonts rule ≡ b → is_broken
-        ≡ is_some (first_in_font_row (if b then compared_font_row edition rule else font_reason_row (told_in_fonts edition rule) is_any) font key index)
-    go true is = compared_decides edition font rule key index is
-    go false is = and_true is_broken ∙ sym (such_where is_broken is_any (told_in_font rule font index))
+fonts_broken_where_reason edition font rule key index = either_decides (has_later_rules edition) edition font rule key index
 
 pub reasons_are_against : FontReasonsAreAgainstTheirRules
 reasons_are_against edition font rule key index reason e = record {

@@ -45,7 +45,7 @@ use Rattle.t1_reasons.specs.Backgrounds.{background_of, set_three}
 use Rattle.t1_reasons.specs.Carried.{last_told}
 use Rattle.t1_reasons.specs.HintSets.{set_at, stems_set}
 use Rattle.t1_reasons.specs.Laws.{ReasonsAreAgainstTheirRules, StepsBreakWhereThereIsAReason}
-use Rattle.t1_reasons.specs.StepReasons.{beside_last, beside_last_of, counters_at, have_other_edges, is_thin_stem, leaves_some, threes_at, additions_at, are_no_pairs, brings, is_full, pairs_at, arguments_in, beside, calls_at, codes_at, has_no_code, has_no_name, is_by_zero, is_outermost, is_past_quotient, is_too_deep, is_unknown_othersubr, is_unknown_token, known_calls_at, quotients_at, returns_at, compared_row, compares, count_of, counts_in, first_in_row, has_fewer, has_more, is_any, is_bad_count, is_lacking_subr, is_miscounted, is_miss, is_overlap, is_past_range, is_told_otherwise, is_uneven, is_widthless, misses_at, only_where, othersubrs_at, own_stems, pairs, pairs_with, placed_from, placed_of, reason_row, row_of, sidebearings_at, single_stems_at, stems_at, subrs_at, told_at, told_by, takes, triples_at, wants_in, with_own}
+use Rattle.t1_reasons.specs.StepReasons.{beside_last, beside_last_of, counters_at, have_other_edges, is_thin_stem, leaves_some, threes_at, additions_at, are_no_pairs, brings, is_full, pairs_at, arguments_in, beside, calls_at, codes_at, has_no_code, has_no_name, is_by_zero, is_outermost, is_past_quotient, is_too_deep, is_unknown_othersubr, is_unknown_token, known_calls_at, quotients_at, returns_at, count_of, counts_in, first_in_row, has_fewer, has_more, is_any, is_bad_count, is_lacking_subr, is_miscounted, is_miss, is_overlap, is_past_range, is_told_otherwise, is_uneven, is_widthless, misses_at, only_where, othersubrs_at, own_stems, pairs, pairs_with, placed_from, placed_of, reason_row, row_of, sidebearings_at, single_stems_at, stems_at, subrs_at, told_at, told_by, takes, triples_at, wants_in, with_own}
 use Rattle.t1_reasons.proofs.Hints.{plain, plain_hints, plain_set}
 use Rattle.t1_reasons.proofs.LastCommands.{last_three_is}
 
@@ -326,65 +326,11 @@ overlapping edition before step = go (is_command lies_across step.token) (is_com
 
 -- ---- all of them
 
-compared_decides : (edition : Edition) (components : List Component) (rule : Rule) (before : List StepView) (step : StepView) → compares rule ≡ true
+-- A rule that compares no numbers.
+told_decides : (edition : Edition) (components : List Component) (rule : Rule) (before : List StepView) (step : StepView)
     → breaks (charstring_rules edition components) (number_of rule) before step
-    ≡ is_some (first_in_row (compared_row edition components rule) before step)
-unfolding charstring_rules step_rules argument_rules call_rules path_rules stem_rules flex_rules othersubr_rules seac_rules triple_rules counter_rules component_rules
-compared_decides edition components C03 before step e =
-    row_decides 28 (charstring_rules edition components) 2 _ refl refl refl refl before step ∙ unknown step.token
-compared_decides edition components C04 before step e =
-    row_decides 29 (charstring_rules edition components) 3 _ refl refl refl refl before step ∙ fewer_counted step.token step.stack
-compared_decides edition components C05 before step e =
-    row_decides 30 (charstring_rules edition components) 4 _ refl refl refl refl before step ∙ more_counted step.token step.stack
-compared_decides edition components C06 before step e =
-    row_decides 31 (charstring_rules edition components) 5 _ refl refl refl refl before step ∙ overfull step
-compared_decides edition components C07 before step e =
-    row_decides 32 (charstring_rules edition components) 6 _ refl refl refl refl before step ∙ past_argument step.token step.stack
-compared_decides edition components C08 before step e =
-    row_decides 33 (charstring_rules edition components) 7 _ refl refl refl refl before step ∙ past_quotient step
-compared_decides edition components C09 before step e =
-    row_decides 34 (charstring_rules edition components) 8 _ refl refl refl refl before step ∙ by_zero step
-compared_decides edition components S01 before step e =
-    row_decides 35 (charstring_rules edition components) 9 _ refl refl refl refl before step ∙ lacked step
-compared_decides edition components S02 before step e =
-    row_decides 36 (charstring_rules edition components) 10 _ refl refl refl refl before step ∙ too_deep step
-compared_decides edition components S03 before step e =
-    row_decides 37 (charstring_rules edition components) 11 _ refl refl refl refl before step ∙ returned step
-compared_decides edition components H02 before step e =
-    row_decides 47 (charstring_rules edition components) 21 _ refl refl refl refl before step ∙ overlapping edition before step
-compared_decides edition components H03 before step e =
-    row_decides 48 (charstring_rules edition components) 22 _ refl refl refl refl before step ∙ widthless step
-compared_decides edition components H04 before step e =
-    row_decides 49 (charstring_rules edition components) 23 _ refl refl refl refl before step ∙ uneven step
-compared_decides edition components H05 before step e =
-    row_decides 86 (charstring_rules edition components) 39 _ refl refl refl refl before step
-    ∙ where_so (has_later_rules edition) is_thin_stem (single_stems_at step) (thin step)
-compared_decides edition components H07 before step e =
-    row_decides 88 (charstring_rules edition components) 41 _ refl refl refl refl before step
-    ∙ where_so (has_later_rules edition) have_other_edges (threes_at before step) (another before step)
-compared_decides edition components X04 before step e =
-    row_decides 55 (charstring_rules edition components) 29 _ refl refl refl refl before step ∙ unpaired before step
-compared_decides edition components X05 before step e =
-    row_decides 56 (charstring_rules edition components) 30 _ refl refl refl refl before step ∙ missed before step
-compared_decides edition components O01 before step e =
-    row_decides 58 (charstring_rules edition components) 32 _ refl refl refl refl before step ∙ unknown_call step
-compared_decides edition components O02 before step e =
-    row_decides 59 (charstring_rules edition components) 33 _ refl refl refl refl before step ∙ badly_counted step
-compared_decides edition components O03 before step e =
-    row_decides 60 (charstring_rules edition components) 34 _ refl refl refl refl before step ∙ miscounted step
-compared_decides edition components O07 before step e =
-    row_decides 91 (charstring_rules edition components) 44 _ refl refl refl refl before step
-    ∙ where_so (has_later_rules edition) leaves_some (counters_at step) (left_over step)
-compared_decides edition components K01 before step e =
-    row_decides 62 (charstring_rules edition components) 36 _ refl refl refl refl before step ∙ without_code step
-compared_decides edition components K02 before step e =
-    row_decides 63 (charstring_rules edition components) 37 _ refl refl refl refl before step ∙ without_name step
-compared_decides edition components K05 before step e =
-    row_decides 66 (charstring_rules edition components) 49 _ refl refl refl refl before step ∙ told_otherwise components step
-compared_decides edition components _ before step e = let no : false ≡ true = e in cc
-
-pub broken_where_reason : StepsBreakWhereThereIsAReason
-broken_where_reason edition components rule before step = go (compares rule) refl
+    ≡ is_some (first_in_row (reason_row (told_at edition components rule) is_any) before step)
+told_decides edition components rule before step = and_true is_broken ∙ sym (such_where is_broken is_any (told_by rule (background_of before) step))
   where
     and_true : (b : Bool) → b ≡ (b && true)
     and_true true = refl
@@ -393,10 +339,60 @@ broken_where_reason edition components rule before step = go (compares rule) ref
     is_broken : Bool
     is_broken = breaks (charstring_rules edition components) (number_of rule) before step
 
-    go : (b : Bool) → compares rule ≡ b → is_broken
-        ≡ is_some (first_in_row (if b then compared_row edition components rule else reason_row (told_at edition components rule) is_any) before step)
-    go true is = compared_decides edition components rule before step is
-    go false is = and_true is_broken ∙ sym (such_where is_broken is_any (told_by rule (background_of before) step))
+pub broken_where_reason : StepsBreakWhereThereIsAReason
+unfolding charstring_rules step_rules argument_rules call_rules path_rules stem_rules flex_rules othersubr_rules seac_rules triple_rules counter_rules component_rules
+broken_where_reason edition components C03 before step =
+    row_decides 28 (charstring_rules edition components) 2 _ refl refl refl refl before step ∙ unknown step.token
+broken_where_reason edition components C04 before step =
+    row_decides 29 (charstring_rules edition components) 3 _ refl refl refl refl before step ∙ fewer_counted step.token step.stack
+broken_where_reason edition components C05 before step =
+    row_decides 30 (charstring_rules edition components) 4 _ refl refl refl refl before step ∙ more_counted step.token step.stack
+broken_where_reason edition components C06 before step =
+    row_decides 31 (charstring_rules edition components) 5 _ refl refl refl refl before step ∙ overfull step
+broken_where_reason edition components C07 before step =
+    row_decides 32 (charstring_rules edition components) 6 _ refl refl refl refl before step ∙ past_argument step.token step.stack
+broken_where_reason edition components C08 before step =
+    row_decides 33 (charstring_rules edition components) 7 _ refl refl refl refl before step ∙ past_quotient step
+broken_where_reason edition components C09 before step =
+    row_decides 34 (charstring_rules edition components) 8 _ refl refl refl refl before step ∙ by_zero step
+broken_where_reason edition components S01 before step =
+    row_decides 35 (charstring_rules edition components) 9 _ refl refl refl refl before step ∙ lacked step
+broken_where_reason edition components S02 before step =
+    row_decides 36 (charstring_rules edition components) 10 _ refl refl refl refl before step ∙ too_deep step
+broken_where_reason edition components S03 before step =
+    row_decides 37 (charstring_rules edition components) 11 _ refl refl refl refl before step ∙ returned step
+broken_where_reason edition components H02 before step =
+    row_decides 47 (charstring_rules edition components) 21 _ refl refl refl refl before step ∙ overlapping edition before step
+broken_where_reason edition components H03 before step =
+    row_decides 48 (charstring_rules edition components) 22 _ refl refl refl refl before step ∙ widthless step
+broken_where_reason edition components H04 before step =
+    row_decides 49 (charstring_rules edition components) 23 _ refl refl refl refl before step ∙ uneven step
+broken_where_reason edition components H05 before step =
+    row_decides 86 (charstring_rules edition components) 39 _ refl refl refl refl before step
+    ∙ where_so (has_later_rules edition) is_thin_stem (single_stems_at step) (thin step)
+broken_where_reason edition components H07 before step =
+    row_decides 88 (charstring_rules edition components) 41 _ refl refl refl refl before step
+    ∙ where_so (has_later_rules edition) have_other_edges (threes_at before step) (another before step)
+broken_where_reason edition components X04 before step =
+    row_decides 55 (charstring_rules edition components) 29 _ refl refl refl refl before step ∙ unpaired before step
+broken_where_reason edition components X05 before step =
+    row_decides 56 (charstring_rules edition components) 30 _ refl refl refl refl before step ∙ missed before step
+broken_where_reason edition components O01 before step =
+    row_decides 58 (charstring_rules edition components) 32 _ refl refl refl refl before step ∙ unknown_call step
+broken_where_reason edition components O02 before step =
+    row_decides 59 (charstring_rules edition components) 33 _ refl refl refl refl before step ∙ badly_counted step
+broken_where_reason edition components O03 before step =
+    row_decides 60 (charstring_rules edition components) 34 _ refl refl refl refl before step ∙ miscounted step
+broken_where_reason edition components O07 before step =
+    row_decides 91 (charstring_rules edition components) 44 _ refl refl refl refl before step
+    ∙ where_so (has_later_rules edition) leaves_some (counters_at step) (left_over step)
+broken_where_reason edition components K01 before step =
+    row_decides 62 (charstring_rules edition components) 36 _ refl refl refl refl before step ∙ without_code step
+broken_where_reason edition components K02 before step =
+    row_decides 63 (charstring_rules edition components) 37 _ refl refl refl refl before step ∙ without_name step
+broken_where_reason edition components K05 before step =
+    row_decides 66 (charstring_rules edition components) 49 _ refl refl refl refl before step ∙ told_otherwise components step
+broken_where_reason edition components rule before step = told_decides edition components rule before step
 
 pub found_there : (p : Reason → Bool) (xs : List Reason) (x : Reason) → find p xs ≡ Some x → Contains xs x
 found_there p [] x e = let no : None ≡ Some x = e in cc

@@ -6,6 +6,7 @@ use Rattle.std.specs.Option.{unwrap_or}
 use Rattle.std.specs.Ordering.{int_eq}
 use Rattle.t1_char.specs.declared.edition.Edition.{Edition}
 use Rattle.t1_char.specs.Charstrings.{tokens_in}
+use Rattle.t1_char.specs.Editions.{has_later_rules}
 use Rattle.t1_char.specs.Endings.{last_token}
 use Rattle.t1_font.specs.declared.key.Key.{Key}
 use Rattle.t1_font.specs.declared.key.Key.TheVariants.{FontType, PaintType, UniqueId, PrivateUniqueId, Password, MinFeature, BlueValues, BlueScale, BlueShift, BlueFuzz, FontMatrix, FontBBox, Xuid, LanguageGroup}
@@ -13,7 +14,7 @@ use Rattle.t1_font.specs.Fonts.{FontValue, is_subr_twice}
 use Rattle.t1_font.specs.Values.{Value, absent, number as one_number, numbers as several_numbers, other as another}
 use Rattle.t1_rules.specs.declared.rule.Rule.{Rule}
 use Rattle.t1_rules.specs.declared.rule.Rule.TheVariants.{F03, F04, F05, F06, F07, F08, F09, F10, F11, F13, F14, F15, F16, F17, F18, F19, F20, F21, Z01, Z02, Z03, Z04, Z05, Z06, Z07, Z08, Z09, Z10, Z11, Z12, Z13, Z14, Z15, Z16, Z17, Z18, Z19}
-use Rattle.t1_rules.specs.Book.{last_number_before, number_of}
+use Rattle.t1_rules.specs.Book.{number_of}
 use Rattle.t1_rules.specs.FontRules.{font_rules, violated}
 use Rattle.t1_rules.specs.FontRules.Encoding.{is_no_form}
 use Rattle.t1_rules.specs.FontRules.Hints.{hint_keys, is_past_fuzzes, is_past_scales, is_past_shifts, number_at, numbers_at}
@@ -21,7 +22,7 @@ use Rattle.t1_rules.specs.FontRules.Ids.{id_keys, is_whole_to}
 use Rattle.t1_rules.specs.FontRules.Stems.{snap_keys, width_keys, width_of}
 use Rattle.t1_rules.specs.FontRules.Values.{count_in, first_in, is_so_many, is_whole, product_one, whole}
 use Rattle.t1_rules.specs.FontRules.Zones.{begins_zone, distance, high_of, low_zone_keys, scale, zone_keys}
-use Rattle.t1_rules.specs.Keys.{encoding_key, index_count, key_number, list_limit_of, subrs_key, value_at, xuid_limit}
+use Rattle.t1_rules.specs.Keys.{encoding_key, index_count, key_among, list_limit_of, subrs_key, value_at, xuid_limit}
 use Rattle.t1_scan.specs.Numbers.{billion}
 use Rattle.t1_reasons.specs.declared.reason.Edges.{Edges}
 use Rattle.t1_reasons.specs.declared.reason.EntryKind.{EntryKind}
@@ -30,7 +31,7 @@ use Rattle.t1_reasons.specs.declared.reason.Found.{Found}
 use Rattle.t1_reasons.specs.declared.reason.Found.TheVariants.{Absent, One, Other, Several}
 use Rattle.t1_reasons.specs.declared.reason.Reason.{Reason}
 use Rattle.t1_reasons.specs.declared.reason.Reason.TheVariants.{Code, Corners, Entry, Following, Features, Form, Gap, Glyph, Glyphs, Ids, Kind, LastToken, Nothing, Number, Numbers, SubrEntry, TooMany, Width, Zone, Zones}
-use Rattle.t1_reasons.specs.StepReasons.{in_edition, is_any, only_where}
+use Rattle.t1_reasons.specs.StepReasons.{is_any, only_where}
 
 -- ---- candidates
 
@@ -315,14 +316,11 @@ scale_for _ = None
 
 -- ---- the table
 
--- At one of these keys, and at no other.
-abbrev pub key_among : List Key → ℕ → Option Key
-key_among keys key = find (λ k. key == key_number k) keys
-
 abbrev pub of_key : (Key → List Reason) → Option Key → List Reason
 of_key candidates None = []
 of_key candidates (Some k) = candidates k
 
+-- At one of these keys, and at no other.
 abbrev pub at_keys : List Key → (FontValue → Key → ℕ → List Reason) → FontValue → ℕ → ℕ → List Reason
 at_keys keys candidates font key index = of_key (λ k. candidates font k index) (key_among keys key)
 
@@ -337,106 +335,11 @@ pub record FontReasonRow : Type 0 where
 abbrev pub font_reason_row : (FontValue → ℕ → ℕ → List Reason) → (Reason → Bool) → FontReasonRow
 font_reason_row candidates is_against = record { candidates = candidates; is_against = is_against }
 
--- The rules that compare numbers: those up to number 70, and those after it.
-abbrev pub compares_first : Rule → Bool
-compares_first F03 = true
-compares_first F04 = true
-compares_first F05 = true
-compares_first F06 = true
-compares_first F07 = true
-compares_first F08 = true
-compares_first F11 = true
-compares_first F14 = true
-compares_first Z01 = true
-compares_first Z02 = true
-compares_first Z03 = true
-compares_first Z04 = true
-compares_first Z05 = true
-compares_first Z06 = true
-compares_first Z07 = true
-compares_first Z08 = true
-compares_first Z09 = true
-compares_first Z10 = true
-compares_first Z11 = true
-compares_first _ = false
-
-abbrev pub compares_later : Rule → Bool
-compares_later F15 = true
-compares_later F16 = true
-compares_later F17 = true
-compares_later F18 = true
-compares_later F19 = true
-compares_later F20 = true
-compares_later Z12 = true
-compares_later Z13 = true
-compares_later Z14 = true
-compares_later Z15 = true
-compares_later Z16 = true
-compares_later Z17 = true
-compares_later Z18 = true
-compares_later Z19 = true
-compares_later _ = false
-
-abbrev pub compares_in_fonts : Rule → Bool
-compares_in_fonts rule = compares_first rule || compares_later rule
-
 -- The row of a rule on entries alone.
 abbrev pub entry_row : Rule → List Key → FontReasonRow
 entry_row rule keys = font_reason_row (at_keys keys entries_at) (is_wrong_entry rule)
 
--- The rows of the rules up to number 70.
-abbrev pub first_font_row : Rule → FontReasonRow
-first_font_row F03 = entry_row F03 (FontType ∷ [])
-first_font_row F04 = entry_row F04 (PaintType ∷ [])
-first_font_row F05 = entry_row F05 id_keys
-first_font_row F06 = font_reason_row (at_keys (PrivateUniqueId ∷ []) ids_at) are_two_ids
-first_font_row F07 = entry_row F07 (Password ∷ [])
-first_font_row F08 = font_reason_row (at_keys (MinFeature ∷ []) features_at) is_unusual_feature
-first_font_row F11 = font_reason_row (at_key encoding_key forms_at) is_unknown_form
-first_font_row F14 = font_reason_row (at_key subrs_key subrs_in) is_wrong_subr
-first_font_row Z01 = font_reason_row (at_keys hint_keys kinds_at) is_misfit
-first_font_row Z02 = font_reason_row (at_keys zone_keys excess_at) is_excess
-first_font_row Z03 = font_reason_row (at_keys zone_keys counts_at) is_odd
-first_font_row Z04 = font_reason_row (at_keys zone_keys (λ font k index. falls_in (numbers_at font k) index)) falls
-first_font_row Z05 = font_reason_row (at_keys zone_keys (λ font k index. gap_in (distance font) (numbers_at font k) index)) is_near
-first_font_row Z06 = font_reason_row (at_keys low_zone_keys meetings_at) are_near
-first_font_row Z07 = font_reason_row (at_keys zone_keys (λ font k index. zone_in (scale font) (numbers_at font k) index)) reaches_one
-first_font_row Z08 = entry_row Z08 width_keys
-first_font_row Z09 = font_reason_row (at_keys snap_keys excess_at) is_excess
-first_font_row Z10 = font_reason_row (at_keys snap_keys (λ font k index. falls_in (numbers_at font k) index)) falls
-first_font_row Z11 = font_reason_row (at_keys snap_keys widths_at) is_apart
-first_font_row _ = font_reason_row (λ font key index. []) is_any
-
--- The rows of the rules after number 70.
-abbrev pub later_font_row : Rule → FontReasonRow
-later_font_row F15 = entry_row F15 (FontMatrix ∷ [])
-later_font_row F16 = entry_row F16 (FontBBox ∷ [])
-later_font_row F17 = font_reason_row (at_keys (FontBBox ∷ []) corners_at) are_exchanged
-later_font_row F18 = entry_row F18 (Xuid ∷ [])
-later_font_row F19 =
-    font_reason_row (at_keys (Xuid ∷ []) (λ font k index. listed_in (first_in xuid_limit (value_at font k)) index)) (is_wrong_listed F19)
-later_font_row F20 = entry_row F20 (LanguageGroup ∷ [])
-later_font_row Z12 = entry_row Z12 (BlueValues ∷ [])
-later_font_row Z13 = font_reason_row (at_keys width_keys first_widths_at) (is_wrong_listed Z13)
-later_font_row Z14 = font_reason_row (at_keys zone_keys (λ font k index. listed_in (numbers_at font k) index)) (is_wrong_listed Z14)
-later_font_row Z15 = font_reason_row (at_keys snap_keys (λ font k index. falls_in (numbers_at font k) index)) repeats
-later_font_row Z16 = font_reason_row (at_keys snap_keys unsnapped_at) is_any
-later_font_row Z17 = entry_row Z17 (BlueScale ∷ [])
-later_font_row Z18 = entry_row Z18 (BlueShift ∷ [])
-later_font_row Z19 = entry_row Z19 (BlueFuzz ∷ [])
-later_font_row _ = font_reason_row (λ font key index. []) is_any
-
--- Rules after number 70 compare nothing in an edition that hasn't them.
-abbrev pub row_in : Edition → FontReasonRow → FontReasonRow
-row_in edition row = font_reason_row (λ font key index. in_edition edition (row.candidates font key index)) row.is_against
-
-abbrev pub is_later : Rule → Bool
-is_later rule = nat_lt last_number_before (number_of rule)
-
-abbrev pub compared_font_row : Edition → Rule → FontReasonRow
-compared_font_row edition rule = if is_later rule then row_in edition (later_font_row rule) else first_font_row rule
-
--- The other rules: where the font breaks the rule, of what.
+-- A rule that compares no numbers: where the font breaks it, of what.
 abbrev pub told_in_font : Rule → FontValue → ℕ → Reason
 told_in_font F09 font index = Glyphs (length font.glyphs)
 told_in_font F10 font index = Glyph index
@@ -448,8 +351,50 @@ abbrev pub told_in_fonts : Edition → Rule → FontValue → ℕ → ℕ → Li
 told_in_fonts edition rule font key index =
     only_where (violated (font_rules edition) (number_of rule) font key index) (told_in_font rule font index)
 
+abbrev pub told_font_row : Edition → Rule → FontReasonRow
+told_font_row edition rule = font_reason_row (told_in_fonts edition rule) is_any
+
+-- The rows of the rules after number 70, in an edition that has them.
+abbrev pub later_font_row : Edition → Rule → FontReasonRow
+later_font_row edition F15 = entry_row F15 (FontMatrix ∷ [])
+later_font_row edition F16 = entry_row F16 (FontBBox ∷ [])
+later_font_row edition F17 = font_reason_row (at_keys (FontBBox ∷ []) corners_at) are_exchanged
+later_font_row edition F18 = entry_row F18 (Xuid ∷ [])
+later_font_row edition F19 =
+    font_reason_row (at_keys (Xuid ∷ []) (λ font k index. listed_in (first_in xuid_limit (value_at font k)) index)) (is_wrong_listed F19)
+later_font_row edition F20 = entry_row F20 (LanguageGroup ∷ [])
+later_font_row edition Z12 = entry_row Z12 (BlueValues ∷ [])
+later_font_row edition Z13 = font_reason_row (at_keys width_keys first_widths_at) (is_wrong_listed Z13)
+later_font_row edition Z14 = font_reason_row (at_keys zone_keys (λ font k index. listed_in (numbers_at font k) index)) (is_wrong_listed Z14)
+later_font_row edition Z15 = font_reason_row (at_keys snap_keys (λ font k index. falls_in (numbers_at font k) index)) repeats
+later_font_row edition Z16 = font_reason_row (at_keys snap_keys unsnapped_at) is_any
+later_font_row edition Z17 = entry_row Z17 (BlueScale ∷ [])
+later_font_row edition Z18 = entry_row Z18 (BlueShift ∷ [])
+later_font_row edition Z19 = entry_row Z19 (BlueFuzz ∷ [])
+later_font_row edition rule = told_font_row edition rule
+
+-- Each rule's row: those of the rules up to number 70 that compare numbers, and the others.
 abbrev pub font_row_of : Edition → Rule → FontReasonRow
-font_row_of edition rule = if compares_in_fonts rule then compared_font_row edition rule else font_reason_row (told_in_fonts edition rule) is_any
+font_row_of edition F03 = entry_row F03 (FontType ∷ [])
+font_row_of edition F04 = entry_row F04 (PaintType ∷ [])
+font_row_of edition F05 = entry_row F05 id_keys
+font_row_of edition F06 = font_reason_row (at_keys (PrivateUniqueId ∷ []) ids_at) are_two_ids
+font_row_of edition F07 = entry_row F07 (Password ∷ [])
+font_row_of edition F08 = font_reason_row (at_keys (MinFeature ∷ []) features_at) is_unusual_feature
+font_row_of edition F11 = font_reason_row (at_key encoding_key forms_at) is_unknown_form
+font_row_of edition F14 = font_reason_row (at_key subrs_key subrs_in) is_wrong_subr
+font_row_of edition Z01 = font_reason_row (at_keys hint_keys kinds_at) is_misfit
+font_row_of edition Z02 = font_reason_row (at_keys zone_keys excess_at) is_excess
+font_row_of edition Z03 = font_reason_row (at_keys zone_keys counts_at) is_odd
+font_row_of edition Z04 = font_reason_row (at_keys zone_keys (λ font k index. falls_in (numbers_at font k) index)) falls
+font_row_of edition Z05 = font_reason_row (at_keys zone_keys (λ font k index. gap_in (distance font) (numbers_at font k) index)) is_near
+font_row_of edition Z06 = font_reason_row (at_keys low_zone_keys meetings_at) are_near
+font_row_of edition Z07 = font_reason_row (at_keys zone_keys (λ font k index. zone_in (scale font) (numbers_at font k) index)) reaches_one
+font_row_of edition Z08 = entry_row Z08 width_keys
+font_row_of edition Z09 = font_reason_row (at_keys snap_keys excess_at) is_excess
+font_row_of edition Z10 = font_reason_row (at_keys snap_keys (λ font k index. falls_in (numbers_at font k) index)) falls
+font_row_of edition Z11 = font_reason_row (at_keys snap_keys widths_at) is_apart
+font_row_of edition rule = if has_later_rules edition then later_font_row edition rule else told_font_row edition rule
 
 -- The first candidate that is against the rule.
 abbrev pub first_in_font_row : FontReasonRow → FontValue → ℕ → ℕ → Option Reason

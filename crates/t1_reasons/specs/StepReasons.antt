@@ -382,69 +382,38 @@ pub record ReasonRow : Type 0 where
 abbrev pub reason_row : (List StepView → StepView → List Reason) → (Reason → Bool) → ReasonRow
 reason_row candidates is_against = record { candidates = candidates; is_against = is_against }
 
--- The rules that compare numbers.
-abbrev pub compares : Rule → Bool
-compares C03 = true
-compares C04 = true
-compares C05 = true
-compares C06 = true
-compares C07 = true
-compares C08 = true
-compares C09 = true
-compares S01 = true
-compares S02 = true
-compares S03 = true
-compares H02 = true
-compares H03 = true
-compares H04 = true
-compares H05 = true
-compares H07 = true
-compares X04 = true
-compares X05 = true
-compares O01 = true
-compares O02 = true
-compares O03 = true
-compares O07 = true
-compares K01 = true
-compares K02 = true
-compares K05 = true
-compares _ = false
-
-abbrev pub compared_row : Edition → List Component → Rule → ReasonRow
-compared_row edition components C03 = reason_row (λ before step. tokens_at step) is_unknown_token
-compared_row edition components C04 = reason_row (λ before step. wants_at step) has_fewer
-compared_row edition components C05 = reason_row (λ before step. counts_at step) has_more
-compared_row edition components C06 = reason_row (λ before step. additions_at step) is_full
-compared_row edition components C07 = reason_row (λ before step. arguments_at step) is_past_range
-compared_row edition components C08 = reason_row (λ before step. quotients_at step) is_past_quotient
-compared_row edition components C09 = reason_row (λ before step. quotients_at step) is_by_zero
-compared_row edition components S01 = reason_row (λ before step. subrs_at step) is_lacking_subr
-compared_row edition components S02 = reason_row (λ before step. calls_at step) is_too_deep
-compared_row edition components S03 = reason_row (λ before step. returns_at step) is_outermost
-compared_row edition components H02 = reason_row stems_at (is_overlap edition)
-compared_row edition components H03 = reason_row (λ before step. single_stems_at step) is_widthless
-compared_row edition components H04 = reason_row (λ before step. triples_at step) is_uneven
-compared_row edition components H05 = reason_row (λ before step. in_edition edition (single_stems_at step)) is_thin_stem
-compared_row edition components H07 = reason_row (λ before step. in_edition edition (threes_at before step)) have_other_edges
-compared_row edition components X04 = reason_row pairs_at are_no_pairs
-compared_row edition components X05 = reason_row misses_at is_miss
-compared_row edition components O01 = reason_row (λ before step. known_calls_at step) is_unknown_othersubr
-compared_row edition components O02 = reason_row (λ before step. othersubrs_at step) is_bad_count
-compared_row edition components O03 = reason_row (λ before step. known_calls_at step) is_miscounted
-compared_row edition components O07 = reason_row (λ before step. in_edition edition (counters_at step)) leaves_some
-compared_row edition components K01 = reason_row (λ before step. codes_at step) has_no_code
-compared_row edition components K02 = reason_row (λ before step. codes_at step) has_no_name
-compared_row edition components K05 = reason_row (λ before step. sidebearings_at components step) is_told_otherwise
-compared_row edition components _ = reason_row (λ before step. []) is_any
-
--- The other rules: what the rule says of the step, where the step breaks it.
+-- A rule that compares no numbers: what it says of the step, where the step breaks it.
 abbrev pub told_at : Edition → List Component → Rule → List StepView → StepView → List Reason
 told_at edition components rule before step =
     only_where (breaks (charstring_rules edition components) (number_of rule) before step) (told_by rule (background_of before) step)
 
+-- Each rule's row. The last line is that of all that compare no numbers.
 abbrev pub row_of : Edition → List Component → Rule → ReasonRow
-row_of edition components rule =
-    if compares rule then compared_row edition components rule else reason_row (told_at edition components rule) is_any
+row_of edition components C03 = reason_row (λ before step. tokens_at step) is_unknown_token
+row_of edition components C04 = reason_row (λ before step. wants_at step) has_fewer
+row_of edition components C05 = reason_row (λ before step. counts_at step) has_more
+row_of edition components C06 = reason_row (λ before step. additions_at step) is_full
+row_of edition components C07 = reason_row (λ before step. arguments_at step) is_past_range
+row_of edition components C08 = reason_row (λ before step. quotients_at step) is_past_quotient
+row_of edition components C09 = reason_row (λ before step. quotients_at step) is_by_zero
+row_of edition components S01 = reason_row (λ before step. subrs_at step) is_lacking_subr
+row_of edition components S02 = reason_row (λ before step. calls_at step) is_too_deep
+row_of edition components S03 = reason_row (λ before step. returns_at step) is_outermost
+row_of edition components H02 = reason_row stems_at (is_overlap edition)
+row_of edition components H03 = reason_row (λ before step. single_stems_at step) is_widthless
+row_of edition components H04 = reason_row (λ before step. triples_at step) is_uneven
+row_of edition components H05 = reason_row (λ before step. in_edition edition (single_stems_at step)) is_thin_stem
+row_of edition components H07 = reason_row (λ before step. in_edition edition (threes_at before step)) have_other_edges
+row_of edition components X04 = reason_row pairs_at are_no_pairs
+row_of edition components X05 = reason_row misses_at is_miss
+row_of edition components O01 = reason_row (λ before step. known_calls_at step) is_unknown_othersubr
+row_of edition components O02 = reason_row (λ before step. othersubrs_at step) is_bad_count
+row_of edition components O03 = reason_row (λ before step. known_calls_at step) is_miscounted
+row_of edition components O07 = reason_row (λ before step. in_edition edition (counters_at step)) leaves_some
+row_of edition components K01 = reason_row (λ before step. codes_at step) has_no_code
+row_of edition components K02 = reason_row (λ before step. codes_at step) has_no_name
+row_of edition components K05 = reason_row (λ before step. sidebearings_at components step) is_told_otherwise
+row_of edition components rule = reason_row (told_at edition components rule) is_any
 
 -- The first candidate that is against the rule.
 abbrev pub first_in_row : ReasonRow → List StepView → StepView → Option Reason

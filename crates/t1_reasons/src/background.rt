@@ -8,11 +8,10 @@ ghost use Rattle.t1_rules.specs.StepRules.Othersubrs.{calls_by_numbers};
 
 use crate::hint_sets::set_stem;
 use crate::reason::SetStem;
-use crate::step_reasons::{is_good_count, is_whole, lies_across, stands_upright};
 use t1_char::{Step, is_callothersubr};
 use t1_rules::{
-    Point, Triple, clears, closes, is_hstem, is_hstem3, is_line, is_move, is_vstem, is_vstem3,
-    sets_width, triple_of,
+    Point, Triple, clears, closes, ends_counting, is_hstem, is_hstem3, is_line, is_move, is_stem,
+    is_vstem, is_vstem3, sets_width, triple_of,
 };
 
 /// The points and the steps that reasons tell of.
@@ -94,7 +93,7 @@ impl Background {
             width: last(self.width, sets_width(step.token), number),
             outlined: last(self.outlined, outlines_in(step, in_flex), number),
             told: last(self.told, is_told(step), number),
-            counted: last(self.counted, ends_counting(step), number),
+            counted: last(self.counted, is_counted(step), number),
             hstem: last_stem(self.hstem, is_hstem(step.token), step, number),
             hstem3: last_three(self.hstem3, is_hstem3(step.token), step, number),
             vstem: last_stem(self.vstem, is_vstem(step.token), step, number),
@@ -128,8 +127,7 @@ fn is_in_flex_after(step: &Step, in_flex: bool) -> bool
 fn outlines_in(step: &Step, in_flex: bool) -> bool
     ensures { result ≡ outlines_in in_flex (step_view step.now) }
 {
-    let sets_stem = lies_across(step.token) | stands_upright(step.token);
-    is_move(step.token) | (draws_in(step, in_flex) | (sets_stem | closes(step.token)))
+    is_move(step.token) | (draws_in(step, in_flex) | (is_stem(step.token) | closes(step.token)))
 }
 
 /// Whether a step is a command that empties the stack, or a call of an OtherSubr.
@@ -147,15 +145,10 @@ fn calls_by_numbers(step: &Step) -> bool
 }
 
 /// Whether a step ends counter control.
-fn ends_counting(step: &Step) -> bool
+fn is_counted(step: &Step) -> bool
     ensures { result ≡ ends_counting (step_view step.now) }
 {
-    if !is_callothersubr(step.token) || step.stack.len() < 2 {
-        return false;
-    }
-    // This can't fail: there are at most 24 numbers.
-    is_good_count(step.stack.from_top(1), step.stack.len() as u8 - 2)
-        & is_whole(13, step.stack.from_top(0))
+    is_callothersubr(step.token) && step.stack.len() >= 2 && ends_counting(step)
 }
 
 /// The first stem of a step, where it is of a kind, or that of an earlier one.

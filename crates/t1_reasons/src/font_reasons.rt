@@ -5,28 +5,62 @@ ghost use Rattle.std.specs.List.{find};
 ghost use Rattle.std.specs.Map.{lookup};
 ghost use Rattle.t1_font.specs.declared.key.Key.TheVariants as Keys;
 ghost use Rattle.t1_font.specs.Entries.{entry_view};
-ghost use Rattle.t1_reasons.specs.FontReasons.{apart, are_near, are_two, are_two_ids, at_key, counts_at, excess_at, forms_at, is_excess, is_later, is_misfit, is_odd, kinds_of, is_unknown_form, is_wrong_subr, kinds_at, last_token_of, subrs_in, wanted_at, beside_zones, compared_font_row, compares_first, compares_in_fonts, compares_later, falls, falls_in, features_at, features_in, first_font_row, first_in_font_row, font_reason, gap_in, ids_at, ids_of, is_apart, is_near, is_unusual_feature, key_among, meetings_at, meetings_in, nearer, nearest, reaches_one, told_in_font, widths_at, widths_in, zone_in, zones_in};
+ghost use Rattle.t1_reasons.specs.FontReasons.{apart, are_near, are_two, are_two_ids, at_key, counts_at, excess_at, forms_at, is_excess, is_misfit, is_odd, kinds_of, is_unknown_form, is_wrong_subr, kinds_at, last_token_of, subrs_in, wanted_at, beside_zones, falls, falls_in, features_at, features_in, first_in_font_row, font_reason, gap_in, ids_at, ids_of, is_apart, is_near, is_unusual_feature, meetings_at, meetings_in, nearer, nearest, reaches_one, told_font_row, told_in_font, widths_at, widths_in, zone_in, zones_in};
 ghost use Rattle.t1_reasons.specs.StepReasons.{is_any, only_where};
 ghost use Rattle.t1_reasons.specs.declared.reason.Reason.TheVariants.{Gap, Ids, Numbers, SubrEntry, TooMany, Width, Zone, Zones as TwoZones};
 ghost use Rattle.t1_rules.specs.FontRules.Ids.{id_keys};
 ghost use Rattle.t1_rules.specs.FontRules.Stems.{snap_keys, width_keys, width_of};
 ghost use Rattle.t1_rules.specs.FontRules.Values.{count_in, first_in, product_one};
-ghost use Rattle.t1_rules.specs.FontRules.Zones.{high_of, low_zone_keys, zone_keys};
+ghost use Rattle.t1_rules.specs.FontRules.Hints.{numbers_at};
+ghost use Rattle.t1_rules.specs.FontRules.Zones.{distance, high_of, scale};
 ghost use Rattle.t1_rules.specs.FontRules.Hints.{hint_keys};
 ghost use Rattle.t1_rules.specs.Keys.{encoding_key, key_number, list_limit_of, subrs_key};
 
 use crate::entry_reasons::{entry_reason, found_in};
-use crate::later_font_reasons::later_compared;
+use crate::later_font_reasons::later_reason;
 use crate::reason::{Edges, EntryKind, Found, Reason};
 use t1_char::{Edition, last_token};
 use t1_font::{BILLION, Encoding, Entry, Font, Key};
-use t1_rules::{INDEXES, Rule, distance, font_faults, numbers_at, scale};
+use t1_rules::{
+    KeyKind, Rule, count_in, difference, distance, falls_at, first_in, font_faults, has_kind,
+    has_odd_count, has_too_many, is_of_another_kind, is_sixteen_twice, is_too_high, is_too_near,
+    is_wrong_subr, key_among, list_limit_of, numbers_at, scale,
+};
 
-/// One, in the unit of a product of two numbers.
-const PRODUCT_ONE: i128 = BILLION as i128 * BILLION as i128;
+/// The two UniqueIDs.
+static ID_KEYS: [Key; 2] = [Key::UniqueId, Key::PrivateUniqueId];
 
-/// The number of the last rule that all editions have.
-const LAST_NUMBER_BEFORE: u8 = 70;
+/// The lists of zones.
+pub(crate) static ZONE_KEYS: [Key; 4] = [
+    Key::BlueValues,
+    Key::OtherBlues,
+    Key::FamilyBlues,
+    Key::FamilyOtherBlues,
+];
+
+/// The lists of low zones.
+static LOW_ZONE_KEYS: [Key; 2] = [Key::OtherBlues, Key::FamilyOtherBlues];
+
+/// The lists of stem snaps.
+pub(crate) static SNAP_KEYS: [Key; 2] = [Key::StemSnapH, Key::StemSnapV];
+
+/// The standard widths.
+pub(crate) static WIDTH_KEYS: [Key; 2] = [Key::StdHw, Key::StdVw];
+
+/// The hint entries.
+static HINT_KEYS: [Key; 11] = [
+    Key::BlueValues,
+    Key::OtherBlues,
+    Key::FamilyBlues,
+    Key::FamilyOtherBlues,
+    Key::BlueScale,
+    Key::BlueShift,
+    Key::BlueFuzz,
+    Key::StdHw,
+    Key::StdVw,
+    Key::StemSnapH,
+    Key::StemSnapV,
+];
 
 /// Returns why a font breaks a rule at a key and an index by an edition, or None where it doesn't: the first of what the rule compares that is
 /// against it.
@@ -39,127 +73,42 @@ pub fn font_reason(
 ) -> Option<Reason>
     ensures { result ≡ font_reason edition font.now rule key index }
 {
-    if compares_in_fonts(rule) {
-        compared(font, rule, key, index, edition)
-    } else {
-        told_where(
-            font_faults(font, key, index, edition).has(rule),
-            rule,
-            font,
-            index,
-        )
-    }
-}
-
-/// Whether a rule compares numbers.
-fn compares_in_fonts(rule: Rule) -> bool
-    ensures { result ≡ compares_in_fonts rule }
-{
-    compares_first(rule) | compares_later(rule)
-}
-
-fn compares_first(rule: Rule) -> bool
-    ensures { result ≡ compares_first rule }
-{
-    matches!(
-        rule,
-        Rule::F03
-            | Rule::F04
-            | Rule::F05
-            | Rule::F06
-            | Rule::F07
-            | Rule::F08
-            | Rule::F11
-            | Rule::F14
-            | Rule::Z01
-            | Rule::Z02
-            | Rule::Z03
-            | Rule::Z04
-            | Rule::Z05
-            | Rule::Z06
-            | Rule::Z07
-            | Rule::Z08
-            | Rule::Z09
-            | Rule::Z10
-            | Rule::Z11
-    )
-}
-
-fn compares_later(rule: Rule) -> bool
-    ensures { result ≡ compares_later rule }
-{
-    matches!(
-        rule,
-        Rule::F15
-            | Rule::F16
-            | Rule::F17
-            | Rule::F18
-            | Rule::F19
-            | Rule::F20
-            | Rule::Z12
-            | Rule::Z13
-            | Rule::Z14
-            | Rule::Z15
-            | Rule::Z16
-            | Rule::Z17
-            | Rule::Z18
-            | Rule::Z19
-    )
-}
-
-/// Why a font breaks a rule that compares numbers.
-fn compared(font: &Font<'_>, rule: Rule, key: u8, index: u32, edition: Edition) -> Option<Reason>
-    ensures { result ≡ first_in_font_row (compared_font_row edition rule) font.now key index }
-{
-    if !is_later(rule) {
-        first_compared(font, rule, key, index)
-    } else if edition.has_later_rules() {
-        later_compared(font, rule, key, index)
-    } else {
-        None
-    }
-}
-
-/// Whether a rule is one after number 70.
-fn is_later(rule: Rule) -> bool
-    ensures { result ≡ is_later rule }
-{
-    rule.number() > LAST_NUMBER_BEFORE
-}
-
-/// Why a font breaks a rule up to number 70 that compares numbers.
-fn first_compared(font: &Font<'_>, rule: Rule, key: u8, index: u32) -> Option<Reason>
-    ensures { result ≡ first_in_font_row (first_font_row rule) font.now key index }
-{
     match rule {
-        Rule::F03 => entry_reason(rule, font, one_key(Key::FontType, 1, key)?, index),
-        Rule::F04 => entry_reason(rule, font, one_key(Key::PaintType, 2, key)?, index),
-        Rule::F05 => entry_reason(rule, font, id_key(key)?, index),
-        Rule::F06 => ids_reason(font, one_key(Key::PrivateUniqueId, 5, key)?, index),
-        Rule::F07 => entry_reason(rule, font, one_key(Key::Password, 6, key)?, index),
-        Rule::F08 => feature_reason(font, one_key(Key::MinFeature, 7, key)?, index),
+        Rule::F03 => entry_reason(rule, font, key_among(&[Key::FontType], key)?, index),
+        Rule::F04 => entry_reason(rule, font, key_among(&[Key::PaintType], key)?, index),
+        Rule::F05 => entry_reason(rule, font, key_among(&ID_KEYS, key)?, index),
+        Rule::F06 => ids_reason(font, key_among(&[Key::PrivateUniqueId], key)?, index),
+        Rule::F07 => entry_reason(rule, font, key_among(&[Key::Password], key)?, index),
+        Rule::F08 => feature_reason(font, key_among(&[Key::MinFeature], key)?, index),
         Rule::F11 => form_reason(font, key, index),
         Rule::F14 => subr_reason(font, key, index),
-        Rule::Z01 => kind_reason(font, hint_key(key)?, index),
-        Rule::Z02 => excess_reason(font, zone_key(key)?, index),
-        Rule::Z03 => odd_reason(font, zone_key(key)?, index),
-        Rule::Z04 => fall_reason(numbers_at(font, zone_key(key)?), index),
-        Rule::Z05 => gap_reason(numbers_at(font, zone_key(key)?), index, distance(font)),
-        Rule::Z06 => meeting_reason(font, low_zone_key(key)?, index),
-        Rule::Z07 => zone_reason(numbers_at(font, zone_key(key)?), index, scale(font)),
-        Rule::Z08 => entry_reason(rule, font, width_key(key)?, index),
-        Rule::Z09 => excess_reason(font, snap_key(key)?, index),
-        Rule::Z10 => fall_reason(numbers_at(font, snap_key(key)?), index),
-        Rule::Z11 => width_reason(font, snap_key(key)?, index),
-        _ => None,
+        Rule::Z01 => kind_reason(font, key_among(&HINT_KEYS, key)?, index),
+        Rule::Z02 => excess_reason(font, key_among(&ZONE_KEYS, key)?, index),
+        Rule::Z03 => odd_reason(font, key_among(&ZONE_KEYS, key)?, index),
+        Rule::Z04 => fall_reason(numbers_at(font, key_among(&ZONE_KEYS, key)?), index),
+        Rule::Z05 => gap_reason(font, key_among(&ZONE_KEYS, key)?, index),
+        Rule::Z06 => meeting_reason(font, key_among(&LOW_ZONE_KEYS, key)?, index),
+        Rule::Z07 => zone_reason(font, key_among(&ZONE_KEYS, key)?, index),
+        Rule::Z08 => entry_reason(rule, font, key_among(&WIDTH_KEYS, key)?, index),
+        Rule::Z09 => excess_reason(font, key_among(&SNAP_KEYS, key)?, index),
+        Rule::Z10 => fall_reason(numbers_at(font, key_among(&SNAP_KEYS, key)?), index),
+        Rule::Z11 => width_reason(font, key_among(&SNAP_KEYS, key)?, index),
+        _ if edition.has_later_rules() => later_reason(font, rule, key, index, edition),
+        _ => told_reason(font, rule, key, index, edition),
     }
 }
 
-/// Returns what a rule that compares no numbers says, where the font breaks it.
-fn told_where(is_broken: bool, rule: Rule, font: &Font<'_>, index: u32) -> Option<Reason>
-    ensures { result ≡ find is_any (only_where is_broken (told_in_font rule font.now index)) }
+/// Why a font breaks a rule that compares no numbers.
+pub(crate) fn told_reason(
+    font: &Font<'_>,
+    rule: Rule,
+    key: u8,
+    index: u32,
+    edition: Edition,
+) -> Option<Reason>
+    ensures { result ≡ first_in_font_row (told_font_row edition rule) font.now key index }
 {
-    if is_broken {
+    if font_faults(font, key, index, edition).has(rule) {
         Some(told_in_font(rule, font, index))
     } else {
         None
@@ -192,93 +141,8 @@ fn last_token_of(font: &Font<'_>, number: u32) -> Reason
     }
 }
 
-/// An entry, where the key is that of its number.
-pub(crate) fn one_key(own: Key, number: u8, key: u8) -> Option<Key>
-    requires { number ≡ key_number own }
-    ensures { result ≡ key_among (own ∷ []) key }
-{
-    if key == number { Some(own) } else { None }
-}
-
-/// The UniqueID that a key is.
-fn id_key(key: u8) -> Option<Key>
-    ensures { result ≡ key_among id_keys key }
-{
-    match key {
-        3 => Some(Key::UniqueId),
-        5 => Some(Key::PrivateUniqueId),
-        _ => None,
-    }
-}
-
-/// The list of zones that a key is.
-pub(crate) fn zone_key(key: u8) -> Option<Key>
-    ensures { result ≡ key_among zone_keys key }
-{
-    match key {
-        9 => Some(Key::BlueValues),
-        10 => Some(Key::OtherBlues),
-        11 => Some(Key::FamilyBlues),
-        12 => Some(Key::FamilyOtherBlues),
-        _ => None,
-    }
-}
-
-/// The list of low zones that a key is.
-fn low_zone_key(key: u8) -> Option<Key>
-    ensures { result ≡ key_among low_zone_keys key }
-{
-    match key {
-        10 => Some(Key::OtherBlues),
-        12 => Some(Key::FamilyOtherBlues),
-        _ => None,
-    }
-}
-
-/// The list of stem snaps that a key is.
-pub(crate) fn snap_key(key: u8) -> Option<Key>
-    ensures { result ≡ key_among snap_keys key }
-{
-    match key {
-        18 => Some(Key::StemSnapH),
-        19 => Some(Key::StemSnapV),
-        _ => None,
-    }
-}
-
-/// The standard width that a key is.
-pub(crate) fn width_key(key: u8) -> Option<Key>
-    ensures { result ≡ key_among width_keys key }
-{
-    match key {
-        16 => Some(Key::StdHw),
-        17 => Some(Key::StdVw),
-        _ => None,
-    }
-}
-
-/// The hint entry that a key is.
-fn hint_key(key: u8) -> Option<Key>
-    ensures { result ≡ key_among hint_keys key }
-{
-    match key {
-        9 => Some(Key::BlueValues),
-        10 => Some(Key::OtherBlues),
-        11 => Some(Key::FamilyBlues),
-        12 => Some(Key::FamilyOtherBlues),
-        13 => Some(Key::BlueScale),
-        14 => Some(Key::BlueShift),
-        15 => Some(Key::BlueFuzz),
-        16 => Some(Key::StdHw),
-        17 => Some(Key::StdVw),
-        18 => Some(Key::StemSnapH),
-        19 => Some(Key::StemSnapV),
-        _ => None,
-    }
-}
-
 /// The list of high zones beside one of low zones.
-fn high_of(low: Key) -> Key
+pub(crate) fn high_of(low: Key) -> Key
     ensures { result ≡ high_of low }
 {
     match low {
@@ -333,12 +197,9 @@ fn differing_ids(clear: i64, private: i64) -> Option<Reason>
 fn feature_reason(font: &Font<'_>, key: Key, index: u32) -> Option<Reason>
     ensures { result ≡ find is_unusual_feature (features_at font.now key index) }
 {
-    if index != 0 {
-        return None;
-    }
-    let reason = features_in(font.value(key));
-    if is_unusual_feature(&reason) {
-        Some(reason)
+    let value = font.value(key);
+    if index == 0 && !is_sixteen_twice(value) {
+        Some(features_in(value))
     } else {
         None
     }
@@ -365,32 +226,11 @@ fn features_in(value: &Entry) -> Reason
     }
 }
 
-/// Whether it isn't the two numbers 16 and 16.
-fn is_unusual_feature(reason: &Reason) -> bool
-    ensures { result ≡ is_unusual_feature reason.now }
-{
-    match reason {
-        Reason::Features { found, one, two } => {
-            !(are_two(*found) & (*one == 16 * BILLION) & (*two == 16 * BILLION))
-        }
-        _ => false,
-    }
-}
-
-fn are_two(found: Found) -> bool
-    ensures { result ≡ are_two found }
-{
-    match found {
-        Found::Several { count } => count == 2,
-        Found::Absent | Found::One { .. } | Found::Other => false,
-    }
-}
-
 /// Why the Encoding breaks F11 at an index.
 fn form_reason(font: &Font<'_>, key: u8, index: u32) -> Option<Reason>
     ensures { result ≡ find is_unknown_form (at_key encoding_key forms_at font.now key index) }
 {
-    if key != 4 || index != 0 {
+    if !has_kind(key, KeyKind::Encoding) || index != 0 {
         return None;
     }
     let encoding = font.encoding();
@@ -404,20 +244,11 @@ fn form_reason(font: &Font<'_>, key: u8, index: u32) -> Option<Reason>
 fn subr_reason(font: &Font<'_>, key: u8, number: u32) -> Option<Reason>
     ensures { result ≡ find is_wrong_subr (at_key subrs_key subrs_in font.now key number) }
 {
-    if key != 20 || number >= INDEXES || font.subr(number).is_none() {
-        return None;
-    }
-    wrong_subr(number, font.subr_twice(number), font.subr_size())
-}
-
-fn wrong_subr(number: u32, twice: bool, size: u32) -> Option<Reason>
-    ensures { result ≡ find is_wrong_subr (SubrEntry number twice size ∷ []) }
-{
-    if twice | (number >= size) {
+    if has_kind(key, KeyKind::Subrs) && is_wrong_subr(font, number) {
         Some(Reason::SubrEntry {
             number,
-            twice,
-            size,
+            twice: font.subr_twice(number),
+            size: font.subr_size(),
         })
     } else {
         None
@@ -428,21 +259,14 @@ fn wrong_subr(number: u32, twice: bool, size: u32) -> Option<Reason>
 fn kind_reason(font: &Font<'_>, key: Key, index: u32) -> Option<Reason>
     ensures { result ≡ find is_misfit (kinds_at font.now key index) }
 {
-    if index != 0 {
-        return None;
-    }
-    misfit(found_in(font.value(key)), wanted_at(key))
-}
-
-/// What a hint entry is, where it is there and of another kind than it should be.
-fn misfit(found: Found, wanted: EntryKind) -> Option<Reason>
-    ensures { result ≡ find is_misfit (kinds_of found wanted) }
-{
-    match (found, wanted) {
-        (Found::Absent, _) => None,
-        (Found::One { .. }, EntryKind::Number) => None,
-        (Found::Several { .. }, EntryKind::Numbers) => None,
-        _ => Some(Reason::Kind { found, wanted }),
+    let value = font.value(key);
+    if is_of_another_kind(key, value, index) {
+        Some(Reason::Kind {
+            found: found_in(value),
+            wanted: wanted_at(key),
+        })
+    } else {
+        None
     }
 }
 
@@ -460,18 +284,12 @@ fn wanted_at(key: Key) -> EntryKind
 fn excess_reason(font: &Font<'_>, key: Key, index: u32) -> Option<Reason>
     ensures { result ≡ find is_excess (excess_at font.now key index) }
 {
-    let most = list_limit_of(key);
-    if index as usize != most {
-        return None;
-    }
-    excess(count_in(font.value(key)), most)
-}
-
-fn excess(count: usize, most: usize) -> Option<Reason>
-    ensures { result ≡ find is_excess (TooMany count most ∷ []) }
-{
-    if most < count {
-        Some(Reason::TooMany { count, most })
+    let value = font.value(key);
+    if has_too_many(key, value, index) {
+        Some(Reason::TooMany {
+            count: count_in(value),
+            most: list_limit_of(key),
+        })
     } else {
         None
     }
@@ -481,41 +299,13 @@ fn excess(count: usize, most: usize) -> Option<Reason>
 fn odd_reason(font: &Font<'_>, key: Key, index: u32) -> Option<Reason>
     ensures { result ≡ find is_odd (counts_at font.now key index) }
 {
-    if index != 0 {
-        return None;
-    }
-    odd_count(count_in(font.value(key)))
-}
-
-fn odd_count(count: usize) -> Option<Reason>
-    ensures { result ≡ find is_odd (Numbers count ∷ []) }
-{
-    if count % 2 == 1 {
-        Some(Reason::Numbers { count })
+    let value = font.value(key);
+    if has_odd_count(value, index) {
+        Some(Reason::Numbers {
+            count: count_in(value),
+        })
     } else {
         None
-    }
-}
-
-/// How many numbers a list of zones or stem snaps has at most.
-fn list_limit_of(key: Key) -> usize
-    ensures { result ≡ list_limit_of key }
-{
-    match key {
-        Key::BlueValues | Key::FamilyBlues => 14,
-        Key::OtherBlues | Key::FamilyOtherBlues => 10,
-        Key::StemSnapH | Key::StemSnapV => 12,
-        _ => 0,
-    }
-}
-
-/// How many numbers a value has.
-fn count_in(value: &Entry) -> usize
-    ensures { result ≡ count_in (entry_view value.now) }
-{
-    match value {
-        Entry::Numbers { count, .. } => *count,
-        Entry::Absent | Entry::Number(_) | Entry::Other => 0,
     }
 }
 
@@ -524,37 +314,27 @@ fn fall_reason(numbers: &[i64], index: u32) -> Option<Reason>
     ensures { result ≡ find falls (falls_in numbers.now index) }
 {
     let place = index as usize;
-    if place == 0 || place >= numbers.len() {
-        return None;
-    }
-    let before = numbers[place - 1];
-    let number = numbers[place];
-    if number < before {
-        Some(Reason::Following { before, number })
+    if falls_at(numbers, place) {
+        Some(Reason::Following {
+            before: numbers[place - 1],
+            number: numbers[place],
+        })
     } else {
         None
     }
 }
 
 /// Why a list of zones breaks Z05 at an index.
-fn gap_reason(numbers: &[i64], index: u32, distance: i128) -> Option<Reason>
-    ensures { result ≡ find is_near (gap_in distance numbers.now index) }
+fn gap_reason(font: &Font<'_>, key: Key, index: u32) -> Option<Reason>
+    ensures { result ≡ find is_near (gap_in (distance font.now) (numbers_at font.now key) index) }
 {
+    let numbers = numbers_at(font, key);
     let place = index as usize;
-    if place == 0 || place % 2 == 1 || place + 1 >= numbers.len() {
-        return None;
-    }
-    near_gap(numbers[place - 1], numbers[place], distance)
-}
-
-fn near_gap(upper: i64, lower: i64, distance: i128) -> Option<Reason>
-    ensures { result ≡ find is_near (Gap upper lower distance ∷ []) }
-{
-    if difference(lower, upper) < distance {
+    if is_too_near(font, numbers, place) {
         Some(Reason::Gap {
-            upper,
-            lower,
-            distance,
+            upper: numbers[place - 1],
+            lower: numbers[place],
+            distance: distance(font),
         })
     } else {
         None
@@ -624,42 +404,20 @@ fn near_zones(distance: i128, own: Edges, other: Edges) -> Option<Reason>
 }
 
 /// Why a list of zones breaks Z07 at an index.
-fn zone_reason(numbers: &[i64], index: u32, scale: i64) -> Option<Reason>
-    ensures { result ≡ find reaches_one (zone_in scale numbers.now index) }
+fn zone_reason(font: &Font<'_>, key: Key, index: u32) -> Option<Reason>
+    ensures { result ≡ find reaches_one (zone_in (scale font.now) (numbers_at font.now key) index) }
 {
+    let numbers = numbers_at(font, key);
     let place = index as usize;
-    if place % 2 == 0 || place >= numbers.len() {
-        return None;
-    }
-    high_zone(numbers[place - 1], numbers[place], scale)
-}
-
-fn high_zone(lower: i64, upper: i64, scale: i64) -> Option<Reason>
-    ensures { result ≡ find reaches_one (Zone lower upper scale ∷ []) }
-{
-    if reaches_one(lower, upper, scale) {
+    if is_too_high(font, numbers, place) {
         Some(Reason::Zone {
-            lower,
-            upper,
-            scale,
+            lower: numbers[place - 1],
+            upper: numbers[place],
+            scale: scale(font),
         })
     } else {
         None
     }
-}
-
-/// Whether a height times BlueScale is 1 or more.
-fn reaches_one(lower: i64, upper: i64, scale: i64) -> bool
-    ensures { result ≡ int_le product_one ((upper -ℤ lower) *ℤ scale) }
-{
-    PRODUCT_ONE <= difference(upper, lower) * i128::from(scale)
-}
-
-/// How far a number is above another.
-fn difference(above: i64, below: i64) -> i128
-    ensures { result ≡ above -ℤ below }
-{
-    i128::from(above) - i128::from(below)
 }
 
 /// Why a list of stem snaps breaks Z11 at an index.
@@ -670,26 +428,9 @@ fn width_reason(font: &Font<'_>, snaps: Key, index: u32) -> Option<Reason>
         return None;
     }
     first_apart(
-        widths_in(font.value(width_of(snaps))),
+        first_in(1, font.value(width_of(snaps))),
         numbers_at(font, snaps),
     )
-}
-
-/// The first standard width, as a list.
-fn widths_in(value: &Entry) -> &[i64]
-    ensures { result.now ≡ first_in 1 (entry_view value.now) }
-{
-    match value {
-        Entry::Numbers { first, .. } => {
-            let numbers = first.as_slice();
-            if 1 < numbers.len() {
-                &numbers[..1]
-            } else {
-                numbers
-            }
-        }
-        Entry::Absent | Entry::Number(_) | Entry::Other => &[],
-    }
 }
 
 /// The first width and the snap that is nearest to it, where they differ.

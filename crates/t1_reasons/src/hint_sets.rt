@@ -11,13 +11,9 @@ ghost use Rattle.t1_rules.specs.StepRules.Tokens.{is_command};
 ghost use Rattle.t1_rules.specs.Watches.{most_steps};
 
 use crate::reason::SetStem;
-use crate::step_reasons::{lies_across, stands_upright};
 use arrayvec::ArrayVec;
-use t1_char::{CharToken, Command, Step};
-use t1_rules::Stem;
-
-/// How many stems a hint set has at most, in each direction.
-const MOST_STEMS: usize = 96;
+use t1_char::Step;
+use t1_rules::{MOST_STEMS, is_triple, keep, lies_across, stands_upright, stem_at};
 
 /// Stems of one direction.
 pub(crate) type SetStems = ArrayVec<SetStem, MOST_STEMS>;
@@ -79,7 +75,7 @@ fn keep_along(kept: &mut SetStems, sets: bool, step: &Step, number: u32)
     if step.replaces_hints() {
         kept.clear();
     } else if sets {
-        keep_own(kept, step, number);
+        keep(kept, own_stems(step, number).as_slice());
     }
 }
 
@@ -89,51 +85,20 @@ pub(crate) fn set_stem(step: &Step, place: usize, number: u32) -> SetStem
     ensures { result ≡ set_at number (stem_at step.now.stack place) }
 {
     SetStem {
-        stem: Stem {
-            position: step.argument(place),
-            width: step.argument(place + 1),
-        },
+        stem: stem_at(step, place),
         step: number,
     }
 }
 
-pub(crate) fn is_triple(token: CharToken) -> bool
-    ensures { result ≡ is_command is_triple token }
+/// The stems of a step that sets some, by its number.
+pub(crate) fn own_stems(step: &Step, number: u32) -> ArrayVec<SetStem, 3>
+    ensures { result.items ≡ all_set_at number (stems_of (step_view step.now)) }
 {
-    matches!(token, CharToken::Command(Command::Hstem3 | Command::Vstem3))
-}
-
-/// Keeps the stems of a step, as long as there are fewer than 96.
-fn keep_own(kept: &mut SetStems, step: &Step, number: u32)
-    ensures { kept.new.items ≡ take most_stems (kept.old.items ++ all_set_at number (stems_of (step_view step.now))) }
-{
+    let mut stems = ArrayVec::new();
+    stems.push(set_stem(step, 0, number));
     if is_triple(step.token) {
-        let stems = [
-            set_stem(step, 0, number),
-            set_stem(step, 2, number),
-            set_stem(step, 4, number),
-        ];
-        keep(kept, &stems);
-    } else {
-        keep(kept, &[set_stem(step, 0, number)]);
+        stems.push(set_stem(step, 2, number));
+        stems.push(set_stem(step, 4, number));
     }
-}
-
-/// Keeps stems, as long as there are fewer than 96.
-fn keep(kept: &mut SetStems, stems: &[SetStem])
-    ensures { kept.new.items ≡ take most_stems (kept.old.items ++ stems.now) }
-{
-    // This can't fail: there are no more than there is room for.
-    let _fits = kept.try_extend_from_slice(first(kept.remaining_capacity(), stems));
-}
-
-/// The first stems, so many or all.
-fn first(count: usize, stems: &[SetStem]) -> &[SetStem]
-    ensures { result.now ≡ take count stems.now }
-{
-    if count < stems.len() {
-        &stems[..count]
-    } else {
-        stems
-    }
+    stems
 }

@@ -9,38 +9,47 @@ ghost use Rattle.t1_reasons.specs.declared.reason.Reason.TheVariants.{Corners, N
 ghost use Rattle.t1_rules.specs.FontRules.Values.{first_in, is_so_many};
 ghost use Rattle.t1_rules.specs.declared.rule.Rule.TheVariants.{Z13};
 
-use crate::entry_reasons::{entry_reason, is_id, is_whole};
-use crate::font_reasons::{one_key, snap_key, width_key, width_of, zone_key};
+use crate::entry_reasons::entry_reason;
+use crate::font_reasons::{SNAP_KEYS, WIDTH_KEYS, ZONE_KEYS, told_reason, width_of};
 use crate::reason::Reason;
+use t1_char::Edition;
 use t1_font::{Entry, Font, Key};
-use t1_rules::{Rule, numbers_at};
+use t1_rules::{
+    Rule, first_in, is_id, is_so_many, is_whole, key_among, numbers_at, repeats_at,
+};
 
 /// How many numbers of an XUID are looked at.
 const MOST_XUID: usize = 16;
 
-/// Why a font breaks such a rule that compares numbers, in an edition that has it.
-pub(crate) fn later_compared(font: &Font<'_>, rule: Rule, key: u8, index: u32) -> Option<Reason>
-    ensures { result ≡ first_in_font_row (later_font_row rule) font.now key index }
+/// Why a font breaks a rule in an edition that has those after number 70.
+pub(crate) fn later_reason(
+    font: &Font<'_>,
+    rule: Rule,
+    key: u8,
+    index: u32,
+    edition: Edition,
+) -> Option<Reason>
+    ensures { result ≡ first_in_font_row (later_font_row edition rule) font.now key index }
 {
     match rule {
-        Rule::F15 => entry_reason(rule, font, one_key(Key::FontMatrix, 22, key)?, index),
-        Rule::F16 => entry_reason(rule, font, one_key(Key::FontBBox, 23, key)?, index),
-        Rule::F17 => corner_reason(font.value(one_key(Key::FontBBox, 23, key)?), index),
-        Rule::F18 => entry_reason(rule, font, one_key(Key::Xuid, 24, key)?, index),
+        Rule::F15 => entry_reason(rule, font, key_among(&[Key::FontMatrix], key)?, index),
+        Rule::F16 => entry_reason(rule, font, key_among(&[Key::FontBBox], key)?, index),
+        Rule::F17 => corner_reason(font.value(key_among(&[Key::FontBBox], key)?), index),
+        Rule::F18 => entry_reason(rule, font, key_among(&[Key::Xuid], key)?, index),
         Rule::F19 => {
-            let numbers = first_in(MOST_XUID, font.value(one_key(Key::Xuid, 24, key)?));
+            let numbers = first_in(MOST_XUID, font.value(key_among(&[Key::Xuid], key)?));
             listed_reason(rule, numbers, index)
         }
-        Rule::F20 => entry_reason(rule, font, one_key(Key::LanguageGroup, 25, key)?, index),
-        Rule::Z12 => entry_reason(rule, font, one_key(Key::BlueValues, 9, key)?, index),
-        Rule::Z13 => width_reason(font, width_key(key)?, index),
-        Rule::Z14 => listed_reason(rule, numbers_at(font, zone_key(key)?), index),
-        Rule::Z15 => repeat_reason(numbers_at(font, snap_key(key)?), index),
-        Rule::Z16 => snap_reason(font, snap_key(key)?, index),
-        Rule::Z17 => entry_reason(rule, font, one_key(Key::BlueScale, 13, key)?, index),
-        Rule::Z18 => entry_reason(rule, font, one_key(Key::BlueShift, 14, key)?, index),
-        Rule::Z19 => entry_reason(rule, font, one_key(Key::BlueFuzz, 15, key)?, index),
-        _ => None,
+        Rule::F20 => entry_reason(rule, font, key_among(&[Key::LanguageGroup], key)?, index),
+        Rule::Z12 => entry_reason(rule, font, key_among(&[Key::BlueValues], key)?, index),
+        Rule::Z13 => width_reason(font, key_among(&WIDTH_KEYS, key)?, index),
+        Rule::Z14 => listed_reason(rule, numbers_at(font, key_among(&ZONE_KEYS, key)?), index),
+        Rule::Z15 => repeat_reason(numbers_at(font, key_among(&SNAP_KEYS, key)?), index),
+        Rule::Z16 => snap_reason(font, key_among(&SNAP_KEYS, key)?, index),
+        Rule::Z17 => entry_reason(rule, font, key_among(&[Key::BlueScale], key)?, index),
+        Rule::Z18 => entry_reason(rule, font, key_among(&[Key::BlueShift], key)?, index),
+        Rule::Z19 => entry_reason(rule, font, key_among(&[Key::BlueFuzz], key)?, index),
+        _ => told_reason(font, rule, key, index, edition),
     }
 }
 
@@ -49,19 +58,9 @@ fn corner_reason(value: &Entry, index: u32) -> Option<Reason>
     ensures { result ≡ find are_exchanged (if is_so_many 4 (entry_view value.now) then corners_of (first_in 4 (entry_view value.now)) index else []) }
 {
     match first_in(4, value) {
-        [left, _, right, _] if are_four(value) && index == 0 => exchanged(*left, *right),
-        [_, lower, _, upper] if are_four(value) && index == 1 => exchanged(*lower, *upper),
+        [left, _, right, _] if is_so_many(4, value) && index == 0 => exchanged(*left, *right),
+        [_, lower, _, upper] if is_so_many(4, value) && index == 1 => exchanged(*lower, *upper),
         _ => None,
-    }
-}
-
-/// Whether a value is four numbers.
-fn are_four(value: &Entry) -> bool
-    ensures { result ≡ is_so_many 4 (entry_view value.now) }
-{
-    match value {
-        Entry::Numbers { count, .. } => *count == 4,
-        Entry::Absent | Entry::Number(_) | Entry::Other => false,
     }
 }
 
@@ -72,23 +71,6 @@ fn exchanged(first: i64, last: i64) -> Option<Reason>
         Some(Reason::Corners { first, last })
     } else {
         None
-    }
-}
-
-/// The first numbers of a value, as many as the limit at most.
-fn first_in(limit: usize, value: &Entry) -> &[i64]
-    ensures { result.now ≡ first_in limit (entry_view value.now) }
-{
-    match value {
-        Entry::Numbers { first, .. } => {
-            let numbers = first.as_slice();
-            if limit < numbers.len() {
-                &numbers[..limit]
-            } else {
-                numbers
-            }
-        }
-        Entry::Absent | Entry::Number(_) | Entry::Other => &[],
     }
 }
 
@@ -141,13 +123,11 @@ fn repeat_reason(numbers: &[i64], index: u32) -> Option<Reason>
     ensures { result ≡ find repeats (falls_in numbers.now index) }
 {
     let place = index as usize;
-    if place == 0 || place >= numbers.len() {
-        return None;
-    }
-    let before = numbers[place - 1];
-    let number = numbers[place];
-    if number == before {
-        Some(Reason::Following { before, number })
+    if repeats_at(numbers, place) {
+        Some(Reason::Following {
+            before: numbers[place - 1],
+            number: numbers[place],
+        })
     } else {
         None
     }
@@ -157,19 +137,9 @@ fn repeat_reason(numbers: &[i64], index: u32) -> Option<Reason>
 fn snap_reason(font: &Font<'_>, key: Key, index: u32) -> Option<Reason>
     ensures { result ≡ find is_any (unsnapped_at font.now key index) }
 {
-    if index != 0 || !are_none(font.value(key)) {
+    if index != 0 || !is_so_many(0, font.value(key)) {
         return None;
     }
     let width = first_in(1, font.value(width_of(key))).first()?;
     Some(Reason::Number { number: *width })
-}
-
-/// Whether a value is a list without a number.
-fn are_none(value: &Entry) -> bool
-    ensures { result ≡ is_so_many 0 (entry_view value.now) }
-{
-    match value {
-        Entry::Numbers { count, .. } => *count == 0,
-        Entry::Absent | Entry::Number(_) | Entry::Other => false,
-    }
 }

@@ -1,13 +1,13 @@
 //! What would do in the place of what breaks a rule: Type 1 Font Format 1.1, chapter 5.
 
 ghost use Rattle.std.specs.Prelude.{◌≡◌, ◌-ℤ◌, Some};
-ghost use Rattle.t1_rules.specs.FontRules.Zones.{high_of};
 ghost use Rattle.t1_reasons.specs.FontReasons.{scale_for, zones_in};
 ghost use Rattle.t1_reasons.specs.Remedies.{fuzz_for, fuzz_for_all, fuzz_for_both, fuzz_from, gap_between, gaps_across, gaps_across_at, gaps_beside, gaps_in, lesser, scale_for_all, scale_from};
 
+use crate::font_reasons::high_of;
 use crate::reason::Edges;
 use t1_font::{BILLION, Font, Key};
-use t1_rules::numbers_at;
+use t1_rules::{difference, numbers_at};
 
 /// The greatest product of a height and BlueScale that is below 1, in units of 10^-18.
 const GREATEST_PRODUCT: i128 = BILLION as i128 * BILLION as i128 - 1;
@@ -72,16 +72,15 @@ fn fuzz_from(bound: Option<i64>, numbers: &[i64]) -> Option<i64>
 pub fn fuzz_across(font: &Font<'_>) -> Option<i64>
     ensures { result ≡ fuzz_for_both font.now }
 {
-    let own = fuzz_between(None, font, Key::OtherBlues, Key::BlueValues);
-    fuzz_between(own, font, Key::FamilyOtherBlues, Key::FamilyBlues)
+    let own = fuzz_between(None, font, Key::OtherBlues);
+    fuzz_between(own, font, Key::FamilyOtherBlues)
 }
 
-/// The greatest BlueFuzz that does for the zones of a list of low ones and of a list of high ones, and isn't above another bound.
-fn fuzz_between(bound: Option<i64>, font: &Font<'_>, low: Key, high: Key) -> Option<i64>
-    requires { high ≡ high_of low }
+/// The greatest BlueFuzz that does for the zones of a list of low ones and of the list of high ones beside it, and isn't above another bound.
+fn fuzz_between(bound: Option<i64>, font: &Font<'_>, low: Key) -> Option<i64>
     ensures { result ≡ fuzz_from bound (gaps_across_at font.now low) }
 {
-    fuzz_among(bound, numbers_at(font, low), numbers_at(font, high))
+    fuzz_among(bound, numbers_at(font, low), numbers_at(font, high_of(low)))
 }
 
 /// The same by their numbers.
@@ -122,20 +121,13 @@ fn fuzz_beside(bound: Option<i64>, own: Edges, highs: &[i64]) -> Option<i64>
 fn fuzz_of_two(bound: Option<i64>, own: Edges, other: Edges) -> Option<i64>
     ensures { result ≡ lesser bound (Some (fuzz_for (gap_between own other))) }
 {
-    let below = gap(own.upper, other.lower);
-    let above = gap(other.upper, own.lower);
+    let below = difference(other.lower, own.upper);
+    let above = difference(own.lower, other.upper);
     if below < above {
         fuzz_under(bound, other.upper, own.lower)
     } else {
         fuzz_under(bound, own.upper, other.lower)
     }
-}
-
-/// How far the lower edge of a zone is above the upper edge of another.
-fn gap(upper: i64, lower: i64) -> i128
-    ensures { result ≡ lower -ℤ upper }
-{
-    i128::from(lower) - i128::from(upper)
 }
 
 /// The same for one gap.
@@ -149,7 +141,7 @@ fn fuzz_under(bound: Option<i64>, upper: i64, lower: i64) -> Option<i64>
 fn fuzz_for(upper: i64, lower: i64) -> i64
     ensures { result ≡ fuzz_for (lower -ℤ upper) }
 {
-    let rest = gap(upper, lower) - i128::from(BILLION);
+    let rest = difference(lower, upper) - i128::from(BILLION);
     if rest < 0 {
         return -1;
     }
@@ -172,7 +164,7 @@ fn lesser(one: Option<i64>, other: Option<i64>) -> Option<i64>
 fn scale_for(lower: i64, upper: i64) -> Option<i64>
     ensures { result ≡ scale_for (upper -ℤ lower) }
 {
-    let height = i128::from(upper) - i128::from(lower);
+    let height = difference(upper, lower);
     if height <= 0 {
         return None;
     }

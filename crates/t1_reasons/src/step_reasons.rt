@@ -7,7 +7,7 @@ ghost use Rattle.t1_char.specs.Steps.{StepView};
 ghost use Rattle.t1_reasons.specs.Backgrounds.{background_of};
 ghost use Rattle.t1_reasons.specs.HintSets.{set_at};
 ghost use Rattle.t1_rules.specs.StepRules.Counters.{is_below};
-ghost use Rattle.t1_reasons.specs.StepReasons.{beside_last, beside_one, counters_at, first_of_three, have_other_edges, is_thin_stem, last_of_other, leaves_some, three_beside, threes_at, additions_at, brings, call_of, calls_at, ending_of, is_full, codes_at, depth_of, is_miscounted, takes, has_no_code, has_no_name, is_by_zero, is_outermost, is_past_quotient, is_too_deep, is_unknown_othersubr, is_unknown_token, known_calls_at, quotients_at, returns_at, tokens_at, compares, is_any, only_where, told_by, arguments_at, has_fewer, is_bad_count, is_past_range, is_uneven, is_widthless, triples_at, othersubrs_at, placed_from, single_stems_at, wants_at, beside, counts_at, has_more, is_lacking_subr, is_overlap, is_told_otherwise, pairs, pairs_with, sidebearings_at, subrs_at};
+ghost use Rattle.t1_reasons.specs.StepReasons.{beside_last, beside_one, counters_at, first_of_three, have_other_edges, is_thin_stem, last_of_other, leaves_some, three_beside, threes_at, additions_at, brings, call_of, calls_at, ending_of, is_full, codes_at, depth_of, is_miscounted, takes, has_no_code, has_no_name, is_by_zero, is_outermost, is_past_quotient, is_too_deep, is_unknown_othersubr, is_unknown_token, known_calls_at, quotients_at, returns_at, tokens_at, in_edition, is_any, only_where, told_by, arguments_at, has_fewer, is_bad_count, is_past_range, is_uneven, is_widthless, triples_at, othersubrs_at, placed_from, single_stems_at, wants_at, beside, counts_at, has_more, is_lacking_subr, is_overlap, is_told_otherwise, pairs, pairs_with, sidebearings_at, subrs_at};
 ghost use Rattle.t1_char.specs.Arguments.{argument, is_whole};
 ghost use Rattle.t1_char.specs.Commands.{arguments_of};
 ghost use Rattle.t1_rules.specs.StepRules.Seac.{is_unnamed};
@@ -20,49 +20,16 @@ ghost use Rattle.t1_rules.specs.StepRules.Stems.{stem_at, lies_across, stands_up
 ghost use Rattle.t1_rules.specs.StepRules.Tokens.{is_command, is_div, is_pop};
 
 use crate::background::{Background, SetTriple};
-use crate::hint_sets::{is_triple, set_stem};
 use crate::reason::{Reason, SetStem};
 use t1_char::{
-    CharToken, Command, Edition, GREATEST, MOST_CALLS, MOST_NUMBERS, Step, UNIT, cut_quotient,
-    is_callothersubr, is_callsubr, is_return, natural,
+    CharToken, Command, Edition, MOST_CALLS, MOST_NUMBERS, Step, UNIT, is_callothersubr, is_callsubr,
+    is_return, natural,
 };
 use t1_rules::{
-    Rule, Sidebearings, Stem, Triple, accent_code, are_unequal, base_code, is_seac, standard_name,
-    triple_of,
+    Rule, Sidebearings, Stem, Triple, accent_code, are_unequal, base_code, is_counter_control,
+    is_flex_or_hints, is_good_count, is_past, is_pop, is_seac, is_stem, is_triple, is_unnamed,
+    quotient_is_past, stem_at, three_stems, triple_of,
 };
-
-/// Whether a rule compares numbers.
-pub(crate) fn compares(rule: Rule) -> bool
-    ensures { result ≡ compares rule }
-{
-    matches!(
-        rule,
-        Rule::C03
-            | Rule::C04
-            | Rule::C05
-            | Rule::C06
-            | Rule::C07
-            | Rule::C08
-            | Rule::C09
-            | Rule::S01
-            | Rule::S02
-            | Rule::S03
-            | Rule::H02
-            | Rule::H03
-            | Rule::H04
-            | Rule::H05
-            | Rule::H07
-            | Rule::X04
-            | Rule::X05
-            | Rule::O01
-            | Rule::O02
-            | Rule::O03
-            | Rule::O07
-            | Rule::K01
-            | Rule::K02
-            | Rule::K05
-    )
-}
 
 /// Returns what a rule that compares no numbers says of the step, where the step breaks it.
 pub(crate) fn told_where(
@@ -105,7 +72,7 @@ fn told_by(rule: Rule, background: &Background, step: &Step) -> Reason
         },
         Rule::X02 => call_of(step),
         Rule::H06 => beside_one(
-            set_stem(step, 0, 0).stem,
+            stem_at(step, 0),
             last_of_other(step.token, background),
         ),
         Rule::O05 | Rule::O08 | Rule::W03 => Reason::Since {
@@ -215,17 +182,6 @@ fn past_quotient(dividend: i64, divisor: i64) -> Option<Reason>
     }
 }
 
-/// Whether the divisor isn't 0, and the quotient is past 32000.
-fn quotient_is_past(dividend: i64, divisor: i64) -> bool
-    ensures { result ≡ quotient_is_past dividend divisor }
-{
-    if divisor == 0 {
-        return false;
-    }
-    let quotient = cut_quotient(dividend, divisor);
-    (i128::from(GREATEST) < quotient) | (quotient < -i128::from(GREATEST))
-}
-
 /// Why a step breaks C09.
 pub(crate) fn zero_reason(step: &Step) -> Option<Reason>
     ensures { result ≡ find is_by_zero (quotients_at (step_view step.now)) }
@@ -289,8 +245,7 @@ pub(crate) fn unknown_reason(step: &Step) -> Option<Reason>
         return None;
     }
     let count = step.stack.from_top(1);
-    // This can't fail: there are at most 24 numbers.
-    if !is_good_count(count, step.stack.len() as u8 - 2) {
+    if !is_good_count(step.stack.len() - 2, count) {
         return None;
     }
     unknown_othersubr(step.stack.from_top(0), count)
@@ -299,7 +254,7 @@ pub(crate) fn unknown_reason(step: &Step) -> Option<Reason>
 fn unknown_othersubr(number: i64, count: i64) -> Option<Reason>
     ensures { result ≡ find is_unknown_othersubr (Othersubr number count ∷ []) }
 {
-    if is_known(number) {
+    if is_flex_or_hints(number) | is_counter_control(number) {
         None
     } else {
         Some(Reason::Othersubr { number, count })
@@ -314,8 +269,7 @@ pub(crate) fn wrong_count_reason(step: &Step) -> Option<Reason>
         return None;
     }
     let count = step.stack.from_top(1);
-    // This can't fail: there are at most 24 numbers.
-    if !is_good_count(count, step.stack.len() as u8 - 2) {
+    if !is_good_count(step.stack.len() - 2, count) {
         return None;
     }
     miscounted_call(step.stack.from_top(0), count)
@@ -342,24 +296,10 @@ fn takes(number: i64, count: i64) -> bool
 }
 
 /// Whether a number is that whole number.
-pub(crate) fn is_whole(whole: u16, number: i64) -> bool
+fn is_whole(whole: u16, number: i64) -> bool
     ensures { result ≡ is_whole whole number }
 {
     number == i64::from(whole) * UNIT
-}
-
-/// Whether an OtherSubr is one of flex and hint replacement.
-fn is_flex_or_hints(number: i64) -> bool
-    ensures { result ≡ is_flex_or_hints number }
-{
-    (number == 0) | ((number == UNIT) | ((number == 2 * UNIT) | (number == 3 * UNIT)))
-}
-
-/// Whether an OtherSubr is one of flex, hint replacement and counter control.
-fn is_known(number: i64) -> bool
-    ensures { result ≡ is_known number }
-{
-    is_flex_or_hints(number) | ((number == 12 * UNIT) | (number == 13 * UNIT))
 }
 
 /// Why a step breaks K01.
@@ -387,16 +327,6 @@ pub(crate) fn name_reason(step: &Step) -> Option<Reason>
         Some(codes_of(step))
     } else {
         None
-    }
-}
-
-/// Whether a code has no name.
-fn is_unnamed(code: Option<u8>) -> bool
-    ensures { result ≡ is_unnamed code }
-{
-    match code {
-        Some(code) => standard_name(code).is_empty(),
-        None => false,
     }
 }
 
@@ -492,12 +422,6 @@ fn is_number(token: CharToken) -> bool
     matches!(token, CharToken::Number(_))
 }
 
-fn is_pop(token: CharToken) -> bool
-    ensures { result ≡ is_pop token }
-{
-    matches!(token, CharToken::Command(Command::Pop))
-}
-
 /// Why a step breaks C07.
 pub(crate) fn argument_reason(step: &Step) -> Option<Reason>
     ensures { result ≡ find is_past_range (arguments_at (step_view step.now)) }
@@ -541,12 +465,6 @@ fn past_among(numbers: &[i64]) -> Option<Reason>
     None
 }
 
-fn is_past(number: i64) -> bool
-    ensures { result ≡ is_past number }
-{
-    (GREATEST < number) | (number < -GREATEST)
-}
-
 /// Why a step breaks O02.
 pub(crate) fn othersubr_reason(step: &Step) -> Option<Reason>
     ensures { result ≡ find is_bad_count (othersubrs_at (step_view step.now)) }
@@ -561,7 +479,7 @@ pub(crate) fn othersubr_reason(step: &Step) -> Option<Reason>
 fn bad_count(count: i64, there: u8) -> Option<Reason>
     ensures { result ≡ find is_bad_count (Arguments count there ∷ []) }
 {
-    if is_good_count(count, there) {
+    if is_good_count(usize::from(there), count) {
         None
     } else {
         Some(Reason::Arguments { count, there })
@@ -569,27 +487,20 @@ fn bad_count(count: i64, there: u8) -> Option<Reason>
 }
 
 /// Why a step breaks O07.
-pub(crate) fn counter_reason(step: &Step) -> Option<Reason>
-    ensures { result ≡ find leaves_some (counters_at (step_view step.now)) }
+pub(crate) fn counter_reason(edition: Edition, step: &Step) -> Option<Reason>
+    ensures { result ≡ find leaves_some (in_edition edition (counters_at (step_view step.now))) }
 {
-    if !is_callothersubr(step.token) || step.stack.len() < 2 {
+    if !edition.has_later_rules() || !is_callothersubr(step.token) || step.stack.len() < 2 {
         return None;
     }
     let count = step.stack.from_top(1);
     // This can't fail: there are at most 24 numbers.
     let there = step.stack.len() as u8 - 2;
-    if is_good_count(count, there) & is_counter_control(step.stack.from_top(0)) {
+    if is_good_count(usize::from(there), count) & is_counter_control(step.stack.from_top(0)) {
         some_left(count, there)
     } else {
         None
     }
-}
-
-/// Whether an OtherSubr is one of counter control.
-fn is_counter_control(number: i64) -> bool
-    ensures { result ≡ (is_whole 12 number || is_whole 13 number) }
-{
-    is_whole(12, number) | is_whole(13, number)
 }
 
 fn some_left(count: i64, there: u8) -> Option<Reason>
@@ -612,37 +523,18 @@ fn is_below(there: u8, count: Option<u32>) -> bool
     }
 }
 
-pub(crate) fn is_good_count(count: i64, there: u8) -> bool
-    ensures { result ≡ is_good_count there count }
-{
-    match natural(count) {
-        Some(count) => count <= u32::from(there),
-        None => false,
-    }
-}
-
 /// Why a step breaks H03.
 pub(crate) fn width_reason(step: &Step) -> Option<Reason>
     ensures { result ≡ find is_widthless (single_stems_at (step_view step.now)) }
 {
-    if !lies_across(step.token) && !stands_upright(step.token) {
+    if !is_stem(step.token) {
         return None;
     }
     if is_triple(step.token) {
         widthless_among(&three_stems(step))
     } else {
-        widthless_among(&[set_stem(step, 0, 0).stem])
+        widthless_among(&[stem_at(step, 0)])
     }
-}
-
-fn three_stems(step: &Step) -> [Stem; 3]
-    ensures { result ≡ stem_at step.now.stack 0 ∷ stem_at step.now.stack 2 ∷ stem_at step.now.stack 4 ∷ [] }
-{
-    [
-        set_stem(step, 0, 0).stem,
-        set_stem(step, 2, 0).stem,
-        set_stem(step, 4, 0).stem,
-    ]
 }
 
 /// The first of the stems without a width.
@@ -660,16 +552,16 @@ fn widthless_among(stems: &[Stem]) -> Option<Reason>
 }
 
 /// Why a step breaks H05.
-pub(crate) fn thin_reason(step: &Step) -> Option<Reason>
-    ensures { result ≡ find is_thin_stem (single_stems_at (step_view step.now)) }
+pub(crate) fn thin_reason(edition: Edition, step: &Step) -> Option<Reason>
+    ensures { result ≡ find is_thin_stem (in_edition edition (single_stems_at (step_view step.now))) }
 {
-    if !lies_across(step.token) && !stands_upright(step.token) {
+    if !edition.has_later_rules() || !is_stem(step.token) {
         return None;
     }
     if is_triple(step.token) {
         thin_among(&three_stems(step))
     } else {
-        thin_among(&[set_stem(step, 0, 0).stem])
+        thin_among(&[stem_at(step, 0)])
     }
 }
 
@@ -688,10 +580,17 @@ fn thin_among(stems: &[Stem]) -> Option<Reason>
 }
 
 /// Why a step breaks H07, given what came before it.
-pub(crate) fn three_reason(step: &Step, background: &Background) -> Option<Reason>
+pub(crate) fn three_reason(
+    edition: Edition,
+    step: &Step,
+    background: &Background,
+) -> Option<Reason>
     ensures { (before : List StepView) → background.now ≡ background_of before →
-        result ≡ find have_other_edges (threes_at before (step_view step.now)) }
+        result ≡ find have_other_edges (in_edition edition (threes_at before (step_view step.now))) }
 {
+    if !edition.has_later_rules() {
+        return None;
+    }
     match step.token {
         CharToken::Command(Command::Hstem3) => beside_last(triple_of(step), background.hstem3),
         CharToken::Command(Command::Vstem3) => beside_last(triple_of(step), background.vstem3),
@@ -774,18 +673,6 @@ pub(crate) fn sidebearing_reason(sidebearings: &Sidebearings, step: &Step) -> Op
     } else {
         None
     }
-}
-
-pub(crate) fn lies_across(token: CharToken) -> bool
-    ensures { result ≡ is_command lies_across token }
-{
-    matches!(token, CharToken::Command(Command::Hstem | Command::Hstem3))
-}
-
-pub(crate) fn stands_upright(token: CharToken) -> bool
-    ensures { result ≡ is_command stands_upright token }
-{
-    matches!(token, CharToken::Command(Command::Vstem | Command::Vstem3))
 }
 
 /// The first pair of one of the stems and one of the hint set that overlap, or of two of the stems.

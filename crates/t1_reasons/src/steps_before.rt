@@ -8,7 +8,7 @@ ghost use Rattle.t1_char.specs.StepValues.{step_view};
 ghost use Rattle.t1_char.specs.Arguments.{is_flex_end};
 ghost use Rattle.t1_reasons.specs.HintSets.{all_set_at};
 ghost use Rattle.t1_reasons.specs.Standing.{AreBroken, StepsStandFor};
-ghost use Rattle.t1_reasons.specs.StepReasons.{are_no_pairs, are_pairs, compared_row, first_in_row, is_miss, is_overlap, misses_at, only_where, pairs_at, pairs_with, stems_at, step_reason};
+ghost use Rattle.t1_reasons.specs.StepReasons.{are_no_pairs, are_pairs, is_miss, is_overlap, misses_at, only_where, pairs_at, pairs_with, stems_at, step_reason};
 ghost use Rattle.t1_reasons.specs.declared.reason.Reason.TheVariants.{Miss, Pairs};
 ghost use Rattle.t1_rules.specs.StepRules.{charstring_rules};
 ghost use Rattle.t1_rules.specs.StepRules.Flex.{end_point};
@@ -16,17 +16,19 @@ ghost use Rattle.t1_rules.specs.StepRules.Stems.{stems_of};
 ghost use Rattle.t1_rules.specs.Watches.{most_steps};
 
 use crate::background::Background;
-use crate::hint_sets::{HintSets, is_triple, set_stem};
+use crate::hint_sets::{HintSets, own_stems};
 use crate::reason::{Reason, SetStem};
 use crate::step_reasons::{
-    addition_reason, argument_reason, code_reason, compares, count_reason, counter_reason,
-    depth_reason, lies_across, name_reason, othersubr_reason, overlap_among, quotient_reason,
-    return_reason, sidebearing_reason, stands_upright, subr_reason, thin_reason, three_reason,
+    addition_reason, argument_reason, code_reason, count_reason, counter_reason,
+    depth_reason, name_reason, othersubr_reason, overlap_among, quotient_reason,
+    return_reason, sidebearing_reason, subr_reason, thin_reason, three_reason,
     token_reason, told_where, triple_reason, unknown_reason, want_reason, width_reason,
     wrong_count_reason, zero_reason,
 };
 use t1_char::{Edition, Step};
-use t1_rules::{FlexWatcher, Mask, Point, Rule, Sidebearings, Watch};
+use t1_rules::{
+    FlexWatcher, Mask, Point, Rule, Sidebearings, Watch, lies_across, stands_upright,
+};
 
 /// What is kept of the steps before one.
 #[derive(Drop)]
@@ -81,21 +83,6 @@ impl StepsBefore {
             AreBroken (charstring_rules edition sidebearings.now.components) broken before (step_view step.now) →
             result ≡ step_reason edition sidebearings.now.components rule before (step_view step.now) }
     {
-        if compares(rule) {
-            self.compared(rule, step, sidebearings)
-        } else {
-            told_where(broken.has(rule), rule, &self.background, step)
-        }
-    }
-
-    /// The same of a rule that compares numbers.
-    fn compared(&self, rule: Rule, step: &Step, sidebearings: &Sidebearings) -> Option<Reason>
-        requires { (edition : Editions) × ((before : List StepView) ×
-            (StepsStandFor edition self.now before × (length before < most_steps))) }
-        ensures { (edition : Editions) (before : List StepView) →
-            StepsStandFor edition self.now before → length before < most_steps →
-            result ≡ first_in_row (compared_row edition sidebearings.now.components rule) before (step_view step.now) }
-    {
         match rule {
             Rule::C03 => token_reason(step),
             Rule::C04 => want_reason(step),
@@ -110,18 +97,18 @@ impl StepsBefore {
             Rule::H02 => self.stem_reason(step),
             Rule::H03 => width_reason(step),
             Rule::H04 => triple_reason(step),
-            Rule::H05 if self.edition.has_later_rules() => thin_reason(step),
-            Rule::H07 if self.edition.has_later_rules() => three_reason(step, &self.background),
+            Rule::H05 => thin_reason(self.edition, step),
+            Rule::H07 => three_reason(self.edition, step, &self.background),
             Rule::X04 => self.pairs_reason(step),
             Rule::X05 => self.miss_reason(step),
             Rule::O01 => unknown_reason(step),
             Rule::O02 => othersubr_reason(step),
             Rule::O03 => wrong_count_reason(step),
-            Rule::O07 if self.edition.has_later_rules() => counter_reason(step),
+            Rule::O07 => counter_reason(self.edition, step),
             Rule::K01 => code_reason(step),
             Rule::K02 => name_reason(step),
             Rule::K05 => sidebearing_reason(sidebearings, step),
-            _ => None,
+            _ => told_where(broken.has(rule), rule, &self.background, step),
         }
     }
 
@@ -148,17 +135,8 @@ impl StepsBefore {
         ensures { result ≡ find (is_overlap self.now.edition)
             (pairs_with (all_set_at (self.now.hints.seen + 1) (stems_of (step_view step.now))) kept.now) }
     {
-        let number = self.hints.seen + 1;
-        if is_triple(step.token) {
-            let stems = [
-                set_stem(step, 0, number),
-                set_stem(step, 2, number),
-                set_stem(step, 4, number),
-            ];
-            overlap_among(self.edition, &stems, kept)
-        } else {
-            overlap_among(self.edition, &[set_stem(step, 0, number)], kept)
-        }
+        let stems = own_stems(step, self.hints.seen + 1);
+        overlap_among(self.edition, stems.as_slice(), kept)
     }
 
     /// Why the step breaks X04.

@@ -8,8 +8,8 @@ pub returns-else-below-above : goal.returns-else-below-above
 returns-else-below-above c =
     let own = c.args.own in
     let other = c.args.other in
-    let below : c.gap-below.result ≡ other.lower -ℤ own.upper = search rules in
-    let above : c.gap-above.result ≡ own.lower -ℤ other.upper = search rules in
+    let below : c.difference-below.result ≡ other.lower -ℤ own.upper = search rules in
+    let above : c.difference-above.result ≡ own.lower -ℤ other.upper = search rules in
     let le : (own.lower -ℤ other.upper) ≤ℤ (other.lower -ℤ own.upper) = grind (arith, ints, c.if-below-above.false, below, above) in
     let under : c.fuzz_under-else-below-above.result ≡ lesser c.args.bound (Some (fuzz_for (other.lower -ℤ own.upper))) = search rules in
     under

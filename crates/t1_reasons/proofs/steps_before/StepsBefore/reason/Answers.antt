@@ -1,14 +1,10 @@
-use Rattle.std.proofs.Common.{◌≡◌, true, false, sym, ◌∙◌}
-use Rattle.t1_rules.specs.Book.{number_of}
-use Rattle.t1_reasons.specs.StepReasons.{compares}
 use Rattle.t1_reasons.proofs.steps_before.StepsBefore.reason.Goals as goal
 
-pub returns-then-compares : goal.returns-then-compares
-returns-then-compares c = λ edition before st short broken.
-    let so : compares c.args.rule ≡ true = sym c.compares.ensures ∙ c.if-compares.true in
-    rw so (c.compared.ensures edition before st short)
+pub returns-in-H02 : goal.returns-in-H02
+returns-in-H02 c = λ edition before st short broken. rw c.in-H02.is (c.stem_reason.ensures edition before st short)
 
-pub returns-else-compares : goal.returns-else-compares
-returns-else-compares c = λ edition before st short broken.
-    let so : compares c.args.rule ≡ false = sym c.compares.ensures ∙ c.if-compares.false in
-    rw so (c.told_where.ensures ∙ rw (c.has.ensures, broken (number_of c.args.rule), st.background))
+pub returns-in-X05 : goal.returns-in-X05
+returns-in-X05 c = λ edition before st short broken. rw c.in-X05.is (c.miss_reason.ensures edition before st)
+
+pub returns-in-X04 : goal.returns-in-X04
+returns-in-X04 c = λ edition before st short broken. rw c.in-X04.is (c.pairs_reason.ensures edition before st)
