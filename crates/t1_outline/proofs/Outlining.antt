@@ -10,7 +10,7 @@ use Rattle.t1_char.specs.AnswerViews.{answer_view}
 use Rattle.t1_char.specs.Asking.{IsAsked}
 use Rattle.t1_char.specs.Editions.{limit_of}
 use Rattle.t1_char.specs.Steps.{StepView, steps_of}
-use Rattle.t1_char.specs.Turns.{MachineView, counted_after, is_told, stepped, turn_at}
+use Rattle.t1_char.specs.Turns.{MachineView, counted_after, is_returned, stepped, turn_at}
 use Rattle.t1_char.proofs.TurnsTaken.{IsStepped, answered_over, stepped_is}
 use Rattle.t1_outline.specs.declared.pen.Pen.{Pen}
 use Rattle.t1_outline.specs.declared.segment.Segment.{Segment}
@@ -71,7 +71,7 @@ next_drawn old new segments more given is all drawn_is =
 
 -- There is no further step: nothing is left, and nothing was before.
 after_no_less : (limit : ℕ) (steps : List StepView) (n : ℕ) → n ≤ counted_after limit steps n
-after_no_less limit steps n = go (is_told limit steps n)
+after_no_less limit steps n = go (is_returned limit steps n)
   where
     go : (b : Bool) → n ≤ (if b then n else n + 1)
     go true = omega arith

@@ -6,7 +6,7 @@ use Rattle.t1_char.specs.declared.machine.Numbers.TheVariants.{Returned}
 use Rattle.t1_char.specs.Asking.{IsAsked}
 use Rattle.t1_char.specs.Editions.{limit_of}
 use Rattle.t1_char.specs.Steps.{NumberedStep, StepView, steps_of}
-use Rattle.t1_char.specs.Turns.{MachineView, TurnValue, answered, counted_after, ended, is_told, limit_or_end, limited, step_of_number, step_or_end, turn_at}
+use Rattle.t1_char.specs.Turns.{MachineView, TurnValue, answered, counted_after, ended, is_returned, limit_or_end, limited, step_of_number, step_or_end, turn_at}
 use Rattle.t1_outline.proofs.Outlining.{IsOver, IsTold, same_steps}
 use Rattle.t1_outline.specs.Private.Outlining.{steps_in}
 use Rattle.t1_outline.specs.declared.pen.DrawnStep.{DrawnStep}
@@ -34,9 +34,9 @@ in_hand_next old new is step some get =
 
 -- Where there is none, none is in hand.
 past_counted : (limit : ℕ) (steps : List StepView) (n : ℕ) → length (take limit steps) ≤ n → length (take limit steps) < counted_after limit steps n
-past_counted limit steps n all = by_test (is_told limit steps n) refl
+past_counted limit steps n all = by_test (is_returned limit steps n) refl
   where
-    by_test : (b : Bool) → is_told limit steps n ≡ b → length (take limit steps) < cond b n (n + 1)
+    by_test : (b : Bool) → is_returned limit steps n ≡ b → length (take limit steps) < cond b n (n + 1)
     by_test true told = omega (arith, ltb-true (answered limit steps) n told)
     by_test false not = omega (arith, all)
 
@@ -51,7 +51,7 @@ in_hand_over old new answer is asked step some get =
     absurd (omega (arith, past, within))
 
 no_more : (limit : ℕ) (steps : List StepView) (n : ℕ) → counted_after limit steps n ≤ n + 1
-no_more limit steps n = by_test (is_told limit steps n)
+no_more limit steps n = by_test (is_returned limit steps n)
   where
     by_test : (b : Bool) → cond b n (n + 1) ≤ n + 1
     by_test true = omega arith

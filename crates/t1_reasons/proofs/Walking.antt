@@ -13,7 +13,7 @@ use Rattle.t1_char.specs.AnswerViews.{answer_view}
 use Rattle.t1_char.specs.Asking.{IsAsked}
 use Rattle.t1_char.specs.Editions.{limit_of}
 use Rattle.t1_char.specs.Steps.{NumberedStep, StepView, steps_of}
-use Rattle.t1_char.specs.Turns.{MachineView, answered, counted_after, ended, is_told, limit_or_end, limited, step_of_number, step_or_end, stepped, turn_at}
+use Rattle.t1_char.specs.Turns.{MachineView, answered, counted_after, ended, is_returned, limit_or_end, limited, step_of_number, step_or_end, stepped, turn_at}
 use Rattle.t1_char.proofs.TurnsTaken.{IsStepped, answered_over, stepped_is}
 use Rattle.t1_font.specs.Fonts.{FontValue}
 use Rattle.t1_rules.specs.Watches.{most_steps}
@@ -131,9 +131,9 @@ last_turn limit steps n all = by_test (nat_lt n (answered limit steps)) refl
     by_test false not = ap (λ b. cond b (step_or_end n (slice_get steps n)) (limit_or_end limit (slice_get steps limit))) not
 
 once_more : (limit : ℕ) (steps : List StepView) (n : ℕ) → n ≤ length (take limit steps) → counted_after limit steps n ≡ n + 1
-once_more limit steps n few = by_test (is_told limit steps n) refl
+once_more limit steps n few = by_test (is_returned limit steps n) refl
   where
-    by_test : (b : Bool) → is_told limit steps n ≡ b → cond b n (n + 1) ≡ n + 1
+    by_test : (b : Bool) → is_returned limit steps n ≡ b → cond b n (n + 1) ≡ n + 1
     by_test true told = absurd (omega (arith, few, ltb-true (answered limit steps) n told))
     by_test false not = refl
 
