@@ -5,12 +5,11 @@ ghost use Rattle.std.specs.List.{find};
 ghost use Rattle.std.specs.Map.{lookup};
 ghost use Rattle.t1_font.specs.Entries.{entry_view};
 ghost use Rattle.t1_reasons.specs.FontReasons.{apart, are_near, are_two_ids, at_key, counts_at, excess_at, forms_at, is_excess, is_misfit, is_odd, is_unknown_form, is_wrong_subr, kinds_at, last_token_of, subrs_in, wanted_at, beside_zones, falls, falls_in, features_at, features_in, first_in_font_row, font_reason, gap_in, ids_at, ids_of, is_apart, is_near, is_unusual_feature, meetings_at, meetings_in, nearer, nearest, reaches_one, told_font_row, told_in_font, widths_at, widths_in, zone_in, zones_in};
-ghost use Rattle.t1_reasons.specs.declared.reason.Reason.TheVariants.{Gap, Ids, Numbers, SubrEntry, TooMany, Width, Zone, Zones as TwoZones};
+ghost use Rattle.t1_reasons.specs.declared.reason.Reason.TheVariants.{Width, Zones as TwoZones};
 ghost use Rattle.t1_rules.specs.FontRules.Stems.{width_of};
-ghost use Rattle.t1_rules.specs.FontRules.Values.{count_in, first_in};
 ghost use Rattle.t1_rules.specs.FontRules.Hints.{numbers_at};
 ghost use Rattle.t1_rules.specs.FontRules.Zones.{distance, high_of, scale};
-ghost use Rattle.t1_rules.specs.Keys.{encoding_key, list_limit_of, subrs_key};
+ghost use Rattle.t1_rules.specs.Keys.{encoding_key, subrs_key};
 
 use crate::entry_reasons::{entry_reason, found_in};
 use crate::later_font_reasons::later_reason;
@@ -174,15 +173,14 @@ fn two_ids(clear: &Entry, private: &Entry) -> Option<Reason>
     ensures { result ≡ find are_two_ids (ids_of (entry_view clear.now) (entry_view private.now)) }
 {
     match (clear, private) {
-        (Entry::Number(clear), Entry::Number(private)) => differing_ids(*clear, *private),
+        (Entry::Number(clear), Entry::Number(private)) => {
+            (clear != private).then_some(Reason::Ids {
+                clear: *clear,
+                private: *private,
+            })
+        }
         _ => None,
     }
-}
-
-fn differing_ids(clear: i64, private: i64) -> Option<Reason>
-    ensures { result ≡ find are_two_ids (Ids clear private ∷ []) }
-{
-    (clear != private).then_some(Reason::Ids { clear, private })
 }
 
 /// Why MinFeature breaks F08 at an index.
