@@ -379,89 +379,73 @@ later_decides edition rule other font key index row same = go (has_later_rules e
         ∙ same
     go false has = told_decides edition font rule key index
 
--- A rule up to number 70 says what the first part of the book does.
-of_first : (edition : Edition) (n : ℕ) → nat_le n last_number_before ≡ true → (font : FontValue) (key index : ℕ)
-    → violated (font_rules edition) n font key index ≡ violated first_font_rules n font key index
-of_first edition n few font key index = later_rules_change_no_other edition n font key index (leb-true n last_number_before few)
+-- The row of a rule up to number 70 decides, in the first part of the book.
+first_decides : (edition : Edition) (n place : ℕ) (r : FontRule) → nat_le n last_number_before ≡ true → slice_get first_font_rules place ≡ Some r
+    → (number_of r.rule == n) ≡ true → without_number n (take place first_font_rules) ≡ true → without_number n (drop (suc place) first_font_rules) ≡ true
+    → (font : FontValue) (key index : ℕ) → violated (font_rules edition) n font key index ≡ says r.tests font key index
+first_decides edition n place r few there own front rest font key index =
+    later_rules_change_no_other edition n font key index (leb-true n last_number_before few)
+    ∙ font_row_decides n first_font_rules place r there own front rest font key index
 
 -- ---- all of them
 
 pub fonts_broken_where_reason : FontsBreakWhereThereIsAReason
 unfolding first_font_rules later_font_rules
 fonts_broken_where_reason edition font F03 key index =
-    of_first edition 3 refl font key index
-    ∙ font_row_decides 3 first_font_rules 2 _ refl refl refl refl font key index
+    first_decides edition 3 2 _ refl refl refl refl refl font key index
     ∙ keys_agree (is_wrong_entry F03) (λ font k index. index == 0 && not (is_the_number 1 (value_at font k))) entries_at (entry_agrees F03 (λ v. not (is_the_number 1 v)) not_one) (FontType ∷ []) font key index
 fonts_broken_where_reason edition font F04 key index =
-    of_first edition 4 refl font key index
-    ∙ font_row_decides 4 first_font_rules 3 _ refl refl refl refl font key index
+    first_decides edition 4 3 _ refl refl refl refl refl font key index
     ∙ keys_agree (is_wrong_entry F04) (λ font k index. index == 0 && not (is_the_number 0 (value_at font k) || is_the_number 2 (value_at font k))) entries_at (entry_agrees F04 (λ v. not (is_the_number 0 v || is_the_number 2 v)) not_painted) (PaintType ∷ []) font key index
 fonts_broken_where_reason edition font F05 key index =
-    of_first edition 5 refl font key index
-    ∙ font_row_decides 5 first_font_rules 4 _ refl refl refl refl font key index
+    first_decides edition 5 4 _ refl refl refl refl refl font key index
     ∙ keys_agree (is_wrong_entry F05) (λ font k index. index == 0 && is_past_range (value_at font k)) entries_at (entry_agrees F05 is_past_range id_agrees) id_keys font key index
 fonts_broken_where_reason edition font F06 key index =
-    of_first edition 6 refl font key index
-    ∙ font_row_decides 6 first_font_rules 5 _ refl refl refl refl font key index
+    first_decides edition 6 5 _ refl refl refl refl refl font key index
     ∙ keys_agree are_two_ids (λ font k index. index == 0 && differ (value_at font UniqueId) (value_at font k)) ids_at differing (PrivateUniqueId ∷ []) font key index
 fonts_broken_where_reason edition font F07 key index =
-    of_first edition 7 refl font key index
-    ∙ font_row_decides 7 first_font_rules 6 _ refl refl refl refl font key index
+    first_decides edition 7 6 _ refl refl refl refl refl font key index
     ∙ keys_agree (is_wrong_entry F07) (λ font k index. index == 0 && not (is_the_number 5839 (value_at font k))) entries_at (entry_agrees F07 (λ v. not (is_the_number 5839 v)) not_password) (Password ∷ []) font key index
 fonts_broken_where_reason edition font F08 key index =
-    of_first edition 8 refl font key index
-    ∙ font_row_decides 8 first_font_rules 7 _ refl refl refl refl font key index
+    first_decides edition 8 7 _ refl refl refl refl refl font key index
     ∙ keys_agree is_unusual_feature (λ font k index. index == 0 && not (is_sixteen_twice (value_at font k))) features_at unusual (MinFeature ∷ []) font key index
 fonts_broken_where_reason edition font F11 key index =
-    of_first edition 11 refl font key index
-    ∙ font_row_decides 11 first_font_rules 10 _ refl refl refl refl font key index
+    first_decides edition 11 10 _ refl refl refl refl refl font key index
     ∙ key_agrees is_unknown_form (λ font index. index == 0 && is_no_form font.encoding) forms_at formed 4 font key index
 fonts_broken_where_reason edition font F14 key index =
-    of_first edition 14 refl font key index
-    ∙ font_row_decides 14 first_font_rules 13 _ refl refl refl refl font key index ∙ key_agrees is_wrong_subr wrong_subr subrs_in wrong 20 font key index
+    first_decides edition 14 13 _ refl refl refl refl refl font key index ∙ key_agrees is_wrong_subr wrong_subr subrs_in wrong 20 font key index
 fonts_broken_where_reason edition font Z01 key index =
-    of_first edition 15 refl font key index
-    ∙ font_row_decides 15 first_font_rules 14 _ refl refl refl refl font key index
+    first_decides edition 15 14 _ refl refl refl refl refl font key index
     ∙ keys_agree is_misfit (λ font k index. is_of_another_kind k (value_at font k) index) kinds_at of_kind hint_keys font key index
 fonts_broken_where_reason edition font Z02 key index =
-    of_first edition 16 refl font key index
-    ∙ font_row_decides 16 first_font_rules 15 _ refl refl refl refl font key index
+    first_decides edition 16 15 _ refl refl refl refl refl font key index
     ∙ keys_agree is_excess (λ font k index. has_too_many k (value_at font k) index) excess_at many zone_keys font key index
 fonts_broken_where_reason edition font Z03 key index =
-    of_first edition 17 refl font key index
-    ∙ font_row_decides 17 first_font_rules 16 _ refl refl refl refl font key index
+    first_decides edition 17 16 _ refl refl refl refl refl font key index
     ∙ keys_agree is_odd (λ font k index. has_odd_count (value_at font k) index) counts_at odd zone_keys font key index
 fonts_broken_where_reason edition font Z04 key index =
-    of_first edition 18 refl font key index
-    ∙ font_row_decides 18 first_font_rules 17 _ refl refl refl refl font key index
+    first_decides edition 18 17 _ refl refl refl refl refl font key index
     ∙ keys_agree falls (λ font k index. falls_at (numbers_at font k) index) (λ font k index. falls_in (numbers_at font k) index) (λ font k index. fallen (numbers_at font k) index) zone_keys font key index
 fonts_broken_where_reason edition font Z05 key index =
-    of_first edition 19 refl font key index
-    ∙ font_row_decides 19 first_font_rules 18 _ refl refl refl refl font key index
+    first_decides edition 19 18 _ refl refl refl refl refl font key index
     ∙ keys_agree is_near (λ font k index. is_too_near (distance font) (numbers_at font k) index) (λ font k index. gap_in (distance font) (numbers_at font k) index) (λ font k index. near (distance font) (numbers_at font k) index) zone_keys font key index
 fonts_broken_where_reason edition font Z06 key index =
-    of_first edition 20 refl font key index
-    ∙ font_row_decides 20 first_font_rules 19 _ refl refl refl refl font key index
+    first_decides edition 20 19 _ refl refl refl refl refl font key index
     ∙ keys_agree are_near comes_near_high meetings_at (λ font k index. met (distance font) (numbers_at font k) (numbers_at font (high_of k)) index) low_zone_keys font key index
 fonts_broken_where_reason edition font Z07 key index =
-    of_first edition 21 refl font key index
-    ∙ font_row_decides 21 first_font_rules 20 _ refl refl refl refl font key index
+    first_decides edition 21 20 _ refl refl refl refl refl font key index
     ∙ keys_agree reaches_one (λ font k index. is_too_high (scale font) (numbers_at font k) index) (λ font k index. zone_in (scale font) (numbers_at font k) index) (λ font k index. high (scale font) (numbers_at font k) index) zone_keys font key index
 fonts_broken_where_reason edition font Z08 key index =
-    of_first edition 22 refl font key index
-    ∙ font_row_decides 22 first_font_rules 21 _ refl refl refl refl font key index
+    first_decides edition 22 21 _ refl refl refl refl refl font key index
     ∙ keys_agree (is_wrong_entry Z08) (λ font k index. index == 0 && is_not_one_width (value_at font k)) entries_at (entry_agrees Z08 is_not_one_width width_agrees) width_keys font key index
 fonts_broken_where_reason edition font Z09 key index =
-    of_first edition 23 refl font key index
-    ∙ font_row_decides 23 first_font_rules 22 _ refl refl refl refl font key index
+    first_decides edition 23 22 _ refl refl refl refl refl font key index
     ∙ keys_agree is_excess (λ font k index. has_too_many k (value_at font k) index) excess_at many snap_keys font key index
 fonts_broken_where_reason edition font Z10 key index =
-    of_first edition 24 refl font key index
-    ∙ font_row_decides 24 first_font_rules 23 _ refl refl refl refl font key index
+    first_decides edition 24 23 _ refl refl refl refl refl font key index
     ∙ keys_agree falls (λ font k index. falls_at (numbers_at font k) index) (λ font k index. falls_in (numbers_at font k) index) (λ font k index. fallen (numbers_at font k) index) snap_keys font key index
 fonts_broken_where_reason edition font Z11 key index =
-    of_first edition 25 refl font key index
-    ∙ font_row_decides 25 first_font_rules 24 _ refl refl refl refl font key index
+    first_decides edition 25 24 _ refl refl refl refl refl font key index
     ∙ keys_agree is_apart (λ font k index. index == 0 && width_is_apart font k) widths_at snapped snap_keys font key index
 fonts_broken_where_reason edition font F15 key index = later_decides edition F15 refl font key index (later_font_row edition F15)
     (font_row_decides 71 later_font_rules 0 _ refl refl refl refl font key index

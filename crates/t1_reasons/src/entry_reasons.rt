@@ -8,8 +8,8 @@ ghost use Rattle.t1_reasons.specs.FontReasons.{entries_at, found_in, is_wrong_en
 use crate::reason::{Found, Reason};
 use t1_font::{Entry, Font, Key};
 use t1_rules::{
-    Rule, is_malformed, is_no_group, is_not_one_width, is_past_fuzzes, is_past_range, is_past_scales,
-    is_past_shifts, is_so_many, is_the_number,
+    Rule, is_malformed, is_no_group, is_not_one_width, is_past_fuzzes, is_past_range,
+    is_past_scales, is_past_shifts, is_so_many, is_the_number,
 };
 
 /// Why an entry breaks a rule on it alone at an index.
@@ -17,13 +17,9 @@ pub(crate) fn entry_reason(rule: Rule, font: &Font<'_>, key: Key, index: u32) ->
     ensures { result ≡ find (is_wrong_entry rule) (entries_at font.now key index) }
 {
     let value = font.value(key);
-    if index == 0 && is_wrong(rule, value) {
-        Some(Reason::Entry {
-            found: found_in(value),
-        })
-    } else {
-        None
-    }
+    (index == 0 && is_wrong(rule, value)).then_some(Reason::Entry {
+        found: found_in(value),
+    })
 }
 
 /// What an entry is.

@@ -1,26 +1,21 @@
 //! Reasons in the entries of a font.
 
-ghost use Rattle.std.specs.Prelude.{◌≡◌, ◌*ℤ◌, ◌-ℤ◌, int_le, [], ◌∷◌, nat_eq};
+ghost use Rattle.std.specs.Prelude.{◌≡◌, ◌-ℤ◌, [], ◌∷◌, nat_eq};
 ghost use Rattle.std.specs.List.{find};
 ghost use Rattle.std.specs.Map.{lookup};
-ghost use Rattle.t1_font.specs.declared.key.Key.TheVariants as Keys;
 ghost use Rattle.t1_font.specs.Entries.{entry_view};
-ghost use Rattle.t1_reasons.specs.FontReasons.{apart, are_near, are_two, are_two_ids, at_key, counts_at, excess_at, forms_at, is_excess, is_misfit, is_odd, kinds_of, is_unknown_form, is_wrong_subr, kinds_at, last_token_of, subrs_in, wanted_at, beside_zones, falls, falls_in, features_at, features_in, first_in_font_row, font_reason, gap_in, ids_at, ids_of, is_apart, is_near, is_unusual_feature, meetings_at, meetings_in, nearer, nearest, reaches_one, told_font_row, told_in_font, widths_at, widths_in, zone_in, zones_in};
-ghost use Rattle.t1_reasons.specs.StepReasons.{is_any, only_where};
-ghost use Rattle.t1_reasons.specs.declared.reason.Reason.TheVariants.{Gap, Ids, Numbers, SubrEntry, TooMany, Width, Zone, Zones as TwoZones};
-ghost use Rattle.t1_rules.specs.FontRules.Ids.{id_keys};
-ghost use Rattle.t1_rules.specs.FontRules.Stems.{snap_keys, width_keys, width_of};
-ghost use Rattle.t1_rules.specs.FontRules.Values.{count_in, first_in, product_one};
+ghost use Rattle.t1_reasons.specs.FontReasons.{apart, are_near, are_two_ids, at_key, counts_at, excess_at, forms_at, is_excess, is_misfit, is_odd, is_unknown_form, is_wrong_subr, kinds_at, last_token_of, subrs_in, wanted_at, beside_zones, falls, falls_in, features_at, features_in, first_in_font_row, font_reason, gap_in, ids_at, ids_of, is_apart, is_near, is_unusual_feature, meetings_at, meetings_in, nearer, nearest, reaches_one, told_font_row, told_in_font, widths_at, widths_in, zone_in, zones_in};
+ghost use Rattle.t1_reasons.specs.declared.reason.Reason.TheVariants.{Width, Zones as TwoZones};
+ghost use Rattle.t1_rules.specs.FontRules.Stems.{width_of};
 ghost use Rattle.t1_rules.specs.FontRules.Hints.{numbers_at};
 ghost use Rattle.t1_rules.specs.FontRules.Zones.{distance, high_of, scale};
-ghost use Rattle.t1_rules.specs.FontRules.Hints.{hint_keys};
-ghost use Rattle.t1_rules.specs.Keys.{encoding_key, key_number, list_limit_of, subrs_key};
+ghost use Rattle.t1_rules.specs.Keys.{encoding_key, subrs_key};
 
 use crate::entry_reasons::{entry_reason, found_in};
 use crate::later_font_reasons::later_reason;
-use crate::reason::{Edges, EntryKind, Found, Reason};
+use crate::reason::{Edges, EntryKind, Reason};
 use t1_char::{Edition, last_token};
-use t1_font::{BILLION, Encoding, Entry, Font, Key};
+use t1_font::{Encoding, Entry, Font, Key};
 use t1_rules::{
     KeyKind, Rule, count_in, difference, distance, falls_at, first_in, font_faults, has_kind,
     has_odd_count, has_too_many, is_of_another_kind, is_sixteen_twice, is_too_high, is_too_near,
@@ -178,18 +173,13 @@ fn two_ids(clear: &Entry, private: &Entry) -> Option<Reason>
     ensures { result ≡ find are_two_ids (ids_of (entry_view clear.now) (entry_view private.now)) }
 {
     match (clear, private) {
-        (Entry::Number(clear), Entry::Number(private)) => differing_ids(*clear, *private),
+        (Entry::Number(clear), Entry::Number(private)) => {
+            (clear != private).then_some(Reason::Ids {
+                clear: *clear,
+                private: *private,
+            })
+        }
         _ => None,
-    }
-}
-
-fn differing_ids(clear: i64, private: i64) -> Option<Reason>
-    ensures { result ≡ find are_two_ids (Ids clear private ∷ []) }
-{
-    if clear != private {
-        Some(Reason::Ids { clear, private })
-    } else {
-        None
     }
 }
 
@@ -244,15 +234,11 @@ fn form_reason(font: &Font<'_>, key: u8, index: u32) -> Option<Reason>
 fn subr_reason(font: &Font<'_>, key: u8, number: u32) -> Option<Reason>
     ensures { result ≡ find is_wrong_subr (at_key subrs_key subrs_in font.now key number) }
 {
-    if has_kind(key, KeyKind::Subrs) && is_wrong_subr(font, number) {
-        Some(Reason::SubrEntry {
-            number,
-            twice: font.subr_twice(number),
-            size: font.subr_size(),
-        })
-    } else {
-        None
-    }
+    (has_kind(key, KeyKind::Subrs) && is_wrong_subr(font, number)).then_some(Reason::SubrEntry {
+        number,
+        twice: font.subr_twice(number),
+        size: font.subr_size(),
+    })
 }
 
 /// Why a hint entry breaks Z01 at an index.
@@ -285,14 +271,10 @@ fn excess_reason(font: &Font<'_>, key: Key, index: u32) -> Option<Reason>
     ensures { result ≡ find is_excess (excess_at font.now key index) }
 {
     let value = font.value(key);
-    if has_too_many(key, value, index) {
-        Some(Reason::TooMany {
-            count: count_in(value),
-            most: list_limit_of(key),
-        })
-    } else {
-        None
-    }
+    has_too_many(key, value, index).then_some(Reason::TooMany {
+        count: count_in(value),
+        most: list_limit_of(key),
+    })
 }
 
 /// Why a list breaks Z03 at an index.
@@ -300,13 +282,9 @@ fn odd_reason(font: &Font<'_>, key: Key, index: u32) -> Option<Reason>
     ensures { result ≡ find is_odd (counts_at font.now key index) }
 {
     let value = font.value(key);
-    if has_odd_count(value, index) {
-        Some(Reason::Numbers {
-            count: count_in(value),
-        })
-    } else {
-        None
-    }
+    has_odd_count(value, index).then_some(Reason::Numbers {
+        count: count_in(value),
+    })
 }
 
 /// Why a list breaks Z04 or Z10 at an index.
@@ -449,11 +427,7 @@ fn first_apart(widths: &[i64], snaps: &[i64]) -> Option<Reason>
 fn apart_from(width: i64, nearest: i64) -> Option<Reason>
     ensures { result ≡ find is_apart (Width width nearest ∷ []) }
 {
-    if width != nearest {
-        Some(Reason::Width { width, nearest })
-    } else {
-        None
-    }
+    (width != nearest).then_some(Reason::Width { width, nearest })
 }
 
 /// The snap that is nearest to a width, the first of these.

@@ -1,13 +1,12 @@
 //! Hint sets, each stem with the step that set it: Type 1 Font Format 1.1, chapters 6 and 8.
 
-ghost use Rattle.std.specs.Prelude.{◌≡◌, ◌<◌, ◌+◌, ◌++◌, List, [], ◌∷◌, length, take};
+ghost use Rattle.std.specs.Prelude.{◌≡◌, ◌<◌, ◌+◌, ◌++◌, List, [], ◌∷◌, length};
 ghost use Rattle.t1_char.specs.Stacks.{most_numbers};
 ghost use Rattle.t1_char.specs.Steps.{StepView};
 ghost use Rattle.t1_char.specs.StepValues.{step_view};
 ghost use Rattle.t1_reasons.specs.HintSets.{all_set_at, set_at, stems_set};
 ghost use Rattle.t1_reasons.specs.Standing.{HintsStandFor, kept_along};
-ghost use Rattle.t1_rules.specs.StepRules.Stems.{is_triple, lies_across, stands_upright, most_stems, stem_at, stems_of};
-ghost use Rattle.t1_rules.specs.StepRules.Tokens.{is_command};
+ghost use Rattle.t1_rules.specs.StepRules.Stems.{is_triple, lies_across, stands_upright, stem_at, stems_of};
 ghost use Rattle.t1_rules.specs.Watches.{most_steps};
 
 use crate::reason::SetStem;

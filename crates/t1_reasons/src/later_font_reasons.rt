@@ -14,9 +14,7 @@ use crate::font_reasons::{SNAP_KEYS, WIDTH_KEYS, ZONE_KEYS, told_reason, width_o
 use crate::reason::Reason;
 use t1_char::Edition;
 use t1_font::{Entry, Font, Key};
-use t1_rules::{
-    Rule, first_in, is_id, is_so_many, is_whole, key_among, numbers_at, repeats_at,
-};
+use t1_rules::{Rule, first_in, is_id, is_so_many, is_whole, key_among, numbers_at, repeats_at};
 
 /// How many numbers of an XUID are looked at.
 const MOST_XUID: usize = 16;
@@ -67,11 +65,7 @@ fn corner_reason(value: &Entry, index: u32) -> Option<Reason>
 fn exchanged(first: i64, last: i64) -> Option<Reason>
     ensures { result ≡ find are_exchanged (Corners first last ∷ []) }
 {
-    if last < first {
-        Some(Reason::Corners { first, last })
-    } else {
-        None
-    }
+    (last < first).then_some(Reason::Corners { first, last })
 }
 
 /// Why a list breaks F19 or Z14 at an index.
@@ -89,11 +83,7 @@ fn listed_reason(rule: Rule, numbers: &[i64], index: u32) -> Option<Reason>
 fn wrong_number(rule: Rule, number: i64) -> Option<Reason>
     ensures { result ≡ find (is_wrong_listed rule) (Number number ∷ []) }
 {
-    if is_wrong_number(rule, number) {
-        Some(Reason::Number { number })
-    } else {
-        None
-    }
+    (is_wrong_number(rule, number)).then_some(Reason::Number { number })
 }
 
 fn is_wrong_number(rule: Rule, number: i64) -> bool

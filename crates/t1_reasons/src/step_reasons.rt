@@ -16,14 +16,14 @@ ghost use Rattle.t1_char.specs.Steps.{is_number};
 ghost use Rattle.t1_reasons.specs.declared.reason.Reason.TheVariants.{Arguments, Codes, Othersubr, Quotient, Stem as StemAlone, Stems};
 ghost use Rattle.t1_rules.specs.StepRules.Arguments.{is_past, quotient_is_past, wanted_by};
 ghost use Rattle.t1_rules.specs.StepRules.Othersubrs.{is_flex_or_hints, is_good_count, is_known};
-ghost use Rattle.t1_rules.specs.StepRules.Stems.{stem_at, lies_across, stands_upright};
-ghost use Rattle.t1_rules.specs.StepRules.Tokens.{is_command, is_div, is_pop};
+ghost use Rattle.t1_rules.specs.StepRules.Stems.{stem_at};
+ghost use Rattle.t1_rules.specs.StepRules.Tokens.{is_div, is_pop};
 
 use crate::background::{Background, SetTriple};
 use crate::reason::{Reason, SetStem};
 use t1_char::{
-    CharToken, Command, Edition, MOST_CALLS, MOST_NUMBERS, Step, UNIT, is_callothersubr, is_callsubr,
-    is_return, natural,
+    CharToken, Command, Edition, MOST_CALLS, MOST_NUMBERS, Step, UNIT, is_callothersubr,
+    is_callsubr, is_return, natural,
 };
 use t1_rules::{
     Rule, Sidebearings, Stem, Triple, accent_code, are_unequal, base_code, is_counter_control,
@@ -40,11 +40,7 @@ pub(crate) fn told_where(
 ) -> Option<Reason>
     ensures { result ≡ find is_any (only_where is_broken (told_by rule background.now (step_view step.now))) }
 {
-    if is_broken {
-        Some(told_by(rule, background, step))
-    } else {
-        None
-    }
+    (is_broken).then_some(told_by(rule, background, step))
 }
 
 /// What a rule that compares no numbers says of a step that breaks it.
@@ -71,10 +67,7 @@ fn told_by(rule: Rule, background: &Background, step: &Step) -> Reason
             step: background.flex,
         },
         Rule::X02 => call_of(step),
-        Rule::H06 => beside_one(
-            stem_at(step, 0),
-            last_of_other(step.token, background),
-        ),
+        Rule::H06 => beside_one(stem_at(step, 0), last_of_other(step.token, background)),
         Rule::O05 | Rule::O08 | Rule::W03 => Reason::Since {
             step: background.told,
         },
@@ -169,17 +162,9 @@ pub(crate) fn quotient_reason(step: &Step) -> Option<Reason>
     if !is_div(step.token) || step.stack.len() < 2 {
         return None;
     }
-    past_quotient(step.stack.from_top(1), step.stack.from_top(0))
-}
-
-fn past_quotient(dividend: i64, divisor: i64) -> Option<Reason>
-    ensures { result ≡ find is_past_quotient (Quotient dividend divisor ∷ []) }
-{
-    if quotient_is_past(dividend, divisor) {
-        Some(Reason::Quotient { dividend, divisor })
-    } else {
-        None
-    }
+    let dividend = step.stack.from_top(1);
+    let divisor = step.stack.from_top(0);
+    quotient_is_past(dividend, divisor).then_some(Reason::Quotient { dividend, divisor })
 }
 
 /// Why a step breaks C09.
@@ -189,17 +174,9 @@ pub(crate) fn zero_reason(step: &Step) -> Option<Reason>
     if !is_div(step.token) || step.stack.len() < 2 {
         return None;
     }
-    by_zero(step.stack.from_top(1), step.stack.from_top(0))
-}
-
-fn by_zero(dividend: i64, divisor: i64) -> Option<Reason>
-    ensures { result ≡ find is_by_zero (Quotient dividend divisor ∷ []) }
-{
-    if divisor == 0 {
-        Some(Reason::Quotient { dividend, divisor })
-    } else {
-        None
-    }
+    let dividend = step.stack.from_top(1);
+    let divisor = step.stack.from_top(0);
+    (divisor == 0).then_some(Reason::Quotient { dividend, divisor })
 }
 
 fn is_div(token: CharToken) -> bool
@@ -248,17 +225,9 @@ pub(crate) fn unknown_reason(step: &Step) -> Option<Reason>
     if !is_good_count(step.stack.len() - 2, count) {
         return None;
     }
-    unknown_othersubr(step.stack.from_top(0), count)
-}
-
-fn unknown_othersubr(number: i64, count: i64) -> Option<Reason>
-    ensures { result ≡ find is_unknown_othersubr (Othersubr number count ∷ []) }
-{
-    if is_flex_or_hints(number) | is_counter_control(number) {
-        None
-    } else {
-        Some(Reason::Othersubr { number, count })
-    }
+    let number = step.stack.from_top(0);
+    let is_known = is_flex_or_hints(number) | is_counter_control(number);
+    (!is_known).then_some(Reason::Othersubr { number, count })
 }
 
 /// Why a step breaks O03.
@@ -272,17 +241,9 @@ pub(crate) fn wrong_count_reason(step: &Step) -> Option<Reason>
     if !is_good_count(step.stack.len() - 2, count) {
         return None;
     }
-    miscounted_call(step.stack.from_top(0), count)
-}
-
-fn miscounted_call(number: i64, count: i64) -> Option<Reason>
-    ensures { result ≡ find is_miscounted (Othersubr number count ∷ []) }
-{
-    if is_flex_or_hints(number) & !takes(number, count) {
-        Some(Reason::Othersubr { number, count })
-    } else {
-        None
-    }
+    let number = step.stack.from_top(0);
+    let is_miscounted = is_flex_or_hints(number) & !takes(number, count);
+    is_miscounted.then_some(Reason::Othersubr { number, count })
 }
 
 /// Whether an OtherSubr is called with the count that it takes.
@@ -309,11 +270,7 @@ pub(crate) fn code_reason(step: &Step) -> Option<Reason>
     if !is_seac(step.token) {
         return None;
     }
-    if base_code(step).is_none() | accent_code(step).is_none() {
-        Some(codes_of(step))
-    } else {
-        None
-    }
+    (base_code(step).is_none() | accent_code(step).is_none()).then_some(codes_of(step))
 }
 
 /// Why a step breaks K02.
@@ -323,11 +280,7 @@ pub(crate) fn name_reason(step: &Step) -> Option<Reason>
     if !is_seac(step.token) {
         return None;
     }
-    if is_unnamed(base_code(step)) | is_unnamed(accent_code(step)) {
-        Some(codes_of(step))
-    } else {
-        None
-    }
+    (is_unnamed(base_code(step)) | is_unnamed(accent_code(step))).then_some(codes_of(step))
 }
 
 fn codes_of(step: &Step) -> Reason
@@ -349,15 +302,11 @@ pub(crate) fn count_reason(step: &Step) -> Option<Reason>
     let taken = command.arguments()?;
     // This can't fail: there are at most 24 numbers.
     let there = step.stack.len() as u8;
-    if taken < there {
-        Some(Reason::Count {
-            command,
-            taken,
-            there,
-        })
-    } else {
-        None
-    }
+    (taken < there).then_some(Reason::Count {
+        command,
+        taken,
+        there,
+    })
 }
 
 /// Why a step breaks C04.
@@ -370,15 +319,11 @@ pub(crate) fn want_reason(step: &Step) -> Option<Reason>
     let taken = wanted_by(command);
     // This can't fail: there are at most 24 numbers.
     let there = step.stack.len() as u8;
-    if there < taken {
-        Some(Reason::Count {
-            command,
-            taken,
-            there,
-        })
-    } else {
-        None
-    }
+    (there < taken).then_some(Reason::Count {
+        command,
+        taken,
+        there,
+    })
 }
 
 /// How many numbers a command needs on the stack.
@@ -472,18 +417,10 @@ pub(crate) fn othersubr_reason(step: &Step) -> Option<Reason>
     if !is_callothersubr(step.token) || step.stack.len() < 2 {
         return None;
     }
+    let count = step.stack.from_top(1);
     // This can't fail: there are at most 24 numbers.
-    bad_count(step.stack.from_top(1), step.stack.len() as u8 - 2)
-}
-
-fn bad_count(count: i64, there: u8) -> Option<Reason>
-    ensures { result ≡ find is_bad_count (Arguments count there ∷ []) }
-{
-    if is_good_count(usize::from(there), count) {
-        None
-    } else {
-        Some(Reason::Arguments { count, there })
-    }
+    let there = step.stack.len() as u8 - 2;
+    (!is_good_count(usize::from(there), count)).then_some(Reason::Arguments { count, there })
 }
 
 /// Why a step breaks O07.
@@ -496,21 +433,9 @@ pub(crate) fn counter_reason(edition: Edition, step: &Step) -> Option<Reason>
     let count = step.stack.from_top(1);
     // This can't fail: there are at most 24 numbers.
     let there = step.stack.len() as u8 - 2;
-    if is_good_count(usize::from(there), count) & is_counter_control(step.stack.from_top(0)) {
-        some_left(count, there)
-    } else {
-        None
-    }
-}
-
-fn some_left(count: i64, there: u8) -> Option<Reason>
-    ensures { result ≡ find leaves_some (Arguments count there ∷ []) }
-{
-    if is_below(there, natural(count)) {
-        Some(Reason::Arguments { count, there })
-    } else {
-        None
-    }
+    let is_counting = is_good_count(usize::from(there), count)
+        & is_counter_control(step.stack.from_top(0));
+    (is_counting & is_below(there, natural(count))).then_some(Reason::Arguments { count, there })
 }
 
 /// Whether a count is less than the numbers that are there.
@@ -580,11 +505,7 @@ fn thin_among(stems: &[Stem]) -> Option<Reason>
 }
 
 /// Why a step breaks H07, given what came before it.
-pub(crate) fn three_reason(
-    edition: Edition,
-    step: &Step,
-    background: &Background,
-) -> Option<Reason>
+pub(crate) fn three_reason(edition: Edition, step: &Step, background: &Background) -> Option<Reason>
     ensures { (before : List StepView) → background.now ≡ background_of before →
         result ≡ find have_other_edges (in_edition edition (threes_at before (step_view step.now))) }
 {
@@ -639,11 +560,7 @@ pub(crate) fn triple_reason(step: &Step) -> Option<Reason>
         return None;
     }
     let [one, two, three] = three_stems(step);
-    if are_unequal(one, two, three) {
-        Some(Reason::Triple { one, two, three })
-    } else {
-        None
-    }
+    (are_unequal(one, two, three)).then_some(Reason::Triple { one, two, three })
 }
 
 /// Why a step breaks S01.
@@ -668,11 +585,7 @@ pub(crate) fn sidebearing_reason(sidebearings: &Sidebearings, step: &Step) -> Op
     }
     let own = sidebearings.accent_sidebearing(step)?;
     let told = step.argument(0);
-    if own != told {
-        Some(Reason::Sidebearings { told, own })
-    } else {
-        None
-    }
+    (own != told).then_some(Reason::Sidebearings { told, own })
 }
 
 /// The first pair of one of the stems and one of the hint set that overlap, or of two of the stems.

@@ -19,16 +19,13 @@ use crate::background::Background;
 use crate::hint_sets::{HintSets, own_stems};
 use crate::reason::{Reason, SetStem};
 use crate::step_reasons::{
-    addition_reason, argument_reason, code_reason, count_reason, counter_reason,
-    depth_reason, name_reason, othersubr_reason, overlap_among, quotient_reason,
-    return_reason, sidebearing_reason, subr_reason, thin_reason, three_reason,
-    token_reason, told_where, triple_reason, unknown_reason, want_reason, width_reason,
-    wrong_count_reason, zero_reason,
+    addition_reason, argument_reason, code_reason, count_reason, counter_reason, depth_reason,
+    name_reason, othersubr_reason, overlap_among, quotient_reason, return_reason,
+    sidebearing_reason, subr_reason, thin_reason, three_reason, token_reason, told_where,
+    triple_reason, unknown_reason, want_reason, width_reason, wrong_count_reason, zero_reason,
 };
 use t1_char::{Edition, Step};
-use t1_rules::{
-    FlexWatcher, Mask, Point, Rule, Sidebearings, Watch, lies_across, stands_upright,
-};
+use t1_rules::{FlexWatcher, Mask, Point, Rule, Sidebearings, Watch, lies_across, stands_upright};
 
 /// What is kept of the steps before one.
 #[derive(Drop)]
@@ -169,15 +166,11 @@ impl StepsBefore {
 fn no_pairs_where(is_looked_at: bool, moves: u32, points: u32, ends: bool) -> Option<Reason>
     ensures { result ≡ find are_no_pairs (only_where is_looked_at (Pairs moves points ends)) }
 {
-    if is_looked_at && !are_pairs(moves, points, ends) {
-        Some(Reason::Pairs {
-            moves,
-            points,
-            ends,
-        })
-    } else {
-        None
-    }
+    (is_looked_at && !are_pairs(moves, points, ends)).then_some(Reason::Pairs {
+        moves,
+        points,
+        ends,
+    })
 }
 
 /// Whether a point comes after its move, or the end after seven of each.
@@ -208,9 +201,5 @@ fn end_reason(step: &Step, pen: Point) -> Option<Reason>
 fn miss_of(named: Point, pen: Point) -> Option<Reason>
     ensures { result ≡ find is_miss (Miss named pen ∷ []) }
 {
-    if (named.x != pen.x) | (named.y != pen.y) {
-        Some(Reason::Miss { named, pen })
-    } else {
-        None
-    }
+    ((named.x != pen.x) | (named.y != pen.y)).then_some(Reason::Miss { named, pen })
 }

@@ -1,4 +1,4 @@
-use Rattle.std.proofs.Common.{◌≡◌, ◌==◌, not, true, Some, rules, sym, ap, ◌∙◌}
+use Rattle.std.proofs.Common.{◌≡◌, ◌==◌, not, true, Some, rules, sym, ◌∙◌}
 use Rattle.std.specs.List.{find}
 use Rattle.t1_rules.specs.FontRules.Values.{is_sixteen_twice}
 use Rattle.t1_rules.specs.Keys.{value_at}
