@@ -1,5 +1,5 @@
 -- The parts of texts have no byte below 32 and no colon.
-use Rattle.std.proofs.Common.{◌≡◌, ◌<◌, ◌-◌, ◌*◌, ◌/◌, ◌%◌, ◌==◌, ◌++◌, ℕ, zero, suc, ℤ, pos, negsuc, Bool, true, false, nat_lt, List, [], ◌∷◌, refl, ◌∙◌, inl, inr, arith, if◌then◌else◌}
+use Rattle.std.proofs.Common.{◌≡◌, ◌<◌, ◌-◌, ◌*◌, ◌/◌, ◌%◌, ◌==◌, ◌&&◌, ◌++◌, ℕ, zero, suc, ℤ, pos, negsuc, Bool, true, false, nat_lt, List, [], ◌∷◌, refl, ◌∙◌, inl, inr, arith, if◌then◌else◌}
 use Rattle.std.specs.Fmt.{decimal, digits, digits_onto, digit_glyph, sign_text, signed_decimal}
 use Rattle.std.specs.List.{list_all}
 use Rattle.std.proofs.lemmas.Bool.{cases_Bool}
@@ -99,3 +99,9 @@ plain_either false xs ys = refl
 pub either_same : (b : Bool) → (if b then true else true) ≡ true
 either_same true = refl
 either_same false = refl
+
+pub append_plain : (xs ys : List ℕ) → list_all is_plain (xs ++ ys) ≡ (list_all is_plain xs && list_all is_plain ys)
+append_plain xs ys = list_all-append is_plain xs ys
+
+-- Texts that are joined or chosen, and the parts that no rule words.
+pub ruleset plain = (append_plain, plain_either, plain_by, plain_decimal, plain_signed, plain_command, plain_name, either_same)

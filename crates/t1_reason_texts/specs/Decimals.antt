@@ -37,18 +37,21 @@ text_in counted number = decimal_by (one_of counted) number
 abbrev pub exact_text : Exact → List ℕ
 exact_text exact = text_in exact.unit exact.number
 
+abbrev pub in_unit : Unit → ℤ → Exact
+in_unit counted number = record { number = number; unit = counted }
+
 -- A coordinate, a number of a dictionary, how far one of these is above another, and the same times a third.
 abbrev pub coordinate_of : ℤ → Exact
-coordinate_of number = record { number = number; unit = Coordinate }
+coordinate_of number = in_unit Coordinate number
 
 abbrev pub value_of : ℤ → Exact
-value_of number = record { number = number; unit = Value }
+value_of number = in_unit Value number
 
 abbrev pub difference_of : ℤ → ℤ → Exact
-difference_of above below = record { number = above -ℤ below; unit = Value }
+difference_of above below = in_unit Value (above -ℤ below)
 
 abbrev pub product_of : ℤ → ℤ → ℤ → Exact
-product_of above below scale = record { number = (above -ℤ below) *ℤ scale; unit = Product }
+product_of above below scale = in_unit Product ((above -ℤ below) *ℤ scale)
 
 abbrev pub coordinate_text : ℤ → List ℕ
 coordinate_text number = decimal_by unit number

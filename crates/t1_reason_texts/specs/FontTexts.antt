@@ -1,22 +1,12 @@
--- The texts of reasons that entries of a font have, beside its zones and stem widths.
-use Rattle.std.specs.Prelude.{ℕ, ℤ, ◌==◌, nat_eq, Bool, true, false, Option, Some, None, List, [], ◌++◌, codes, if◌then◌else◌}
+-- What the texts of reasons that entries of a font have are made of, beside its zones and stem widths.
+use Rattle.std.specs.Prelude.{ℕ, ℤ, ◌==◌, nat_eq, Bool, true, false, List, [], ◌++◌, codes, if◌then◌else◌}
 use Rattle.std.specs.Map.{lookup}
 use Rattle.std.specs.Option.{unwrap_or}
 use Rattle.std.specs.Fmt.{decimal}
 use Rattle.t1_reason_texts.specs.Decimals.{decimal_by}
-use Rattle.t1_char.specs.declared.token.CharToken.{CharToken}
-use Rattle.t1_char.specs.declared.token.CharToken.TheVariants.{Short}
-use Rattle.t1_font.specs.declared.encoding.Encoding.{Encoding}
-use Rattle.t1_font.specs.declared.encoding.Encoding.TheVariants.{Absent as NoEncoding, Standard, Custom, Other as OtherEncoding}
 use Rattle.t1_font.specs.Fonts.{FontValue}
-use Rattle.t1_reasons.specs.declared.reason.EntryKind.{EntryKind}
-use Rattle.t1_reasons.specs.declared.reason.EntryKind.TheVariants.{Number, Numbers}
 use Rattle.t1_reasons.specs.declared.reason.Found.{Found}
 use Rattle.t1_reasons.specs.declared.reason.Found.TheVariants.{Absent, One, Other, Several}
-use Rattle.t1_reasons.specs.declared.waivers.Unused.{Unused}
-use Rattle.t1_reasons.specs.declared.waivers.Unused.TheVariants.{NoGlyph, Unbroken}
-use Rattle.t1_reason_texts.specs.Names.{shown_name}
-use Rattle.t1_reason_texts.specs.StepTexts.{token_text}
 use Rattle.t1_reason_texts.specs.Words.{numbers_text}
 use Rattle.t1_rules.specs.declared.rule.Rule.{Rule}
 use Rattle.t1_rules.specs.declared.rule.Rule.TheVariants.{F03, F04, F05, F07, F15, F16, F18, F20, Z08, Z12, Z17, Z18, Z19}
@@ -76,108 +66,44 @@ lists_numbers F18 = true
 lists_numbers Z12 = true
 lists_numbers _ = false
 
-abbrev pub kind_words : Rule → List ℕ
-kind_words rule = if lists_numbers rule then codes " is no list of numbers" else codes " is no number"
-
 -- How many numbers a list should have.
 abbrev pub count_needed : Rule → List ℕ
 count_needed F15 = codes "; 6 are needed"
 count_needed F16 = codes "; 4 are needed"
 count_needed _ = []
 
-abbrev pub list_text : Rule → ℕ → List ℕ
-list_text rule count = entry_name rule ++ (codes " has " ++ (numbers_text count ++ count_needed rule))
-
 abbrev pub several_text : Rule → ℕ → List ℕ
 several_text rule count =
     if counts_numbers rule then numbers_text count ++ entry_needed rule
-    else (if lists_numbers rule then list_text rule count else entry_name rule ++ codes " is no number")
+    else (if lists_numbers rule then entry_name rule ++ (codes " has " ++ (numbers_text count ++ count_needed rule)) else entry_name rule ++ codes " is no number")
 
 abbrev pub entry_text : Rule → Found → List ℕ
 entry_text rule Absent = entry_name rule ++ (codes " is not there" ++ absent_needed rule)
 entry_text rule (One number) = entry_name rule ++ (codes " is " ++ (value_text number ++ entry_needed rule))
 entry_text rule (Several count) = several_text rule count
-entry_text rule Other = entry_name rule ++ kind_words rule
+entry_text rule Other = entry_name rule ++ (if lists_numbers rule then codes " is no list of numbers" else codes " is no number")
 
--- What an entry is, and what it should be.
+-- What an entry is, whatever its name.
 abbrev pub found_text : Found → List ℕ
 found_text Absent = codes "it is not there"
 found_text (One number) = codes "it is the number " ++ value_text number
 found_text (Several count) = codes "it is a list of " ++ numbers_text count
 found_text Other = codes "it is neither a number nor a list of numbers"
 
-abbrev pub wanted_words : EntryKind → List ℕ
-wanted_words Number = codes "; a number is needed"
-wanted_words Numbers = codes "; a list of numbers is needed"
-
-abbrev pub kind_text : Found → EntryKind → List ℕ
-kind_text found wanted = found_text found ++ wanted_words wanted
-
--- MinFeature: its numbers where there are two.
-abbrev pub two_features_text : ℤ → ℤ → List ℕ
-two_features_text one two = codes "it is {" ++ (value_text one ++ (codes " " ++ (value_text two ++ codes "}")))
-
-abbrev pub features_text : Found → ℤ → ℤ → List ℕ
-features_text (Several count) one two = if count == 2 then two_features_text one two else found_text (Several count)
-features_text found one two = found_text found
-
--- The UniqueID of the clear text, and that of the Private dictionary.
-abbrev pub ids_text : ℤ → ℤ → List ℕ
-ids_text clear private = value_text clear ++ (codes " in the clear text, " ++ (value_text private ++ codes " in Private"))
-
--- ---- the Encoding, the Subrs and the glyphs
-
-abbrev pub form_text : Encoding → List ℕ
-form_text NoEncoding = codes "it is not there"
-form_text Standard = codes "it is StandardEncoding"
-form_text Custom = codes "it is an array of 256 names"
-form_text OtherEncoding = codes "it is neither StandardEncoding nor an array of 256 names"
-
-abbrev pub glyphs_text : ℕ → List ℕ
-glyphs_text count =
-    if count == 0 then codes "there is no glyph"
-    else (if count == 1 then codes "the only glyph has another name" else codes "none of " ++ (decimal count ++ codes " glyphs"))
-
-abbrev pub glyph_text : List ℕ → List ℕ
-glyph_text name = codes "the glyph is " ++ shown_name name
-
-abbrev pub code_names_text : ℕ → List ℕ → List ℕ
-code_names_text code name = codes "code " ++ (decimal code ++ (codes " names " ++ shown_name name))
+-- Whether an entry has two numbers.
+abbrev pub has_two : Found → Bool
+has_two (Several count) = count == 2
+has_two _ = false
 
 -- The name that a custom Encoding has for a code.
 abbrev pub encoded_name : FontValue → ℕ → List ℕ
 encoded_name font code = unwrap_or (lookup (nat_eq code) font.codes) []
 
-abbrev pub twice_words : Bool → Bool → List ℕ
-twice_words true true = codes " is given twice, and "
-twice_words true false = codes " is given twice"
-twice_words false true = codes " "
-twice_words false false = codes " is there"
-
-abbrev pub past_words : Bool → ℕ → List ℕ
-past_words true size = codes "is past the size " ++ decimal size
-past_words false size = []
-
-abbrev pub subr_entry_text : ℕ → Bool → Bool → ℕ → List ℕ
-subr_entry_text number twice is_past size = codes "Subr " ++ (decimal number ++ (twice_words twice is_past ++ past_words is_past size))
-
--- The last token of a Subr that has no return.
-abbrev pub is_short : CharToken → Bool
-is_short Short = true
-is_short _ = false
-
-abbrev pub last_token_text : CharToken → List ℕ
-last_token_text token = if is_short token then codes "it is shorter than lenIV" else codes "it ends with " ++ token_text token
-
-abbrev pub ends_text : Option CharToken → List ℕ
-ends_text None = codes "it is empty"
-ends_text (Some token) = last_token_text token
-
--- A coordinate of FontBBox's lower left corner that is above that of the upper right one.
-abbrev pub corners_text : ℤ → ℤ → List ℕ
-corners_text first last = value_text first ++ (codes " is above " ++ value_text last)
-
--- Why a waiver isn't used.
-abbrev pub unused_text : Unused → List ℕ
-unused_text NoGlyph = codes "no glyph has this name"
-unused_text (Unbroken glyph) = codes "no step of the glyph breaks this rule"
+-- A Subr that is given twice, or past the size of the Subrs.
+unfoldable pub subr_entry_text : ℕ → Bool → Bool → ℕ → List ℕ
+subr_entry_text number twice is_past size =
+    if twice
+    then (if is_past then codes "Subr " ++ (decimal number ++ (codes " is given twice, and is past the size " ++ decimal size))
+    else codes "Subr " ++ (decimal number ++ codes " is given twice"))
+    else (if is_past then codes "Subr " ++ (decimal number ++ (codes " is past the size " ++ decimal size))
+    else codes "Subr " ++ (decimal number ++ codes " is there"))

@@ -1,4 +1,4 @@
--- The texts of reasons of seac: its codes, with the names that StandardEncoding has for them, and its sidebearing.
+-- What the texts of reasons of seac are made of: its codes, with the names that StandardEncoding has for them.
 use Rattle.std.specs.Prelude.{ℕ, ℤ, Bool, true, false, is_none, Option, Some, None, List, [], ◌∷◌, ◌++◌, codes}
 use Rattle.t1_reason_texts.specs.Decimals.{coordinate_text}
 use Rattle.t1_font.specs.Fonts.{FontValue}
@@ -21,10 +21,6 @@ abbrev pub name_words : List ℕ → List ℕ
 name_words [] = codes " has no name"
 name_words (letter ∷ letters) = codes " is " ++ shown_name (letter ∷ letters)
 
--- `code 194 is acute`, `code 160 has no name`.
-abbrev pub named_code_text : ℤ → List ℕ → List ℕ
-named_code_text code name = codes "code " ++ (coordinate_text code ++ name_words name)
-
 abbrev pub is_empty : List ℕ → Bool
 is_empty [] = true
 is_empty (letter ∷ letters) = false
@@ -42,30 +38,11 @@ is_meant font K02 code = is_empty (name_of_code code)
 is_meant font K03 code = is_lacking font (name_of_code code)
 is_meant font _ code = true
 
--- What is said of a code.
+-- What is said of a code: `code 194 is acute`, `code 160 has no name`.
 unfoldable pub code_text : Rule → ℤ → List ℕ
 code_text K01 code = codes "code is " ++ coordinate_text code
-code_text K03 code = named_code_text code (name_of_code code) ++ codes ", which is no glyph"
-code_text _ code = named_code_text code (name_of_code code)
-
-abbrev pub base_text : Rule → ℤ → List ℕ
-base_text rule base = codes "the base's " ++ code_text rule base
-
-abbrev pub accent_text : Rule → ℤ → List ℕ
-accent_text rule accent = codes "the accent's " ++ code_text rule accent
-
-unfoldable pub both_text : Rule → ℤ → ℤ → List ℕ
-both_text rule base accent = base_text rule base ++ (codes " and " ++ accent_text rule accent)
-
--- Of the code that is meant, or of both.
-abbrev pub meant_text : Bool → Bool → Rule → ℤ → ℤ → List ℕ
-meant_text true false rule base accent = base_text rule base
-meant_text false true rule base accent = accent_text rule accent
-meant_text true true rule base accent = both_text rule base accent
-meant_text false false rule base accent = both_text rule base accent
-
-abbrev pub codes_text : FontValue → Rule → ℤ → ℤ → List ℕ
-codes_text font rule base accent = meant_text (is_meant font rule base) (is_meant font rule accent) rule base accent
+code_text K03 code = codes "code " ++ (coordinate_text code ++ (name_words (name_of_code code) ++ codes ", which is no glyph"))
+code_text _ code = codes "code " ++ (coordinate_text code ++ name_words (name_of_code code))
 
 -- The sidebearing that seac says, and that of its accent.
 abbrev pub sidebearings_text : ℤ → ℤ → List ℕ

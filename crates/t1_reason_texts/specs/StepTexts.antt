@@ -1,5 +1,5 @@
--- The texts of reasons that steps have.
-use Rattle.std.specs.Prelude.{ℕ, ℤ, pos, ◌-ℤ◌, ◌+ℤ◌, ◌*ℤ◌, ◌==◌, nat_lt, ◌&&◌, ◌||◌, Bool, true, false, Option, Some, None, List, [], ◌++◌, codes, if◌then◌else◌}
+-- What the texts of reasons that steps have are made of.
+use Rattle.std.specs.Prelude.{ℕ, ℤ, pos, ◌-ℤ◌, ◌+ℤ◌, ◌*ℤ◌, ◌&&◌, ◌||◌, Bool, true, false, Option, Some, None, List, [], ◌++◌, codes, if◌then◌else◌}
 use Rattle.std.specs.Int.{int_max, int_min, is_negative}
 use Rattle.std.specs.Ordering.{int_eq}
 use Rattle.std.specs.Fmt.{decimal, signed_decimal}
@@ -9,9 +9,9 @@ use Rattle.t1_char.specs.declared.token.CharToken.{CharToken}
 use Rattle.t1_char.specs.declared.token.CharToken.TheVariants.{Number, Command, Unknown, Unknown12, Cut, Short, End}
 use Rattle.t1_char.specs.Commands.{name_of}
 use Rattle.t1_reasons.specs.declared.reason.SetStem.{SetStem}
+use Rattle.t1_reason_texts.specs.declared.decimals.Exact.{Exact}
 use Rattle.t1_reason_texts.specs.declared.decimals.Unit.TheVariants.{Coordinate, Mean, Middle}
-use Rattle.t1_reason_texts.specs.Decimals.{coordinate_text, point_text, text_in}
-use Rattle.t1_reason_texts.specs.Words.{are_text, arguments_text, bytes_text, moves_text, numbers_text, points_text}
+use Rattle.t1_reason_texts.specs.Decimals.{coordinate_text, in_unit, text_in}
 use Rattle.t1_rules.specs.declared.rule.Rule.{Rule}
 use Rattle.t1_rules.specs.declared.rule.Rule.TheVariants.{C03, W02, P01, P03, H01, X01, X02, X03, O03, K06, H05, H06, H07, O05, O06, O08, W03}
 use Rattle.t1_rules.specs.declared.step_rules.flex.Point.{Point}
@@ -25,36 +25,11 @@ abbrev pub or_more : Commands → List ℕ
 or_more Callothersubr = codes " or more"
 or_more _ = []
 
-abbrev pub count_text : Commands → ℕ → ℕ → List ℕ
-count_text command taken there =
-    name_of command ++ (codes " takes " ++ (numbers_text taken ++ (or_more command ++ (codes ", " ++ (are_text there ++ codes " on the stack")))))
-
 abbrev pub bound_words : ℤ → List ℕ
 bound_words number = if is_negative number then codes "-32000 at least" else codes "32000 at most"
 
-abbrev pub argument_text : ℕ → ℤ → List ℕ
-argument_text place number =
-    codes "argument " ++ (decimal place ++ (codes " is " ++ (coordinate_text number ++ (codes ", " ++ bound_words number))))
-
 abbrev pub quotient_text : ℤ → ℤ → List ℕ
 quotient_text dividend divisor = coordinate_text dividend ++ (codes " divided by " ++ coordinate_text divisor)
-
--- The Subr whose charstring ends.
-abbrev pub ending_text : ℕ → List ℕ
-ending_text subr = codes "Subr " ++ (decimal subr ++ codes " ends")
-
--- How long a charstring is, and lenIV.
-abbrev pub length_text : ℕ → ℤ → List ℕ
-length_text bytes len_iv = bytes_text bytes ++ (codes ", lenIV is " ++ signed_decimal len_iv)
-
-abbrev pub subr_text : ℤ → Bool → List ℕ
-subr_text number found = if found then codes "Subr " ++ coordinate_text number else codes "there is no Subr " ++ coordinate_text number
-
--- How many Subrs are being executed.
-abbrev pub depth_text : ℕ → List ℕ
-depth_text calls =
-    if calls == 0 then codes "no Subr is being executed"
-    else (if calls == 1 then codes "1 Subr is being executed" else decimal calls ++ codes " Subrs are being executed")
 
 -- ---- tokens
 
@@ -67,29 +42,16 @@ token_text Cut = codes "a token that breaks off"
 token_text Short = codes "a charstring shorter than lenIV"
 token_text End = codes "the end of the charstring"
 
-abbrev pub is_there : CharToken → List ℕ
-is_there (Unknown12 byte) = codes " are there"
-is_there _ = codes " is there"
-
--- C03 speaks of the token alone.
-abbrev pub says_token : Rule → Bool
-says_token C03 = true
-says_token _ = false
-
-abbrev pub there_text : Rule → CharToken → List ℕ
-there_text rule token = token_text token ++ (if says_token rule then [] else is_there token)
-
--- A token that comes to a full stack.
-abbrev pub full_text : CharToken → ℕ → List ℕ
-full_text token there = token_text token ++ (codes " after " ++ (numbers_text there ++ codes ", 24 at most"))
+-- Behind a token that is there in place of another. C03 speaks of the token alone.
+abbrev pub is_there : Rule → CharToken → List ℕ
+is_there C03 token = []
+is_there _ (Unknown12 byte) = codes " are there"
+is_there _ token = codes " is there"
 
 -- A token that comes behind the end of the glyph.
 abbrev pub comes_next : CharToken → List ℕ
 comes_next (Unknown12 byte) = codes " come next"
 comes_next _ = codes " comes next"
-
-abbrev pub behind_text : CharToken → List ℕ
-behind_text token = token_text token ++ comes_next token
 
 -- ---- steps before
 
@@ -125,31 +87,16 @@ since_none O05 = codes "no hsbw or sbw so far"
 since_none W03 = codes "no hsbw or sbw so far"
 since_none _ = codes "no step did so"
 
-abbrev pub since_text : Rule → Option ℕ → List ℕ
-since_text rule (Some step) = since_before rule ++ (decimal step ++ since_after rule)
-since_text rule None = since_none rule
-
 -- ---- paths and flex
 
 abbrev pub are_same_points : Point → Point → Bool
 are_same_points one other = int_eq one.x other.x && int_eq one.y other.y
-
-abbrev pub open_text : Point → Point → List ℕ
-open_text start pen =
-    if are_same_points start pen then codes "ends where it began, without closepath"
-    else codes "from " ++ (point_text start ++ (codes " to " ++ point_text pen))
 
 -- The moves and the points of a flex. Where a point comes too late, moves before it have none.
 abbrev pub needed_pairs : Bool → Bool → List ℕ
 needed_pairs true late = codes "; 7 of each are needed"
 needed_pairs false true = codes " before this point; each move needs a point of its own"
 needed_pairs false false = codes " before this point; it needs a move of its own"
-
-abbrev pub pairs_text : ℕ → ℕ → Bool → List ℕ
-pairs_text moves points ends = moves_text moves ++ (codes " and " ++ (points_text points ++ needed_pairs ends (nat_lt points moves)))
-
-abbrev pub miss_text : Point → Point → List ℕ
-miss_text named pen = codes "the pen is at " ++ (point_text pen ++ (codes ", the end names " ++ point_text named))
 
 -- ---- stems
 
@@ -164,17 +111,6 @@ are_same_stems one other = int_eq (lower one) (lower other) && int_eq (upper one
 abbrev pub share : Stem → Stem → ℤ
 share one other = int_min (upper one) (upper other) -ℤ int_max (lower one) (lower other)
 
-abbrev pub twins_text : Stem → ℕ → List ℕ
-twins_text stem step = span_text stem ++ (codes ", the same stem is set at step " ++ decimal step)
-
-abbrev pub pair_text : Stem → SetStem → List ℕ
-pair_text own other =
-    span_text own
-    ++ (codes " and " ++ (span_text other.stem ++ (codes ", set at step " ++ (decimal other.step ++ (codes ", share " ++ text_in Coordinate (share own other.stem))))))
-
-unfoldable pub overlap_text : Stem → SetStem → List ℕ
-overlap_text own other = if are_same_stems own other.stem then twins_text own other.step else pair_text own other
-
 -- H06 and H07 speak of stems that need not overlap: H06 of stems of two commands, H07 of two stems that one of three has in turn.
 abbrev pub says_overlap : Rule → Bool
 says_overlap H06 = false
@@ -185,26 +121,21 @@ abbrev pub against_words : Rule → List ℕ
 against_words H07 = codes " in place of "
 against_words _ = codes " beside "
 
-unfoldable pub against_text : Rule → Stem → SetStem → List ℕ
-against_text rule own other = span_text own ++ (against_words rule ++ (span_text other.stem ++ (codes ", set at step " ++ decimal other.step)))
+abbrev pub overlap_text : Stem → SetStem → List ℕ
+overlap_text own other =
+    if are_same_stems own other.stem then span_text own ++ (codes ", the same stem is set at step " ++ decimal other.step)
+    else span_text own
+    ++ (codes " and " ++ (span_text other.stem ++ (codes ", set at step " ++ (decimal other.step ++ (codes ", share " ++ text_in Coordinate (share own other.stem))))))
 
-abbrev pub stems_text : Rule → Stem → SetStem → List ℕ
-stems_text rule own other = if says_overlap rule then overlap_text own other else against_text rule own other
+unfoldable pub stems_text : Rule → Stem → SetStem → List ℕ
+stems_text rule own other =
+    if says_overlap rule then overlap_text own other
+    else span_text own ++ (against_words rule ++ (span_text other.stem ++ (codes ", set at step " ++ decimal other.step)))
 
 -- H05 speaks of a stem's width, H03 of a stem that has none.
 abbrev pub says_width : Rule → Bool
 says_width H05 = true
 says_width _ = false
-
-unfoldable pub width_of_text : Stem → List ℕ
-width_of_text stem =
-    codes "the stem from " ++ (span_text stem ++ (codes " is " ++ (text_in Coordinate (upper stem -ℤ lower stem) ++ codes " wide")))
-
-abbrev pub position_text : Stem → List ℕ
-position_text stem = codes "the stem is at " ++ coordinate_text stem.position
-
-abbrev pub stem_text : Rule → Stem → List ℕ
-stem_text rule stem = if says_width rule then width_of_text stem else position_text stem
 
 -- How far the second middle is from half-way between the others, in units of 1/262144.
 abbrev pub off_middle : Stem → Stem → Stem → ℤ
@@ -216,33 +147,18 @@ is_half_off off = int_eq off (pos 131072) || int_eq off (pos 0 -ℤ pos 131072)
 abbrev pub off_words : Stem → Stem → Stem → List ℕ
 off_words one two three = if is_half_off (off_middle one two three) then codes ", half a unit off" else []
 
+-- The middle that would do between two stems, where they are equally wide.
+abbrev pub middle_that_does : Stem → Stem → Option Exact
+middle_that_does one three = if int_eq one.width three.width then Some (in_unit Mean (twice_middle one +ℤ twice_middle three)) else None
+
 unfoldable pub middles_text : Stem → Stem → Stem → List ℕ
 middles_text one two three =
-    text_in Middle (twice_middle one)
-    ++ (codes " " ++ (text_in Middle (twice_middle two) ++ (codes " " ++ text_in Middle (twice_middle three))))
+    text_in Middle (twice_middle one) ++ (codes " " ++ (text_in Middle (twice_middle two) ++ (codes " " ++ text_in Middle (twice_middle three))))
 
 unfoldable pub widths_text : Stem → Stem → Stem → List ℕ
-widths_text one two three =
-    coordinate_text one.width ++ (codes " " ++ (coordinate_text two.width ++ (codes " " ++ coordinate_text three.width)))
-
--- The middle that would do, where the outer widths are equal.
-unfoldable pub middle_text : Stem → Stem → List ℕ
-middle_text one three = codes "; middle " ++ (text_in Mean (twice_middle one +ℤ twice_middle three) ++ codes " would do")
-
-abbrev pub middle_words : Stem → Stem → List ℕ
-middle_words one three = if int_eq one.width three.width then middle_text one three else []
-
-unfoldable pub stems_of_three : Stem → Stem → Stem → List ℕ
-stems_of_three one two three =
-    codes "widths " ++ (widths_text one two three ++ (codes ", middles " ++ (middles_text one two three ++ off_words one two three)))
-
-abbrev pub triple_text : Stem → Stem → Stem → List ℕ
-triple_text one two three = stems_of_three one two three ++ middle_words one three
+widths_text one two three = coordinate_text one.width ++ (codes " " ++ (coordinate_text two.width ++ (codes " " ++ coordinate_text three.width)))
 
 -- ---- OtherSubrs
-
-abbrev pub othersubr_text : ℤ → ℤ → List ℕ
-othersubr_text number count = codes "OtherSubr " ++ (coordinate_text number ++ (codes " with " ++ arguments_text count))
 
 -- How many arguments an OtherSubr takes: 0, the end of a flex, three, 1 and 2 none, 3, the hint replacement, one.
 abbrev pub takes_words : ℤ → List ℕ
@@ -259,14 +175,3 @@ abbrev pub call_words : Rule → ℤ → List ℕ
 call_words O03 number = takes_words number
 call_words X02 number = part_words number
 call_words _ number = []
-
-abbrev pub call_text : Rule → ℤ → ℤ → List ℕ
-call_text rule number count = othersubr_text number count ++ call_words rule number
-
-abbrev pub arguments_there_text : ℤ → ℕ → List ℕ
-arguments_there_text count there = codes "the count is " ++ (coordinate_text count ++ (codes ", " ++ (are_text there ++ codes " there")))
-
--- ---- the limit
-
-abbrev pub limit_text : ℕ → List ℕ
-limit_text steps = codes "more than " ++ (decimal steps ++ codes " steps")

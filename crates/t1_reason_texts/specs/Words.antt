@@ -5,27 +5,14 @@ use Rattle.std.specs.Fmt.{decimal}
 use Rattle.t1_char.specs.Numbers.{unit}
 use Rattle.t1_reason_texts.specs.Decimals.{coordinate_text}
 
--- `no numbers`, `1 number`, `3 numbers`.
+-- `no numbers`, `1 number`, `3 numbers`: a count, and the word for one.
+abbrev pub counted_text : ℕ → List ℕ → List ℕ
+counted_text count one =
+    if count == 0 then codes "no " ++ (one ++ codes "s")
+    else (if count == 1 then codes "1 " ++ one else decimal count ++ (codes " " ++ (one ++ codes "s")))
+
 abbrev pub numbers_text : ℕ → List ℕ
-numbers_text count =
-    if count == 0 then codes "no numbers"
-    else (if count == 1 then codes "1 number" else decimal count ++ codes " numbers")
-
--- The same of bytes, moves and points.
-abbrev pub bytes_text : ℕ → List ℕ
-bytes_text count =
-    if count == 0 then codes "no bytes"
-    else (if count == 1 then codes "1 byte" else decimal count ++ codes " bytes")
-
-abbrev pub moves_text : ℕ → List ℕ
-moves_text count =
-    if count == 0 then codes "no moves"
-    else (if count == 1 then codes "1 move" else decimal count ++ codes " moves")
-
-abbrev pub points_text : ℕ → List ℕ
-points_text count =
-    if count == 0 then codes "no points"
-    else (if count == 1 then codes "1 point" else decimal count ++ codes " points")
+numbers_text count = counted_text count (codes "number")
 
 -- `none is`, `1 is`, `3 are`.
 abbrev pub are_text : ℕ → List ℕ

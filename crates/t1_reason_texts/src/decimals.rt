@@ -1,7 +1,7 @@
 //! Numbers as exact decimals.
 
 ghost use Rattle.std.specs.Prelude.{◌≡◌, ◌<◌, ◌/◌, ◌%◌, ◌-ℤ◌, ◌*ℤ◌, Some};
-ghost use Rattle.t1_reason_texts.specs.Decimals.{coordinate_of, difference_of, exact_text, fraction, one_of, point_text, product_of, value_of};
+ghost use Rattle.t1_reason_texts.specs.Decimals.{coordinate_of, difference_of, exact_text, fraction, in_unit, one_of, point_text, product_of, value_of};
 
 use std::fmt;
 use t1_char::UNIT;
@@ -48,20 +48,14 @@ struct Fraction {
 pub fn coordinate(number: i64) -> Exact
     ensures { result ≡ coordinate_of number }
 {
-    Exact {
-        number: i128::from(number),
-        unit: Unit::Coordinate,
-    }
+    Exact::new(i128::from(number), Unit::Coordinate)
 }
 
 /// A number of a dictionary, given in units of 10^-9.
 pub fn value(number: i64) -> Exact
     ensures { result ≡ value_of number }
 {
-    Exact {
-        number: i128::from(number),
-        unit: Unit::Value,
-    }
+    Exact::new(i128::from(number), Unit::Value)
 }
 
 /// How far a number is above another.
@@ -82,19 +76,22 @@ fn product(above: i64, below: i64, scale: i64) -> i128
 pub(crate) fn exact_difference(above: i64, below: i64) -> Exact
     ensures { result ≡ difference_of above below }
 {
-    Exact {
-        number: difference(above, below),
-        unit: Unit::Value,
-    }
+    Exact::new(difference(above, below), Unit::Value)
 }
 
 /// The same times a third number, of the dictionary too.
 pub(crate) fn exact_product(above: i64, below: i64, scale: i64) -> Exact
     ensures { result ≡ product_of above below scale }
 {
-    Exact {
-        number: product(above, below, scale),
-        unit: Unit::Product,
+    Exact::new(product(above, below, scale), Unit::Product)
+}
+
+impl Exact {
+    /// A number of so many of a unit.
+    pub(crate) fn new(number: i128, unit: Unit) -> Exact
+        ensures { result ≡ in_unit unit number }
+    {
+        Exact { number, unit }
     }
 }
 

@@ -1,7 +1,7 @@
-//! The texts of reasons of seac: its codes, with the names that StandardEncoding has for them, and its sidebearing.
+//! What the texts of reasons of seac are made of: its codes, with the names that StandardEncoding has for them.
 
 ghost use Rattle.std.specs.Prelude.{◌≡◌, Some};
-ghost use Rattle.t1_reason_texts.specs.SeacTexts.{both_text, code_text, is_lacking, is_meant, meant_text, name_of_code, name_words, named_code_text, sidebearings_text};
+ghost use Rattle.t1_reason_texts.specs.SeacTexts.{code_text, is_lacking, is_meant, name_of_code, name_words, sidebearings_text};
 ghost use Rattle.t1_rules.specs.StepRules.Seac.{seac_code};
 
 use crate::names::ShownName;
@@ -11,15 +11,13 @@ use t1_char::natural;
 use t1_font::{CODES, Font};
 use t1_rules::{Rule, glyph_named, standard_name};
 
-/// The codes of base and accent: the one that the rule speaks of, or both.
+/// What is said of the name of a code.
 #[derive(Clone, Copy)]
-pub(crate) struct CodesText {
-    pub(crate) rule: Rule,
-    pub(crate) base: i32,
-    pub(crate) accent: i32,
-    pub(crate) is_base: bool,
-    pub(crate) is_accent: bool,
-}
+struct NameWords(&'static str);
+
+/// What a rule says of a code.
+#[derive(Clone, Copy)]
+pub(crate) struct CodeText(pub(crate) Rule, pub(crate) i32);
 
 /// A number as a code, where it is whole from 0 to 255.
 fn seac_code(number: i32) -> Option<u8>
@@ -64,24 +62,6 @@ pub(crate) fn is_meant(font: &Font<'_>, rule: Rule, code: i32) -> bool
     }
 }
 
-/// What is said of the name of a code.
-#[derive(Clone, Copy)]
-struct NameWords(&'static str);
-
-/// A code with its name.
-#[derive(Clone, Copy)]
-struct NamedCodeText {
-    code: i32,
-    name: &'static str,
-}
-
-/// What is said of a code.
-#[derive(Clone, Copy)]
-struct CodeText {
-    rule: Rule,
-    code: i32,
-}
-
 impl fmt::Display for NameWords {
     ghost output = { λ t. Some (name_words t.0.now) };
 
@@ -95,88 +75,17 @@ impl fmt::Display for NameWords {
     }
 }
 
-impl fmt::Display for NamedCodeText {
-    ghost output = { λ t. Some (named_code_text t.code t.name.now) };
-
-    fn fmt<W: fmt::Write>(&self, f: &mut fmt::Formatter<W>) -> fmt::Result {
-        let code = small_coordinate(self.code);
-        let words = NameWords(self.name);
-        write!(f, "code {code}{words}")
-    }
-}
-
 impl fmt::Display for CodeText {
-    ghost output = { λ t. Some (code_text t.rule t.code) };
+    ghost output = { λ t. Some (code_text t.0 t.1) };
 
     #[tactic(auto, unfolding(crate::specs::SeacTexts::code_text))]
     fn fmt<W: fmt::Write>(&self, f: &mut fmt::Formatter<W>) -> fmt::Result {
-        let named = NamedCodeText {
-            code: self.code,
-            name: name_of_code(self.code),
-        };
-        match self.rule {
-            Rule::K01 => {
-                let code = small_coordinate(self.code);
-                write!(f, "code is {code}")
-            }
-            Rule::K03 => write!(f, "{named}, which is no glyph"),
-            _ => write!(f, "{named}"),
-        }
-    }
-}
-
-/// Both codes.
-#[derive(Clone, Copy)]
-struct BothText {
-    rule: Rule,
-    base: i32,
-    accent: i32,
-}
-
-impl fmt::Display for BothText {
-    ghost output = { λ t. Some (both_text t.rule t.base t.accent) };
-
-    #[tactic(auto, unfolding(crate::specs::SeacTexts::both_text))]
-    fn fmt<W: fmt::Write>(&self, f: &mut fmt::Formatter<W>) -> fmt::Result {
-        let base = CodeText {
-            rule: self.rule,
-            code: self.base,
-        };
-        let accent = CodeText {
-            rule: self.rule,
-            code: self.accent,
-        };
-        write!(f, "the base's {base} and the accent's {accent}")
-    }
-}
-
-impl fmt::Display for CodesText {
-    ghost output = { λ t. Some (meant_text t.is_base t.is_accent t.rule t.base t.accent) };
-
-    fn fmt<W: fmt::Write>(&self, f: &mut fmt::Formatter<W>) -> fmt::Result {
-        let base = CodeText {
-            rule: self.rule,
-            code: self.base,
-        };
-        let accent = CodeText {
-            rule: self.rule,
-            code: self.accent,
-        };
-        let both = BothText {
-            rule: self.rule,
-            base: self.base,
-            accent: self.accent,
-        };
-        if self.is_base {
-            if self.is_accent {
-                write!(f, "{both}")
-            } else {
-                write!(f, "the base's {base}")
-            }
-        } else if self.is_accent {
-            write!(f, "the accent's {accent}")
-        } else {
-            write!(f, "{both}")
+        let code = small_coordinate(self.1);
+        let name = NameWords(name_of_code(self.1));
+        match self.0 {
+            Rule::K01 => write!(f, "code is {code}"),
+            Rule::K03 => write!(f, "code {code}{name}, which is no glyph"),
+            _ => write!(f, "code {code}{name}"),
         }
     }
 }

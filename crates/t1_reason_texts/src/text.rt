@@ -3,25 +3,25 @@
 ghost use Rattle.std.specs.Prelude.{◌≡◌, Some, IfOk, option_map};
 ghost use Rattle.t1_reason_texts.specs.Texts.{reason_text, says_more, shown_text};
 
-use crate::font_texts::{
-    CodeNamesText, CornersText, EndsText, EntryText, FeaturesText, FormText, GlyphText, GlyphsText,
-    IdsText, KindText, SubrEntryText, UnusedText, encoded_name,
-};
-use crate::seac_texts::{CodesText, SidebearingsText, is_meant};
+use crate::decimals::{Coordinates, coordinate, value};
+use crate::font_texts::{EntryText, FoundText, SubrEntryText, encoded_name, has_two};
+use crate::names::ShownName;
+use crate::seac_texts::{CodeText, SidebearingsText, is_meant};
 use crate::step_texts::{
-    ArgumentText, ArgumentsThereText, BehindText, CallText, CountText, DepthText, EndingText,
-    FullText, LengthText, LimitText, MissText, OpenText, PairsText, QuotientText, SinceText,
-    StemText, StemsText, SubrText, ThereText, TripleText,
+    MiddlesText, QuotientText, SpanText, StemsText, TokenText, WidthsText, are_same_points,
+    bound_words, call_words, comes_next, extent, is_there, middle_that_does, needed_pairs,
+    off_words, or_more, says_width, since_after, since_before, since_none,
 };
-use crate::words::Numbers;
+use crate::words::{Are, Arguments, Counted, small_coordinate};
 use crate::zone_texts::{
-    DoesText, FollowingText, GapText, NumberText, TooManyText, WidthText, ZoneText, ZonesText,
+    GapText, NeededText, NumberText, WidthText, WouldDo, ZoneText, ZonesText, from_zero, says_twice,
 };
 use arrayvec::ArrayString;
 use std::fmt;
 use std::fmt::Write;
-use t1_font::Font;
-use t1_reasons::{Reason, fuzz_across, fuzz_that_does, scale_that_does};
+use t1_char::{CharToken, command_name};
+use t1_font::{Encoding, Font};
+use t1_reasons::{EntryKind, Reason, Unused, fuzz_across, fuzz_that_does, scale_that_does};
 use t1_rules::Rule;
 
 /// Why a rule is broken at a place, written by `Display`: one line, without its end, in the font's units.
@@ -82,135 +82,182 @@ impl fmt::Display for ReasonText<'_, '_> {
                 taken,
                 there,
             } => {
-                let text = CountText {
-                    command,
-                    taken,
-                    there,
-                };
-                write!(f, "{text}")
+                let name = command_name(command);
+                let numbers = Counted(usize::from(taken), "number");
+                let more = or_more(command);
+                let are = Are(there);
+                write!(f, "{name} takes {numbers}{more}, {are} on the stack")
             }
             Reason::Full { token, there } => {
-                let text = FullText { token, there };
-                write!(f, "{text}")
+                let token = TokenText(token);
+                let numbers = Counted(usize::from(there), "number");
+                write!(f, "{token} after {numbers}, 24 at most")
             }
             Reason::Length { bytes, len_iv } => {
-                let text = LengthText { bytes, len_iv };
-                write!(f, "{text}")
+                let bytes = Counted(bytes, "byte");
+                write!(f, "{bytes}, lenIV is {len_iv}")
             }
-            Reason::Ending { subr } => {
-                let text = EndingText(subr);
-                write!(f, "{text}")
-            }
+            Reason::Ending { subr } => write!(f, "Subr {subr} ends"),
             Reason::Behind { next } => {
-                let text = BehindText(next);
-                write!(f, "{text}")
+                let comes = comes_next(next);
+                let next = TokenText(next);
+                write!(f, "{next}{comes}")
             }
             Reason::Pairs {
                 moves,
                 points,
                 ends,
             } => {
-                let text = PairsText {
-                    moves,
-                    points,
-                    ends,
-                };
-                write!(f, "{text}")
+                let needed = needed_pairs(ends, points < moves);
+                let moves = Counted(moves as usize, "move");
+                let points = Counted(points as usize, "point");
+                write!(f, "{moves} and {points}{needed}")
             }
             Reason::Argument { place, number } => {
-                let text = ArgumentText { place, number };
-                write!(f, "{text}")
+                let bound = bound_words(number);
+                let number = coordinate(number);
+                write!(f, "argument {place} is {number}, {bound}")
             }
             Reason::Quotient { dividend, divisor } => {
                 let text = QuotientText { dividend, divisor };
                 write!(f, "{text}")
             }
             Reason::Depth { calls } => {
-                let text = DepthText(calls);
-                write!(f, "{text}")
+                if calls == 0 {
+                    write!(f, "no Subr is being executed")
+                } else if calls == 1 {
+                    write!(f, "1 Subr is being executed")
+                } else {
+                    write!(f, "{calls} Subrs are being executed")
+                }
             }
             Reason::Subr { number, found } => {
-                let text = SubrText { number, found };
-                write!(f, "{text}")
+                let number = coordinate(number);
+                if found {
+                    write!(f, "Subr {number}")
+                } else {
+                    write!(f, "there is no Subr {number}")
+                }
             }
             Reason::Token { token } => {
-                let text = ThereText { rule, token };
-                write!(f, "{text}")
+                let there = is_there(rule, token);
+                let token = TokenText(token);
+                write!(f, "{token}{there}")
             }
-            Reason::Since { step } => {
-                let text = SinceText { rule, step };
-                write!(f, "{text}")
-            }
+            Reason::Since { step } => match step {
+                Some(step) => {
+                    let before = since_before(rule);
+                    let after = since_after(rule);
+                    write!(f, "{before}{step}{after}")
+                }
+                None => {
+                    let none = since_none(rule);
+                    write!(f, "{none}")
+                }
+            },
             Reason::Open { start, pen } => {
-                let text = OpenText { start, pen };
-                write!(f, "{text}")
+                if are_same_points(start, pen) {
+                    write!(f, "ends where it began, without closepath")
+                } else {
+                    let start = Coordinates(start);
+                    let pen = Coordinates(pen);
+                    write!(f, "from {start} to {pen}")
+                }
             }
             Reason::Stems { own, other } => {
-                let text = StemsText { rule, own, other };
-                write!(f, "{text}")
+                let stems = StemsText(rule, own, other);
+                write!(f, "{stems}")
             }
             Reason::Stem { stem } => {
-                let text = StemText { rule, stem };
-                write!(f, "{text}")
+                if says_width(rule) {
+                    let span = SpanText(stem);
+                    let width = extent(stem);
+                    write!(f, "the stem from {span} is {width} wide")
+                } else {
+                    let position = small_coordinate(stem.position);
+                    write!(f, "the stem is at {position}")
+                }
             }
             Reason::Triple { one, two, three } => {
-                let text = TripleText { one, two, three };
-                write!(f, "{text}")
+                let widths = WidthsText(one, two, three);
+                let middles = MiddlesText(one, two, three);
+                let off = off_words(one, two, three);
+                let does = WouldDo("middle", middle_that_does(one, three));
+                write!(f, "widths {widths}, middles {middles}{off}{does}")
             }
             Reason::Miss { named, pen } => {
-                let text = MissText { named, pen };
-                write!(f, "{text}")
+                let named = Coordinates(named);
+                let pen = Coordinates(pen);
+                write!(f, "the pen is at {pen}, the end names {named}")
             }
             Reason::Othersubr { number, count } => {
-                let text = CallText {
-                    rule,
-                    number,
-                    count,
-                };
-                write!(f, "{text}")
+                let words = call_words(rule, number);
+                let number = coordinate(number);
+                let arguments = Arguments(count);
+                write!(f, "OtherSubr {number} with {arguments}{words}")
             }
             Reason::Arguments { count, there } => {
-                let text = ArgumentsThereText { count, there };
-                write!(f, "{text}")
+                let count = coordinate(count);
+                let are = Are(there);
+                write!(f, "the count is {count}, {are} there")
             }
             Reason::Codes { base, accent } => {
-                let text = CodesText {
-                    rule,
-                    base,
-                    accent,
-                    is_base: is_meant(self.font, rule, base),
-                    is_accent: is_meant(self.font, rule, accent),
-                };
-                write!(f, "{text}")
+                let is_base = is_meant(self.font, rule, base);
+                let is_accent = is_meant(self.font, rule, accent);
+                let base = CodeText(rule, base);
+                let accent = CodeText(rule, accent);
+                if is_base && !is_accent {
+                    write!(f, "the base's {base}")
+                } else if is_accent && !is_base {
+                    write!(f, "the accent's {accent}")
+                } else {
+                    write!(f, "the base's {base} and the accent's {accent}")
+                }
             }
             Reason::Sidebearings { told, own } => {
                 let text = SidebearingsText { told, own };
                 write!(f, "{text}")
             }
-            Reason::Limit { steps } => {
-                let text = LimitText(steps);
-                write!(f, "{text}")
-            }
+            Reason::Limit { steps } => write!(f, "more than {steps} steps"),
             Reason::Entry { found } => {
-                let text = EntryText { rule, found };
-                write!(f, "{text}")
+                let entry = EntryText(rule, found);
+                write!(f, "{entry}")
             }
             Reason::Ids { clear, private } => {
-                let text = IdsText { clear, private };
-                write!(f, "{text}")
+                let clear = value(clear);
+                let private = value(private);
+                write!(f, "{clear} in the clear text, {private} in Private")
             }
             Reason::Features { found, one, two } => {
-                let text = FeaturesText { found, one, two };
-                write!(f, "{text}")
+                if has_two(found) {
+                    let one = value(one);
+                    let two = value(two);
+                    write!(f, "it is {{{one} {two}}}")
+                } else {
+                    let found = FoundText(found);
+                    write!(f, "{found}")
+                }
             }
             Reason::Glyphs { count } => {
-                let text = GlyphsText(count);
-                write!(f, "{text}")
+                if count == 0 {
+                    write!(f, "there is no glyph")
+                } else if count == 1 {
+                    write!(f, "the only glyph has another name")
+                } else {
+                    write!(f, "none of {count} glyphs")
+                }
             }
-            Reason::Form { encoding } => {
-                let text = FormText(encoding);
-                write!(f, "{text}")
-            }
+            Reason::Form { encoding } => match encoding {
+                Encoding::Absent => write!(f, "it is not there"),
+                Encoding::Standard => write!(f, "it is StandardEncoding"),
+                Encoding::Custom => write!(f, "it is an array of 256 names"),
+                Encoding::Other => {
+                    write!(
+                        f,
+                        "it is neither StandardEncoding nor an array of 256 names"
+                    )
+                }
+            },
             Reason::SubrEntry {
                 number,
                 twice,
@@ -225,104 +272,98 @@ impl fmt::Display for ReasonText<'_, '_> {
                 write!(f, "{text}")
             }
             Reason::Kind { found, wanted } => {
-                let text = KindText { found, wanted };
-                write!(f, "{text}")
+                let found = FoundText(found);
+                match wanted {
+                    EntryKind::Number => write!(f, "{found}; a number is needed"),
+                    EntryKind::Numbers => write!(f, "{found}; a list of numbers is needed"),
+                }
             }
             Reason::TooMany { count, most } => {
-                let text = TooManyText { count, most };
-                write!(f, "{text}")
+                let numbers = Counted(count, "number");
+                write!(f, "{numbers}, {most} at most")
             }
             Reason::Numbers { count } => {
-                let text = Numbers(count);
-                write!(f, "{text}")
+                let numbers = Counted(count, "number");
+                write!(f, "{numbers}")
             }
             Reason::Glyph { glyph } => {
-                let text = GlyphText(self.font.glyph_name(glyph as usize));
-                write!(f, "{text}")
+                let name = ShownName(self.font.glyph_name(glyph as usize));
+                write!(f, "the glyph is {name}")
             }
             Reason::Code { code } => {
-                let text = CodeNamesText {
-                    code,
-                    name: encoded_name(self.font, code),
-                };
-                write!(f, "{text}")
+                let name = ShownName(encoded_name(self.font, code));
+                write!(f, "code {code} names {name}")
             }
             Reason::Following { before, number } => {
-                let text = FollowingText {
-                    rule,
-                    before,
-                    number,
-                };
-                write!(f, "{text}")
+                let number = value(number);
+                if says_twice(rule) {
+                    write!(f, "{number} comes twice")
+                } else {
+                    let before = value(before);
+                    write!(f, "{number} comes after {before}")
+                }
             }
             Reason::Corners { first, last } => {
-                let text = CornersText { first, last };
-                write!(f, "{text}")
+                let first = value(first);
+                let last = value(last);
+                write!(f, "{first} is above {last}")
             }
             Reason::Number { number } => {
-                let text = NumberText { rule, number };
-                write!(f, "{text}")
+                let number = NumberText(rule, number);
+                write!(f, "{number}")
             }
-            Reason::LastToken { token } => {
-                let text = EndsText(token);
-                write!(f, "{text}")
-            }
+            Reason::LastToken { token } => match token {
+                None => write!(f, "it is empty"),
+                Some(CharToken::Short) => write!(f, "it is shorter than lenIV"),
+                Some(token) => {
+                    let token = TokenText(token);
+                    write!(f, "it ends with {token}")
+                }
+            },
             Reason::Gap {
                 upper,
                 lower,
                 distance,
             } => {
-                let text = GapText {
+                let gap = GapText {
                     upper,
                     lower,
                     distance,
                 };
-                let does = DoesText {
-                    entry: "BlueFuzz",
-                    number: fuzz_that_does(self.font),
-                };
-                write!(f, "{text}{does}")
+                let does = WouldDo("BlueFuzz", from_zero(fuzz_that_does(self.font)));
+                write!(f, "{gap}{does}")
             }
             Reason::Zones {
                 own,
                 other,
                 distance,
             } => {
-                let text = ZonesText {
-                    own,
-                    other,
-                    distance,
-                };
-                let does = DoesText {
-                    entry: "BlueFuzz",
-                    number: fuzz_across(self.font),
-                };
-                write!(f, "{text}{does}")
+                let zones = ZonesText(own, other);
+                let needed = NeededText(distance);
+                let does = WouldDo("BlueFuzz", from_zero(fuzz_across(self.font)));
+                write!(f, "{zones}{needed}{does}")
             }
             Reason::Zone {
                 lower,
                 upper,
                 scale,
             } => {
-                let text = ZoneText {
+                let zone = ZoneText {
                     lower,
                     upper,
                     scale,
                 };
-                let does = DoesText {
-                    entry: "BlueScale",
-                    number: scale_that_does(self.font),
-                };
-                write!(f, "{text}{does}")
+                let does = WouldDo("BlueScale", from_zero(scale_that_does(self.font)));
+                write!(f, "{zone}{does}")
             }
             Reason::Width { width, nearest } => {
                 let text = WidthText { width, nearest };
                 write!(f, "{text}")
             }
-            Reason::Waiver { unused } => {
-                let text = UnusedText(unused);
-                write!(f, "{text}")
-            }
+            Reason::Waiver { unused } => match unused {
+                Unused::NoGlyph => write!(f, "no glyph has this name"),
+                Unused::Unbroken { .. } => write!(f, "no step of the glyph breaks this rule"),
+            },
         }
     }
 }

@@ -2,27 +2,15 @@
 
 ghost use Rattle.std.specs.Prelude.{◌≡◌, Some};
 ghost use Rattle.t1_reason_texts.specs.Decimals.{coordinate_of};
-ghost use Rattle.t1_reason_texts.specs.Words.{are_text, arguments_text, bytes_text, moves_text, numbers_text, points_text};
+ghost use Rattle.t1_reason_texts.specs.Words.{are_text, arguments_text, counted_text};
 
 use crate::decimals::{Exact, coordinate};
 use std::fmt;
 use t1_char::UNIT;
 
-/// `no numbers`, `1 number`, `3 numbers`.
+/// `no numbers`, `1 number`, `3 numbers`: a count, and the word for one.
 #[derive(Clone, Copy)]
-pub(crate) struct Numbers(pub(crate) usize);
-
-/// `no bytes`, `1 byte`, `3 bytes`.
-#[derive(Clone, Copy)]
-pub(crate) struct Bytes(pub(crate) usize);
-
-/// `no moves`, `1 move`, `3 moves`.
-#[derive(Clone, Copy)]
-pub(crate) struct Moves(pub(crate) u32);
-
-/// `no points`, `1 point`, `3 points`.
-#[derive(Clone, Copy)]
-pub(crate) struct Points(pub(crate) u32);
+pub(crate) struct Counted(pub(crate) usize, pub(crate) &'static str);
 
 /// `none is`, `1 is`, `3 are`.
 #[derive(Clone, Copy)]
@@ -39,62 +27,17 @@ pub(crate) fn small_coordinate(number: i32) -> Exact
     coordinate(i64::from(number))
 }
 
-impl fmt::Display for Numbers {
-    ghost output = { λ numbers. Some (numbers_text numbers.0) };
+impl fmt::Display for Counted {
+    ghost output = { λ counted. Some (counted_text counted.0 counted.1.now) };
 
     fn fmt<W: fmt::Write>(&self, f: &mut fmt::Formatter<W>) -> fmt::Result {
-        let count = self.0;
+        let (count, one) = (self.0, self.1);
         if count == 0 {
-            write!(f, "no numbers")
+            write!(f, "no {one}s")
         } else if count == 1 {
-            write!(f, "1 number")
+            write!(f, "1 {one}")
         } else {
-            write!(f, "{count} numbers")
-        }
-    }
-}
-
-impl fmt::Display for Bytes {
-    ghost output = { λ bytes. Some (bytes_text bytes.0) };
-
-    fn fmt<W: fmt::Write>(&self, f: &mut fmt::Formatter<W>) -> fmt::Result {
-        let count = self.0;
-        if count == 0 {
-            write!(f, "no bytes")
-        } else if count == 1 {
-            write!(f, "1 byte")
-        } else {
-            write!(f, "{count} bytes")
-        }
-    }
-}
-
-impl fmt::Display for Moves {
-    ghost output = { λ moves. Some (moves_text moves.0) };
-
-    fn fmt<W: fmt::Write>(&self, f: &mut fmt::Formatter<W>) -> fmt::Result {
-        let count = self.0;
-        if count == 0 {
-            write!(f, "no moves")
-        } else if count == 1 {
-            write!(f, "1 move")
-        } else {
-            write!(f, "{count} moves")
-        }
-    }
-}
-
-impl fmt::Display for Points {
-    ghost output = { λ points. Some (points_text points.0) };
-
-    fn fmt<W: fmt::Write>(&self, f: &mut fmt::Formatter<W>) -> fmt::Result {
-        let count = self.0;
-        if count == 0 {
-            write!(f, "no points")
-        } else if count == 1 {
-            write!(f, "1 point")
-        } else {
-            write!(f, "{count} points")
+            write!(f, "{count} {one}s")
         }
     }
 }
