@@ -10,8 +10,8 @@ use crate::view::View;
 use std::alloc::AllocError;
 use t1_char::{CharToken, Command, Edition};
 use t1_font::{Entry, Font, Key};
-use t1_reasons::{Edges, Reason};
-use t1_rules::{INDEXES, Point, Rule, Stem};
+use t1_reasons::Reason;
+use t1_rules::{Edges, INDEXES, Point, Rule, Stem};
 
 /// The numbers of the keys whose zones are drawn.
 const BLUE_VALUES: u32 = 9;

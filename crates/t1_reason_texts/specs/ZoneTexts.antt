@@ -1,7 +1,7 @@
 -- What the texts of reasons of zones, stem widths and numbers of lists are made of. Their numbers count 10^-9.
 use Rattle.std.specs.Prelude.{ℕ, ℤ, pos, ◌-ℤ◌, ◌*ℤ◌, int_le, int_lt, Bool, true, false, Option, Some, None, List, [], ◌++◌, codes, if◌then◌else◌}
 use Rattle.std.specs.Int.{is_negative}
-use Rattle.t1_reasons.specs.declared.reason.Edges.{Edges}
+use Rattle.t1_rules.specs.declared.font_rules.zones.Edges.{Edges}
 use Rattle.t1_reason_texts.specs.declared.decimals.Exact.{Exact}
 use Rattle.t1_reason_texts.specs.declared.decimals.Unit.TheVariants.{Product, Value}
 use Rattle.t1_reason_texts.specs.Decimals.{exact_text, text_in, value_of}

@@ -5,8 +5,7 @@ ghost use Rattle.t1_reason_texts.specs.ZoneTexts.{apart_text, below_one, edges_t
 
 use crate::decimals::{Exact, Unit, difference, exact_difference, exact_product, value};
 use std::fmt;
-use t1_reasons::Edges;
-use t1_rules::Rule;
+use t1_rules::{Edges, Rule};
 
 /// A number of a list, or the first of a standard width.
 #[derive(Clone, Copy)]

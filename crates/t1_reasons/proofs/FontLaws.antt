@@ -30,7 +30,7 @@ use Rattle.t1_rules.specs.FontRules.Zones.{begins_zone, come_near, comes_near_hi
 use Rattle.t1_rules.specs.Keys.{index_count, key_among, key_number, list_limit_of, value_at, xuid_limit}
 use Rattle.t1_rules.proofs.Lemmas.Book.{both}
 use Rattle.t1_rules.proofs.Lemmas.FontRules.{in_later, in_parts, later_rules_change_no_other}
-use Rattle.t1_reasons.specs.declared.reason.Edges.{Edges}
+use Rattle.t1_rules.specs.declared.font_rules.zones.Edges.{Edges}
 use Rattle.t1_reasons.specs.declared.reason.EntryKind.TheVariants.{Number as OneNumber, Numbers as ManyNumbers}
 use Rattle.t1_reasons.specs.declared.reason.Reason.{Reason}
 use Rattle.t1_reasons.specs.declared.reason.Reason.TheVariants.{Corners, Entry, Following, Form, Gap, Ids, Kind, Number, Numbers, SubrEntry, TooMany, Width, Zone, Zones}

@@ -15,7 +15,7 @@ use Rattle.t1_rules.specs.declared.step_rules.stems.Stem.{Stem}
 use Rattle.t1_char.specs.Stacks.{most_numbers}
 use Rattle.t1_rules.specs.FontRules.Hints.{numbers_at}
 use Rattle.t1_rules.specs.FontRules.Zones.{low_zone_keys, zone_keys}
-use Rattle.t1_reasons.specs.declared.reason.Edges.{Edges}
+use Rattle.t1_rules.specs.declared.font_rules.zones.Edges.{Edges}
 use Rattle.t1_reasons.specs.declared.reason.Reason.TheVariants.{Zone}
 use Rattle.t1_reasons.specs.FontReasons.{reaches_one, scale_for, zones_in}
 use Rattle.t1_scan.specs.Numbers.{billion}

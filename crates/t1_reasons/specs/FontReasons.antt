@@ -24,7 +24,7 @@ use Rattle.t1_rules.specs.FontRules.Values.{count_in, first_in, is_so_many, is_w
 use Rattle.t1_rules.specs.FontRules.Zones.{begins_zone, distance, high_of, low_zone_keys, scale, zone_keys}
 use Rattle.t1_rules.specs.Keys.{encoding_key, index_count, key_among, list_limit_of, subrs_key, value_at, xuid_limit}
 use Rattle.t1_scan.specs.Numbers.{billion}
-use Rattle.t1_reasons.specs.declared.reason.Edges.{Edges}
+use Rattle.t1_rules.specs.declared.font_rules.zones.Edges.{Edges}
 use Rattle.t1_reasons.specs.declared.reason.EntryKind.{EntryKind}
 use Rattle.t1_reasons.specs.declared.reason.EntryKind.TheVariants.{Number as OneNumber, Numbers as ManyNumbers}
 use Rattle.t1_reasons.specs.declared.reason.Found.{Found}

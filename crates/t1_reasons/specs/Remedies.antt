@@ -14,7 +14,7 @@ use Rattle.t1_rules.specs.FontRules.Hints.{numbers_at}
 use Rattle.t1_rules.specs.FontRules.Zones.{high_of, low_zone_keys, zone_keys}
 use Rattle.t1_rules.specs.StepRules.Stems.{twice_middle}
 use Rattle.t1_scan.specs.Numbers.{billion}
-use Rattle.t1_reasons.specs.declared.reason.Edges.{Edges}
+use Rattle.t1_rules.specs.declared.font_rules.zones.Edges.{Edges}
 use Rattle.t1_reasons.specs.declared.reason.Reason.TheVariants.{Argument, Count, Full, Miss, Sidebearings, Triple, Zone, Zones}
 use Rattle.t1_reasons.specs.FontReasons.{are_near, reaches_one, scale_for, zones_in}
 use Rattle.t1_reasons.specs.StepReasons.{has_fewer, has_more, is_full, is_miss, is_past_range, is_told_otherwise, is_uneven}

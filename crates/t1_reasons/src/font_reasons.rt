@@ -13,13 +13,13 @@ ghost use Rattle.t1_rules.specs.Keys.{encoding_key, subrs_key};
 
 use crate::entry_reasons::{entry_reason, found_in};
 use crate::later_font_reasons::later_reason;
-use crate::reason::{Edges, EntryKind, Reason};
+use crate::reason::{EntryKind, Reason};
 use t1_char::{Edition, last_token};
 use t1_font::{Encoding, Entry, Font, Key};
 use t1_rules::{
-    KeyKind, Rule, count_in, difference, distance, falls_at, first_in, font_faults, has_kind,
-    has_odd_count, has_too_many, is_of_another_kind, is_sixteen_twice, is_too_high, is_too_near,
-    is_wrong_subr, key_among, list_limit_of, numbers_at, scale,
+    Edges, KeyKind, Rule, count_in, difference, distance, falls_at, first_in, font_faults,
+    has_kind, has_odd_count, has_too_many, is_of_another_kind, is_sixteen_twice, is_too_high,
+    is_too_near, is_wrong_subr, key_among, list_limit_of, numbers_at, scale,
 };
 
 /// The two UniqueIDs.

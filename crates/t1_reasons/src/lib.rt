@@ -54,7 +54,7 @@ pub use laws::{
     scale_does_for_all, scales_do, steps_break_where_there_is_a_reason, told_steps_are_the_last,
     waivers_are_unused_for_a_reason,
 };
-pub use reason::{Edges, EntryKind, Found, Reason, SetStem};
+pub use reason::{EntryKind, Found, Reason, SetStem};
 pub use remedies::{fuzz_across, fuzz_that_does, scale_that_does};
 pub use reported::ReportReasons;
 pub use waivers::{Unused, unused_reason};

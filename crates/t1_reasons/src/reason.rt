@@ -3,7 +3,7 @@
 use crate::waivers::Unused;
 use t1_char::{CharToken, Command};
 use t1_font::Encoding;
-use t1_rules::{Point, Stem};
+use t1_rules::{Edges, Point, Stem};
 
 /// What a rule compares where it is broken, or what it tells of that place. Numbers of charstrings are in units of 1/65536, those of
 /// dictionaries in units of 10^-9. Steps are numbered from 1.
@@ -223,13 +223,6 @@ pub enum Reason {
 pub struct SetStem {
     pub stem: Stem,
     pub step: u32,
-}
-
-/// The edges of a zone, in units of 10^-9.
-#[derive(Clone, Copy, Debug, PartialEq, Eq)]
-pub struct Edges {
-    pub lower: i64,
-    pub upper: i64,
 }
 
 /// What an entry of a dictionary is.

@@ -5,9 +5,8 @@ ghost use Rattle.t1_reasons.specs.FontReasons.{scale_for, zones_in};
 ghost use Rattle.t1_reasons.specs.Remedies.{fuzz_for, fuzz_for_all, fuzz_for_both, fuzz_from, gap_between, gaps_across, gaps_across_at, gaps_beside, gaps_in, lesser, scale_for_all, scale_from};
 
 use crate::font_reasons::high_of;
-use crate::reason::Edges;
 use t1_font::{BILLION, Font, Key};
-use t1_rules::{difference, numbers_at};
+use t1_rules::{Edges, difference, numbers_at};
 
 /// The greatest product of a height and BlueScale that is below 1, in units of 10^-18.
 const GREATEST_PRODUCT: i128 = BILLION as i128 * BILLION as i128 - 1;

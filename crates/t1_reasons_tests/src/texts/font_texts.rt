@@ -3,8 +3,8 @@
 use super::rows::{Row, assert_texts};
 use std::test::Fail;
 use t1_font::Encoding;
-use t1_reasons::{Edges, EntryKind, Found, Reason};
-use t1_rules::Rule;
+use t1_reasons::{EntryKind, Found, Reason};
+use t1_rules::{Edges, Rule};
 
 /// One unit.
 const ONE: i64 = 1_000_000_000;

@@ -1,6 +1,6 @@
 use Rattle.std.proofs.Common.{◌≡◌, ◌∷◌, [], Some, None, get_or, pos, refl, rules}
 use Rattle.std.specs.List.{find}
-use Rattle.t1_reasons.specs.declared.reason.Edges.{Edges}
+use Rattle.t1_rules.specs.declared.font_rules.zones.Edges.{Edges}
 use Rattle.t1_reasons.specs.declared.reason.Reason.TheVariants.{Zones}
 use Rattle.t1_reasons.specs.FontReasons.{are_near, beside_zones, zones_in}
 use Rattle.t1_reasons.proofs.Finds.{found_after_two, found_at_first_two}
