@@ -1,18 +1,17 @@
 -- No text has a byte below 32 or a colon.
-use Rattle.std.proofs.Common.{◌≡◌, ◌==◌, ◌++◌, not, if◌then◌else◌, int_lt, pos, ℕ, ℤ, Bool, true, false, Option, Some, None, List, [], ◌∷◌, nat_lt, refl, codes}
-use Rattle.std.specs.Int.{is_negative}
+use Rattle.std.proofs.Common.{◌≡◌, ℕ, ℤ, Bool, true, false, Option, Some, None, List, [], ◌∷◌, refl}
 use Rattle.std.specs.List.{list_all}
 use Rattle.t1_char.specs.declared.command.Command.{Command as Commands}
 use Rattle.t1_char.specs.declared.command.Command.TheVariants.{Callothersubr}
 use Rattle.t1_char.specs.declared.token.CharToken.{CharToken}
-use Rattle.t1_char.specs.declared.token.CharToken.TheVariants.{Number, Command, Unknown, Unknown12, Cut, Short, End}
+use Rattle.t1_char.specs.declared.token.CharToken.TheVariants.{Number, Command, Unknown, Unknown12, Cut, Short}
 use Rattle.t1_font.specs.declared.encoding.Encoding.TheVariants.{Absent as NoEncoding}
 use Rattle.t1_rules.specs.declared.font_rules.zones.Edges.{Edges}
-use Rattle.t1_reasons.specs.declared.reason.EntryKind.TheVariants.{Number as OneNumber, Numbers as ManyNumbers}
+use Rattle.t1_reasons.specs.declared.reason.EntryKind.TheVariants.{Number as OneNumber}
 use Rattle.t1_reasons.specs.declared.reason.Found.{Found}
 use Rattle.t1_reasons.specs.declared.reason.Found.TheVariants.{Absent, One, Other, Several}
-use Rattle.t1_reasons.specs.declared.reason.Reason.TheVariants.{Argument, Arguments, Behind, Code, Codes, Corners, Count, Depth, Ending, Entry, Following, Features, Form, Full, Gap, Glyph, Glyphs, Ids, Kind, LastToken, Length, Limit, Miss, Nothing, Number as InList, Numbers, Open, Othersubr, Pairs, Quotient, Sidebearings, Since, Stem, Stems, Subr, SubrEntry, Token, TooMany, Triple, Waiver, Width, Zone, Zones}
-use Rattle.t1_reasons.specs.declared.waivers.Unused.TheVariants.{NoGlyph, Unbroken}
+use Rattle.t1_reasons.specs.declared.reason.Reason.TheVariants.{Form, Kind, LastToken, Nothing, Since, Waiver}
+use Rattle.t1_reasons.specs.declared.waivers.Unused.TheVariants.{NoGlyph}
 use Rattle.t1_reasons.specs.declared.reason.SetStem.{SetStem}
 use Rattle.t1_rules.specs.declared.rule.Rule.{Rule}
 use Rattle.t1_rules.specs.declared.rule.Rule.TheVariants.{C03, F03, F15, F19, H07, K01, K03, O03, W02, X02, Z12, Z13, Z14, Z16}
@@ -166,51 +165,12 @@ ruleset worded = (plain, plain_more, plain_token, plain_is_there, plain_comes, p
 pub are_one_line : AreOneLine
 unfolding reason_text
 are_one_line font rule Nothing = refl
-are_one_line font rule (Count command taken there) = simp worded
-are_one_line font rule (Full token there) = simp worded
-are_one_line font rule (Length bytes len_iv) = simp worded
-are_one_line font rule (Ending subr) = simp worded
-are_one_line font rule (Behind next) = simp worded
-are_one_line font rule (Pairs moves points ends) = simp worded
-are_one_line font rule (Argument place number) = simp worded
-are_one_line font rule (Quotient dividend divisor) = simp worded
-are_one_line font rule (Depth calls) = simp worded
-are_one_line font rule (Subr number found) = simp worded
-are_one_line font rule (Token token) = simp worded
-are_one_line font rule (Since (Some step)) = simp worded
 are_one_line font rule (Since None) = simp worded
-are_one_line font rule (Open start pen) = simp worded
-are_one_line font rule (Stems own other) = simp worded
-are_one_line font rule (Stem stem) = simp worded
-are_one_line font rule (Triple one two three) = simp worded
-are_one_line font rule (Miss named pen) = simp worded
-are_one_line font rule (Othersubr number count) = simp worded
-are_one_line font rule (Arguments count there) = simp worded
-are_one_line font rule (Codes base accent) = simp worded
-are_one_line font rule (Sidebearings told own) = simp worded
-are_one_line font rule (Limit steps) = simp worded
-are_one_line font rule (Entry found) = simp worded
-are_one_line font rule (Ids clear private) = simp worded
-are_one_line font rule (Features found one two) = simp worded
-are_one_line font rule (Glyphs count) = simp worded
 are_one_line font rule (Form NoEncoding) = refl
 are_one_line font rule (Form _) = refl
-are_one_line font rule (SubrEntry number twice size) = simp worded
 are_one_line font rule (Kind found OneNumber) = simp worded
-are_one_line font rule (Kind found ManyNumbers) = simp worded
-are_one_line font rule (TooMany count most) = simp worded
-are_one_line font rule (Numbers count) = simp worded
-are_one_line font rule (Glyph glyph) = simp worded
-are_one_line font rule (Code code) = simp worded
-are_one_line font rule (Corners first last) = simp worded
-are_one_line font rule (InList number) = simp worded
 are_one_line font rule (LastToken None) = refl
 are_one_line font rule (LastToken (Some Short)) = refl
-are_one_line font rule (LastToken (Some token)) = simp worded
-are_one_line font rule (Following before number) = simp worded
-are_one_line font rule (Gap top bottom distance) = simp worded
-are_one_line font rule (Zones own other distance) = simp worded
-are_one_line font rule (Zone bottom top scale) = simp worded
-are_one_line font rule (Width width nearest) = simp worded
 are_one_line font rule (Waiver NoGlyph) = refl
-are_one_line font rule (Waiver (Unbroken glyph)) = refl
+are_one_line font rule (Waiver _) = refl
+are_one_line font rule _ = simp worded
