@@ -1,5 +1,6 @@
 -- Definitions.
 pub mod Decimals
+pub mod Fields
 pub mod FontTexts
 pub mod Laws
 pub mod Names

@@ -21,6 +21,7 @@
 #![tactic(auto)]
 
 mod decimals;
+mod fields;
 mod font_texts;
 mod laws;
 mod names;
@@ -31,6 +32,7 @@ mod words;
 mod zone_texts;
 
 pub use decimals::{Coordinates, Exact, Unit, coordinate, value};
+pub use fields::{Field, Fields, Named, fields_of};
 pub use font_texts::encoded_name;
 pub use laws::{numbers_are_written_exactly, reason_texts_are_one_line};
 pub use names::hexadecimal_digit;
