@@ -8,8 +8,8 @@ use Field::{CodeName, Count, GlyphName, Holds};
 use Fields::{One, Three, Two};
 use t1_char::{CharToken, Command};
 use t1_font::Encoding;
-use t1_reasons::{Edges, EntryKind, Found, Reason};
-use t1_rules::{Point, Stem};
+use t1_reasons::{EntryKind, Found, Reason};
+use t1_rules::{Edges, Point, Stem};
 
 /// What a reason has under a name.
 #[derive(Clone, Copy)]
