@@ -27,6 +27,7 @@
 //! ```
 #![tactic(auto)]
 
+mod characters;
 mod commands;
 mod error;
 mod laws;
@@ -42,6 +43,7 @@ mod text;
 mod told;
 mod version;
 
+pub use characters::{Characters, push_characters};
 pub use commands::{write_command, write_rule_command};
 pub use error::FormatError;
 pub use laws::{

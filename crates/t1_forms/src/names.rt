@@ -5,6 +5,7 @@ ghost use Rattle.std.specs.Str.{chars};
 ghost use Rattle.std.specs.List.{flat_map};
 ghost use Rattle.t1_forms.specs.Shown.{escaped, shown, shown_byte, shown_char};
 
+use crate::characters::{Characters, push_characters};
 use std::alloc::{AllocError, Global};
 use t1_reason_texts::hexadecimal_digit;
 
@@ -17,16 +18,22 @@ pub fn push_escaped(text: &mut String, byte: u8) -> Result<(), AllocError>
     text.push(hexadecimal_digit(byte % 16))
 }
 
-/// Appends a character.
-fn push_char(text: &mut String, c: char) -> Result<(), AllocError>
-    ensures { OnOk result (string_bytes text.new ≡ string_bytes text.old ++ shown_char c) }
-{
-    if c == '\\' {
-        text.push_str("\\\\")
-    } else if c < ' ' || c == '\x7f' {
-        push_escaped(text, c as u8)
-    } else {
-        text.push(c)
+/// As names are shown.
+struct ShownCharacters;
+
+impl Characters for ShownCharacters {
+    ghost use Rattle.t1_forms.specs.Shown.{shown_char};
+
+    ghost written = { shown_char };
+
+    fn push(text: &mut String, c: char) -> Result<(), AllocError> {
+        if c == '\\' {
+            text.push_str("\\\\")
+        } else if c < ' ' || c == '\x7f' {
+            push_escaped(text, c as u8)
+        } else {
+            text.push(c)
+        }
     }
 }
 
@@ -35,9 +42,7 @@ fn shown_text(alloc: Global, text: &str) -> Result<String, AllocError>
     ensures { IfOk result (λ s. string_bytes s ≡ flat_map shown_char (chars text.now)) }
 {
     let mut shown = String::new(alloc);
-    for c in text.chars() {
-        push_char(&mut shown, c)?;
-    }
+    push_characters::<ShownCharacters>(&mut shown, text)?;
     Ok(shown)
 }
 
@@ -46,7 +51,7 @@ fn push_byte(text: &mut String, byte: u8) -> Result<(), AllocError>
     ensures { OnOk result (string_bytes text.new ≡ string_bytes text.old ++ shown_byte byte) }
 {
     if byte < 128 {
-        push_char(text, char::from(byte))
+        ShownCharacters::push(text, char::from(byte))
     } else {
         push_escaped(text, byte)
     }

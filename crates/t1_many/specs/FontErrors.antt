@@ -24,14 +24,8 @@ error_of failures.Broken = unread causes.Unknown
 error_of failures.Memory = Unchecked obstacles.Memory
 
 -- Why a font isn't checked, as it is reported.
-abbrev pub unread_text : Cause → List ℕ
-unread_text cause = codes "read failed" ++ cause_text cause
-
-abbrev pub waivers_unread_text : Cause → List ℕ
-waivers_unread_text cause = codes "read of waivers failed" ++ cause_text cause
-
 abbrev pub reason_of : Obstacle → List ℕ
 reason_of obstacles.LineEnd = codes "its name has a line end"
-reason_of (obstacles.Unread cause) = unread_text cause
-reason_of (obstacles.WaiversUnread cause) = waivers_unread_text cause
+reason_of (obstacles.Unread cause) = codes "read failed" ++ cause_text cause
+reason_of (obstacles.WaiversUnread cause) = codes "read of waivers failed" ++ cause_text cause
 reason_of obstacles.Memory = codes "out of memory"

@@ -1,8 +1,10 @@
 //! Why there is no report of a font.
 
-ghost use Rattle.std.specs.Prelude.{◌≡◌};
-ghost use Rattle.t1_many.specs.FontErrors.{error_of, reason_of, unread_text, waivers_unread_text};
+ghost use Rattle.std.specs.Prelude.{◌≡◌, ◌≤◌, ◌++◌, length};
+ghost use Rattle.t1_many.specs.FontErrors.{error_of, reason_of};
+ghost use Rattle.t1_names.specs.Causes.{cause_text};
 
+use arrayvec::ArrayString;
 use t1_names::Cause;
 use t1_font::RefusalCode;
 use t1_run::Failure;
@@ -29,6 +31,9 @@ pub enum Obstacle {
     Memory,
 }
 
+/// The text of an obstacle, in memory of its own: none is longer.
+pub type ObstacleText = ArrayString<64>;
+
 impl From<Failure> for FontError {
     ghost from_gives = { λ failure error. error ≡ error_of failure };
 
@@ -43,48 +48,25 @@ impl From<Failure> for FontError {
 
 impl Obstacle {
     /// Why the font isn't checked, as it is reported.
-    pub fn text(self) -> &'static str
-        ensures { result.now ≡ reason_of self }
+    pub fn text(self) -> ObstacleText
+        ensures { result.bytes ≡ reason_of self }
     {
         match self {
-            Obstacle::LineEnd => "its name has a line end",
-            Obstacle::Unread(cause) => unread_text(cause),
-            Obstacle::WaiversUnread(cause) => waivers_unread_text(cause),
-            Obstacle::Memory => "out of memory",
+            Obstacle::LineEnd => with_cause("its name has a line end", Cause::Unknown),
+            Obstacle::Unread(cause) => with_cause("read failed", cause),
+            Obstacle::WaiversUnread(cause) => with_cause("read of waivers failed", cause),
+            Obstacle::Memory => with_cause("out of memory", Cause::Unknown),
         }
     }
 }
 
-/// That the font can't be read, with the cause.
-fn unread_text(cause: Cause) -> &'static str
-    ensures { result.now ≡ unread_text cause }
+/// A message, and what is said of its cause.
+fn with_cause(message: &str, cause: Cause) -> ObstacleText
+    requires { length message.now ≤ 24 }
+    ensures { result.bytes ≡ message.now ++ cause_text cause }
 {
-    match cause {
-        Cause::NoFile => "read failed: no such file or folder",
-        Cause::NoPermission => "read failed: permission is denied",
-        Cause::IsFolder => "read failed: it is a folder",
-        Cause::NotInFolder => "read failed: a part of its name is no folder",
-        Cause::NotRegular => "read failed: it is no regular file",
-        Cause::ReadOnly => "read failed: the file system is read-only",
-        Cause::NoSpace => "read failed: the disk is full",
-        Cause::NoMemory => "read failed: out of memory",
-        Cause::Unknown => "read failed",
-    }
-}
-
-/// That its waivers can't be read, with the cause.
-fn waivers_unread_text(cause: Cause) -> &'static str
-    ensures { result.now ≡ waivers_unread_text cause }
-{
-    match cause {
-        Cause::NoFile => "read of waivers failed: no such file or folder",
-        Cause::NoPermission => "read of waivers failed: permission is denied",
-        Cause::IsFolder => "read of waivers failed: it is a folder",
-        Cause::NotInFolder => "read of waivers failed: a part of its name is no folder",
-        Cause::NotRegular => "read of waivers failed: it is no regular file",
-        Cause::ReadOnly => "read of waivers failed: the file system is read-only",
-        Cause::NoSpace => "read of waivers failed: the disk is full",
-        Cause::NoMemory => "read of waivers failed: out of memory",
-        Cause::Unknown => "read of waivers failed",
-    }
+    let mut text = ArrayString::new();
+    text.push_str(message);
+    text.push_str(cause.text());
+    text
 }

@@ -34,7 +34,7 @@ pub use checking::check_all;
 pub use choice::{Choice, is_told, picks, told_rules};
 pub use counted::Counted;
 pub use counts::Counts;
-pub use font_error::{FontError, Obstacle};
+pub use font_error::{FontError, Obstacle, ObstacleText};
 pub use font_files::{FontFiles, WaiverFiles};
 pub use handing::{hand_failure, hand_report};
 pub use known::Known;

@@ -97,7 +97,7 @@ fn put_behind<W: Sink>(sink: &mut W, text: Option<ShortText>) -> Result<(), Lost
 fn put_unchecked<W: Sink>(sink: &mut W, name: &str, why: Obstacle) -> Result<(), Lost>
     ensures { IsPut (W.state sink.old) (W.state sink.new) (unchecked_line name.now (reason_of why)) (lost_of result) }
 {
-    tell_unchecked(sink, name, why.text())?;
+    tell_unchecked(sink, name, why.text().as_str())?;
     Ok(())
 }
 

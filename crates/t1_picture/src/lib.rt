@@ -53,4 +53,5 @@ pub use laws::{
     texts_stay_in_their_elements,
 };
 pub use svg::picture;
+pub use texts::push_escaped;
 pub use view::{Shown, View};

@@ -2,10 +2,10 @@
 
 ghost use Rattle.std.specs.Prelude.{◌≡◌, ◌++◌, IfOk, OnOk, [], ◌∷◌, string_bytes};
 ghost use Rattle.t1_picture.specs.Drawings.{texts_of};
-ghost use Rattle.t1_picture.specs.Texts.{legible, legible_char, legible_line, xml_char, xml_text};
+ghost use Rattle.t1_picture.specs.Texts.{legible, legible_line, xml_text};
 
 use std::alloc::{AllocError, Global};
-use t1_forms::shown;
+use t1_forms::{Characters, push_characters, shown};
 
 /// The end of a group.
 pub(crate) const END: &str = "</g>\n";
@@ -14,28 +14,33 @@ pub(crate) const END: &str = "</g>\n";
 pub(crate) const END_OF_DATA: &str = r#""/>
 "#;
 
+/// As XML can hold them.
+struct LegibleCharacters;
+
+impl Characters for LegibleCharacters {
+    ghost use Rattle.t1_picture.specs.Texts.{legible_char};
+
+    ghost written = { legible_char };
+
+    fn push(text: &mut String, c: char) -> Result<(), AllocError> {
+        if c == '\u{fffe}' {
+            text.push_str("\\xEF\\xBF\\xBE")
+        } else if c == '\u{ffff}' {
+            text.push_str("\\xEF\\xBF\\xBF")
+        } else {
+            text.push(c)
+        }
+    }
+}
+
 /// A name, or a line with one, as text that XML can hold: as t1_forms shows names, and the two characters U+FFFE and U+FFFF by
 /// their bytes.
 pub(crate) fn legible(alloc: Global, bytes: &[u8]) -> Result<String, AllocError>
     ensures { IfOk result (λ text. string_bytes text ≡ legible bytes.now) }
 {
     let mut text = String::new(alloc);
-    for c in shown(alloc, bytes)?.chars() {
-        push_legible(&mut text, c)?;
-    }
+    push_characters::<LegibleCharacters>(&mut text, shown(alloc, bytes)?.as_str())?;
     Ok(text)
-}
-
-fn push_legible(text: &mut String, c: char) -> Result<(), AllocError>
-    ensures { OnOk result (string_bytes text.new ≡ string_bytes text.old ++ legible_char c) }
-{
-    if c == '\u{fffe}' {
-        text.push_str("\\xEF\\xBF\\xBE")
-    } else if c == '\u{ffff}' {
-        text.push_str("\\xEF\\xBF\\xBF")
-    } else {
-        text.push(c)
-    }
 }
 
 /// A line that was written, as such text without its end.
@@ -61,28 +66,32 @@ pub(crate) fn add_line(lines: &mut Vec<String>, line: String) -> Result<(), Allo
     Ok(())
 }
 
-/// Appends a text to XML: `&`, `<`, `>` and `"` as entities.
-pub(crate) fn push_escaped(xml: &mut String, text: &str) -> Result<(), AllocError>
-    ensures { OnOk result (string_bytes xml.new ≡ string_bytes xml.old ++ xml_text text.now) }
-{
-    for c in text.chars() {
-        push_xml(xml, c)?;
+/// As entities, where XML or HTML has a meaning for them.
+struct Entities;
+
+impl Characters for Entities {
+    ghost use Rattle.t1_picture.specs.Texts.{xml_char};
+
+    ghost written = { xml_char };
+
+    fn push(xml: &mut String, c: char) -> Result<(), AllocError> {
+        if c == '&' {
+            xml.push_str("&amp;")
+        } else if c == '<' {
+            xml.push_str("&lt;")
+        } else if c == '>' {
+            xml.push_str("&gt;")
+        } else if c == '"' {
+            xml.push_str("&quot;")
+        } else {
+            xml.push(c)
+        }
     }
-    Ok(())
 }
 
-fn push_xml(xml: &mut String, c: char) -> Result<(), AllocError>
-    ensures { OnOk result (string_bytes xml.new ≡ string_bytes xml.old ++ xml_char c) }
+/// Appends a text to XML or HTML: `&`, `<`, `>` and `"` as entities.
+pub fn push_escaped(xml: &mut String, text: &str) -> Result<(), AllocError>
+    ensures { OnOk result (string_bytes xml.new ≡ string_bytes xml.old ++ xml_text text.now) }
 {
-    if c == '&' {
-        xml.push_str("&amp;")
-    } else if c == '<' {
-        xml.push_str("&lt;")
-    } else if c == '>' {
-        xml.push_str("&gt;")
-    } else if c == '"' {
-        xml.push_str("&quot;")
-    } else {
-        xml.push(c)
-    }
+    push_characters::<Entities>(xml, text)
 }

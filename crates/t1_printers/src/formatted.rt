@@ -143,7 +143,7 @@ impl<T: Formatter, W: Sink, E: Sink> Printer for Formatted<T, W, E> {
     fn failure(&mut self, name: &str, reason: FontError) -> Result<(), Lost> {
         match reason {
             FontError::Refused(code) => self.refused(name, code),
-            FontError::Unchecked(why) => self.unchecked(name, why.text()),
+            FontError::Unchecked(why) => self.unchecked(name, why.text().as_str()),
         }
     }
 

@@ -125,7 +125,7 @@ impl<T: GroupForm, W: Sink, E: Sink> Printer for Grouped<T, W, E> {
             FontError::Refused(code) => {
                 self.form.put_refusal(self.alloc, &mut self.out, name, code)
             }
-            FontError::Unchecked(why) => self.unchecked(name, why.text()),
+            FontError::Unchecked(why) => self.unchecked(name, why.text().as_str()),
         }
     }
 

@@ -48,7 +48,7 @@ pub use laws::{
 };
 pub use lines::write_fault;
 pub use marks::Mark;
-pub use reporting::report;
+pub use reporting::{report, report_with};
 pub use traces::write_step;
 pub use unit_faults::UnitFaults;
 pub use waivers::{LARGEST_WAIVERS, WaiverError, Waivers};

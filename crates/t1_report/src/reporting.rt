@@ -7,6 +7,7 @@ ghost use Rattle.t1_report.specs.Faults.{fault_value, faults_of};
 ghost use Rattle.t1_report.specs.Lines.{IsInFont};
 ghost use Rattle.t1_report.specs.Reports.{IsReport};
 ghost use Rattle.t1_report.specs.Waivers.{largest_waivers};
+ghost use Rattle.t1_rules.specs.Components.{AreOf};
 ghost use Rattle.t1_font.specs.Bounds.{most_glyphs};
 
 use crate::faults::Fault;
@@ -29,10 +30,26 @@ pub fn report(
     ensures in_font { IfOk result
         (λ faults. All (λ fault. IsInFont font.now waivers.now (fault_value fault)) faults.items) }
 {
+    let sidebearings = Sidebearings::prepare(alloc, font, edition)?;
+    report_with(alloc, font, &sidebearings, waivers)
+}
+
+/// The same, where the components of the font's accented characters are there already.
+pub fn report_with(
+    alloc: Global,
+    font: &Font<'_>,
+    sidebearings: &Sidebearings,
+    waivers: &Waivers<'_>,
+) -> Result<Vec<Fault>, AllocError>
+    requires { AreOf font.now sidebearings.now }
+    ensures exact { IfOk result
+        (λ faults. IsReport (checked font.now sidebearings.now.edition) waivers.now (faults_of faults.items)) }
+    ensures in_font { IfOk result
+        (λ faults. All (λ fault. IsInFont font.now waivers.now (fault_value fault)) faults.items) }
+{
     // The call does nothing: the proof cites what it ensures.
     are_few(font, waivers);
-    let sidebearings = Sidebearings::prepare(alloc, font, edition)?;
-    let mut walk = Walk::begin(&*font, &sidebearings, &*waivers);
+    let mut walk = Walk::begin(font, sidebearings, waivers);
     let mut faults = Vec::new(alloc);
     while let Some(fault) = walk.next() {
         faults.push(fault)?;

@@ -1,21 +1,18 @@
 //! What a sheet has: pictures of its glyphs, and the faults of its report.
 
-ghost use Rattle.std.specs.Prelude.{◌≡◌, ◌<◌, ◌≤◌, IfOk, IfSome, length, option_map, string_bytes};
+ghost use Rattle.std.specs.Prelude.{◌≡◌, ◌<◌, IfOk, IfSome, length, option_map, string_bytes};
 ghost use Rattle.std.specs.List.{All};
-ghost use Rattle.t1_font.specs.Bounds.{most_glyphs};
 ghost use Rattle.t1_picture.specs.Pictures.{IsPictureOf};
 ghost use Rattle.t1_picture.specs.Subjects.{fault_in, shown_value};
 ghost use Rattle.t1_report.specs.Faults.{fault_value, faults_of};
 ghost use Rattle.t1_report.specs.Lines.{IsInFont};
-ghost use Rattle.t1_report.specs.Waivers.{largest_waivers};
 ghost use Rattle.t1draw.specs.Draws.{fault_for, is_for, subject};
-ghost use Rattle.t1draw.specs.Private.Sheets.{AreReported, CanShow, IsFaultFor, IsSound, edition_of, font_of, waivers_of};
+ghost use Rattle.t1draw.specs.Private.Sheets.{CanShow, IsFaultFor, IsSound, edition_of, font_of, waivers_of};
 
 use crate::sheet::Sheet;
 use std::alloc::{AllocError, Global};
-use t1_font::Font;
 use t1_picture::{Shown, View, picture};
-use t1_report::{Fault, Waivers, Walk};
+use t1_report::{Fault, report_with};
 
 /// The picture of a glyph, by its place, of which so much is shown.
 pub(crate) fn drawn(
@@ -40,32 +37,6 @@ pub(crate) fn drawn(
     picture(alloc, &view)
 }
 
-/// The faults of the report, in their order.
-pub(crate) fn reported(alloc: Global, sheet: &Sheet<'_>) -> Result<Vec<Fault>, AllocError>
-    requires { IsSound sheet.now }
-    ensures exact { IfOk result (λ faults. AreReported sheet.now (faults_of faults.items)) }
-    ensures in_font { IfOk result
-        (λ faults. All (λ fault. IsInFont (font_of sheet.now) (waivers_of sheet.now) (fault_value fault)) faults.items) }
-{
-    // The call does nothing: the proof cites what it ensures.
-    are_few(sheet.font, sheet.waivers);
-    let mut walk = Walk::begin(sheet.font, sheet.sidebearings, sheet.waivers);
-    let mut faults = Vec::new(alloc);
-    while let Some(fault) = walk.next() {
-        faults.push(fault)?;
-    }
-    Ok(faults)
-}
-
-/// Neither a font's glyphs nor waivers are so many that the numbers of faults could overflow.
-fn are_few(font: &Font<'_>, waivers: &Waivers<'_>)
-    ensures glyphs { length font.now.glyphs ≤ most_glyphs }
-    ensures waivers { length waivers.now ≤ largest_waivers }
-{
-    font.glyphs();
-    waivers.len();
-}
-
 /// The fault of a number in the report, if it is one of the glyph or of the font.
 pub(crate) fn fault_for(
     alloc: Global,
@@ -77,7 +48,7 @@ pub(crate) fn fault_for(
     ensures value { IfOk result (λ found. IsFaultFor sheet.now glyph number (option_map fault_value found)) }
     ensures can { IfOk result (λ found. IfSome (option_map fault_value found) (CanShow sheet.now glyph)) }
 {
-    let faults = reported(alloc, sheet)?;
+    let faults = report_with(alloc, sheet.font, sheet.sidebearings, sheet.waivers)?;
     Ok(fault_among(sheet, faults, glyph, number))
 }
 

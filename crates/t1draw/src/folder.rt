@@ -7,13 +7,13 @@ ghost use Rattle.t1draw.specs.Draws.{AreFiles};
 ghost use Rattle.t1draw.specs.Folders.{FolderFile, faulty_glyphs, file_text, folder_text, glyphs_at_turn, glyphs_of_unit};
 ghost use Rattle.t1draw.specs.Private.Sheets.{AddsPictures, IsSound, edition_of, font_of, waivers_of};
 
-use crate::drawing::{drawn, reported};
+use crate::drawing::drawn;
 use crate::index::index_text;
 use crate::sheet::Sheet;
 use crate::spelling::picture_name;
 use std::alloc::{AllocError, Global};
 use t1_picture::Shown;
-use t1_report::Fault;
+use t1_report::{Fault, report_with};
 
 /// The name of the index.
 const INDEX: &str = "index.html";
@@ -24,7 +24,7 @@ pub(crate) fn folder_text(alloc: Global, sheet: &Sheet<'_>) -> Result<String, Al
     ensures { IfOk result (λ text. (files : List FolderFile)
         × (AreFiles (font_of sheet.now) (edition_of sheet.now) (waivers_of sheet.now) files × (string_bytes text ≡ folder_text files))) }
 {
-    let faults = reported(alloc, sheet)?;
+    let faults = report_with(alloc, sheet.font, sheet.sidebearings, sheet.waivers)?;
     let index = index_text(alloc, sheet, faults.as_slice())?;
     let mut text = String::new(alloc);
     push_pictures(alloc, &mut text, sheet, faults.as_slice())?;

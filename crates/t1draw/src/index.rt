@@ -2,7 +2,7 @@
 
 ghost use Rattle.std.specs.Prelude.{◌≡◌, ◌++◌, IfOk, None, OnOk, Some, option_map, string_bytes};
 ghost use Rattle.std.specs.List.{All};
-ghost use Rattle.t1_picture.specs.Texts.{xml_char, xml_text};
+ghost use Rattle.t1_picture.specs.Texts.{xml_text};
 ghost use Rattle.t1_report.specs.Faults.{fault_value, faults_of};
 ghost use Rattle.t1_report.specs.Lines.{IsInFont, line_of};
 ghost use Rattle.t1draw.specs.Folders.{end_of, font_part, glyph_part, glyph_part_of, index_end, index_start, index_text, is_in_part, line_text, no_faults, part_end, part_start, parts_from, parts_or_none, shown_line, turn_to, waivers_part};
@@ -13,6 +13,7 @@ use crate::sheet::Sheet;
 use crate::spelling::picture_name;
 use std::alloc::{AllocError, Global};
 use t1_forms::{Text, shown};
+use t1_picture::push_escaped;
 use t1_report::{Fault, write_fault};
 
 const START: &str = "\
@@ -257,30 +258,4 @@ fn escaped(alloc: Global, name: &[u8]) -> Result<String, AllocError>
     let mut text = String::new(alloc);
     push_escaped(&mut text, name.as_str())?;
     Ok(text)
-}
-
-/// Appends a text to HTML: `&`, `<`, `>` and `"` as entities.
-fn push_escaped(html: &mut String, text: &str) -> Result<(), AllocError>
-    ensures { OnOk result (string_bytes html.new ≡ string_bytes html.old ++ xml_text text.now) }
-{
-    for c in text.chars() {
-        push_char(html, c)?;
-    }
-    Ok(())
-}
-
-fn push_char(html: &mut String, c: char) -> Result<(), AllocError>
-    ensures { OnOk result (string_bytes html.new ≡ string_bytes html.old ++ xml_char c) }
-{
-    if c == '&' {
-        html.push_str("&amp;")
-    } else if c == '<' {
-        html.push_str("&lt;")
-    } else if c == '>' {
-        html.push_str("&gt;")
-    } else if c == '"' {
-        html.push_str("&quot;")
-    } else {
-        html.push(c)
-    }
 }

@@ -1,17 +1,17 @@
 use Rattle.std.proofs.Common.{sym, ◌∙◌, append_assoc, append-nil}
 use Rattle.std.proofs.lemmas.List.{nil_from_length}
 use Rattle.std.proofs.lemmas.Str.{IsUtf8-past_char, chars_past_char, chars-nil}
-use Rattle.t1_forms.proofs.names.shown_text.Goals as goal
+use Rattle.t1_forms.proofs.characters.push_characters.Goals as goal
 
 pub loop-c-preserved : goal.loop-c-preserved
-loop-c-preserved c =
+loop-c-preserved g c =
     let held = c.loop-c.invariant in
     let parts = c.in-Some.ensures.steps.0 in record {
       valid = IsUtf8-past_char _ _ c.in-Some.c held.valid parts;
-      shown = rw (c.in_ok-push_char.ensures, append_assoc) (rw (chars_past_char _ _ c.in-Some.c held.valid parts) at held.shown);
+      written = rw (c.in_ok-push.ensures, append_assoc) (rw (chars_past_char _ _ c.in-Some.c held.valid parts) at held.written);
     }
 
 pub returns : goal.returns
-returns c =
+returns g c =
     let none = nil_from_length _ c.in-None.ensures.steps.0.0 in
-    sym (append-nil _) ∙ rw (none, chars-nil) at c.loop-c.invariant.shown
+    sym (append-nil _) ∙ rw (none, chars-nil) at c.loop-c.invariant.written

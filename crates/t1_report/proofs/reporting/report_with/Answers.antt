@@ -13,7 +13,7 @@ use Rattle.t1_report.proofs.HasReport.{has_report}
 use Rattle.t1_report.proofs.InFont.{all_in_font}
 use Rattle.t1_report.proofs.LaterFaults.{given_are_the_front, the_report}
 use Rattle.t1_report.proofs.SoFar.{so_far_start}
-use Rattle.t1_report.proofs.reporting.report.Goals as goal
+use Rattle.t1_report.proofs.reporting.report_with.Goals as goal
 
 -- One fault more is in the list.
 pushed : (font : CheckedFont) (waivers : List Waiver) (faults more : List Fault) (mark last : Mark) (fault : Fault)
@@ -33,16 +33,16 @@ at_most font waivers given count mark few few_waivers is =
 
 pub loop-fault-init : goal.loop-fault-init
 loop-fault-init c =
-    let font = checked c.args.font.now c.args.edition in
+    let font = checked c.args.font.now c.args.sidebearings.now.edition in
     record {
-      font = c.begin-walk.ensures.font ∙ ap (checked c.args.font.now) c.in_ok-sidebearings.ensures.edition;
+      font = c.begin-walk.ensures.font;
       waivers = c.begin-walk.ensures.waivers;
       given = rw c.new-faults.ensures.items (none_given font c.args.waivers.now c.begin-walk.result.mark c.begin-walk.ensures.mark);
     }
 
 pub loop-fault-preserved : goal.loop-fault-preserved
 loop-fault-preserved c =
-    let font = checked c.args.font.now c.args.edition in
+    let font = checked c.args.font.now c.args.sidebearings.now.edition in
     let before = c.loop-fault.invariant in
     record {
       font = ap (λ (w : WalkView). w.font) c.in-Some.ensures.state ∙ before.font;
@@ -54,7 +54,7 @@ loop-fault-preserved c =
 
 pub loop-fault-smaller : goal.loop-fault-smaller
 loop-fault-smaller c =
-    let font = checked c.args.font.now c.args.edition in
+    let font = checked c.args.font.now c.args.sidebearings.now.edition in
     let waivers = c.args.waivers.now in
     let most = at_most font waivers (faults_of c.push.new.self.items) (length c.push.new.self.items) c.next.new.self.mark c.are_few.ensures.glyphs
     c.are_few.ensures.waivers (loop-fault-preserved c).given in
@@ -66,7 +66,7 @@ loop-fault-smaller c =
 
 pub returns : goal.returns
 returns c =
-    let font = checked c.args.font.now c.args.edition in
+    let font = checked c.args.font.now c.args.sidebearings.now.edition in
     let waivers = c.args.waivers.now in
     let before = c.loop-fault.invariant in
     let none : HasNoneLater font waivers c.loop-fault.walk.mark = rw (sym before.font, sym before.waivers) c.in_default.ensures.next in
