@@ -59,7 +59,11 @@ pub(crate) const RUNS: &[Row] = &[
 ];
 
 /// The trace of glyph A, or the whole report; with waivers or without.
-pub(crate) fn options_of(alloc: Global, traced: bool, waived: bool) -> Result<CheckOptions, AllocError> {
+pub(crate) fn options_of(
+    alloc: Global,
+    traced: bool,
+    waived: bool,
+) -> Result<CheckOptions, AllocError> {
     Ok(CheckOptions {
         trace: word(alloc, "A", traced)?,
         waive: word(alloc, "waivers", waived)?,

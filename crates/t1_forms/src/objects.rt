@@ -13,9 +13,9 @@ use crate::members::reason_members;
 use crate::{FormatError, Told, ToldReason, What, shown};
 use serde_json::{Map, Value, put};
 use std::alloc::{AllocError, Global};
+use t1_font::{RefusalCode, refusal_text};
 use t1_io::{Sink, put_all};
 use t1_lines::{FaultLine, Line, Place};
-use t1_font::{RefusalCode, refusal_text};
 use t1_rules::{Level, Rule, key_text, rule_code, rule_level, rule_text};
 
 /// The code of a refusal: `E03`.

@@ -12,9 +12,9 @@ ghost use Rattle.t1_forms.specs.Writing.{WritesLine};
 use crate::sarif_objects::{fingerprint, notification_text, result_text, tool_text, unit_of};
 use crate::{FormatError, Pages, Told, ToldReason, What};
 use std::alloc::{AllocError, Global};
+use t1_font::RefusalCode;
 use t1_io::{Sink, put_all};
 use t1_lines::Line;
-use t1_font::RefusalCode;
 use t1_rules::RULE_COUNT;
 
 /// How many fonts that weren't checked one run of the document reports. After them the next run begins.

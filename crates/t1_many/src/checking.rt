@@ -88,15 +88,7 @@ fn check_named<F: FontFiles, T: Policy>(
             or_error(taken)
         }
         Some(Ok(mut waivers)) => {
-            let taken = check_opened(
-                alloc,
-                name,
-                &mut font,
-                &mut waivers,
-                true,
-                edition,
-                policy,
-            );
+            let taken = check_opened(alloc, name, &mut font, &mut waivers, true, edition, policy);
             files.leave_font(name, font);
             files.leave_waivers(name, waivers);
             or_error(taken)

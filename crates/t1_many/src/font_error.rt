@@ -5,8 +5,8 @@ ghost use Rattle.t1_many.specs.FontErrors.{error_of, reason_of};
 ghost use Rattle.t1_names.specs.Causes.{cause_text};
 
 use arrayvec::ArrayString;
-use t1_names::Cause;
 use t1_font::RefusalCode;
+use t1_names::Cause;
 use t1_run::Failure;
 
 /// Why there is no report of a font.

@@ -8,7 +8,7 @@ use std::io::ErrorKind;
 use t1_answer_all::ShowsProgress;
 use t1_io::{In, Source};
 use t1_many::FontFiles;
-use t1_names::{FolderEntry, FileStore, FileSystem, Listing};
+use t1_names::{FileStore, FileSystem, FolderEntry, Listing};
 
 /// A file, by its name. That of waivers is known by the name of their font.
 pub(crate) type File<'a> = (&'a str, &'a [u8]);

@@ -6,8 +6,8 @@ use std::io;
 use std::io::ErrorKind;
 use std::test::Fail;
 use t1_names::{
-    FolderEntry, FileSystem, Listing, Named, each_once, fonts_below, fonts_named, is_font_name, is_input,
-    trim_word,
+    FileSystem, FolderEntry, Listing, Named, each_once, fonts_below, fonts_named, is_font_name,
+    is_input, trim_word,
 };
 
 /// A folder: its name, the folders and the fonts in it, and whether it can be listed whole.
@@ -94,7 +94,11 @@ fn list(alloc: Global, folder: &str) -> Result<Listing, AllocError> {
 }
 
 /// Folders and fonts of these names.
-fn entries_of(alloc: Global, folders: &[&str], fonts: &[&str]) -> Result<Vec<FolderEntry>, AllocError> {
+fn entries_of(
+    alloc: Global,
+    folders: &[&str],
+    fonts: &[&str],
+) -> Result<Vec<FolderEntry>, AllocError> {
     let mut entries = Vec::new(alloc);
     for name in folders {
         entries.push(FolderEntry::Folder(String::from_str(alloc, name)?))?;

@@ -8,9 +8,9 @@ ghost use Rattle.t1_many.specs.Handing.{lost_of};
 
 use crate::group::Group;
 use std::alloc::{AllocError, Global};
+use t1_font::RefusalCode;
 use t1_io::Sink;
 use t1_many::Lost;
-use t1_font::RefusalCode;
 use t1_rules::Rule;
 
 /// How the groups of a font are written, and why there are none.

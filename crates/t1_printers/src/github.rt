@@ -14,11 +14,11 @@ use crate::formatter::Formatter;
 use crate::group::Group;
 use crate::rule_parts::{push_head, tail};
 use std::alloc::{AllocError, Global};
+use t1_font::{RefusalCode, refusal_text};
 use t1_forms::{Text, Told, What, write_command, write_rule_command};
 use t1_io::Sink;
 use t1_lines::Line;
 use t1_many::Lost;
-use t1_font::{RefusalCode, refusal_text};
 use t1_rules::Rule;
 
 /// The width of a message.

@@ -11,9 +11,9 @@ use crate::rule_parts::{push_head, tail};
 use crate::width::width;
 use crate::wrapped::push_reason;
 use std::alloc::{AllocError, Global};
+use t1_font::{RefusalCode, refusal_text};
 use t1_io::{Sink, put_all};
 use t1_many::Lost;
-use t1_font::{RefusalCode, refusal_text};
 use t1_rules::{Level, Rule, rule_level};
 
 /// A line for each font and rule: `NAME: RULE TEXT × COUNT: NAMES`, and the reason of the first fault below it. Names have bytes that a terminal

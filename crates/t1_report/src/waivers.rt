@@ -61,7 +61,7 @@ pub struct Waivers<'a> {
 impl<'a> Model for Waivers<'a> {
     ghost use Rattle.std.specs.Prelude.{◌≤◌, List, length};
     ghost use Rattle.t1_report.specs.Refusals.{waivers_code};
-ghost use Rattle.t1_report.specs.WaiverViews.{kept_waivers};
+    ghost use Rattle.t1_report.specs.WaiverViews.{kept_waivers};
     ghost use Rattle.t1_report.specs.Waivers.{Waiver};
     ghost use Rattle.t1_report.specs.Waivers.{largest_waivers};
 

@@ -9,8 +9,8 @@ ghost use Rattle.t1_run.specs.WaiverFiles.{IsNoWaiverText, IsWaiverText};
 
 use crate::failure::Failure;
 use std::alloc::Global;
-use t1_io::Source;
 use t1_font::RefusalCode;
+use t1_io::Source;
 use t1_report::LARGEST_WAIVERS;
 
 /// The greatest size of a font's file, in bytes.

@@ -8,8 +8,8 @@ ghost use Rattle.t1_run.specs.Telling.{Gives, Tells};
 
 use crate::failure::Failure;
 use crate::status::Status;
-use t1_io::{Sink, deliver, put_all, put_parts};
 use t1_font::refusal_text;
+use t1_io::{Sink, deliver, put_all, put_parts};
 
 /// Prints one text on standard error and returns the status, or `Failed` if printing fails.
 pub fn tell<E: Sink>(errors: &mut E, text: &str, status: Status) -> Status

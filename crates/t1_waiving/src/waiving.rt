@@ -61,7 +61,14 @@ impl<F: Printer> Policy for WriteWaivers<F> {
         let text = waivers_text(alloc, font, sidebearings, waivers, self.rules)?;
         self.kept.push(alloc, name, text)?;
         let outside = OutsideGlyphs { rules: self.rules };
-        Ok(hand_report(&mut self.printer, name, font, sidebearings, waivers, &outside))
+        Ok(hand_report(
+            &mut self.printer,
+            name,
+            font,
+            sidebearings,
+            waivers,
+            &outside,
+        ))
     }
 
     fn failure(&mut self, name: &str, error: FontError) -> Taken {

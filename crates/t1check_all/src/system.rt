@@ -10,7 +10,7 @@ use std::{fs, io};
 use t1_answer_all::ShowsProgress;
 use t1_io::In;
 use t1_many::FontFiles;
-use t1_names::{FolderEntry, FileStore, FileSystem, Listing, is_font_name, is_input};
+use t1_names::{FileStore, FileSystem, FolderEntry, Listing, is_font_name, is_input};
 
 /// The system's files.
 #[derive(Drop)]

@@ -10,7 +10,7 @@ ghost use Rattle.t1draw.specs.Given.{IsUsageOf, given_value};
 use crate::PROGRAM;
 use crate::complaint::{Complaint, complaint_text};
 use crate::glyph_word::name_in;
-use crate::options::{Asked, Extent, DrawOptions};
+use crate::options::{Asked, DrawOptions, Extent};
 use crate::running::show;
 use clap::{Arg, ArgAction, ArgMatches, Command};
 use std::alloc::{AllocError, Global};

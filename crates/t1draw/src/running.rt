@@ -9,7 +9,7 @@ ghost use Rattle.t1draw.specs.Private.Sheets.{CanShow, DrawsAs, IsSound, TellsNo
 use crate::PROGRAM;
 use crate::drawing::{drawn, fault_for};
 use crate::folder::folder_text;
-use crate::options::{Asked, Extent, DrawOptions};
+use crate::options::{Asked, DrawOptions, Extent};
 use crate::sheet::Sheet;
 use itoa::Buffer;
 use std::alloc::Global;
