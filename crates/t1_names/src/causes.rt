@@ -1,6 +1,6 @@
 //! Why a system can't read or write a file.
 
-ghost use Rattle.std.specs.Prelude.{◌≡◌};
+ghost use Rattle.std.specs.Prelude.{◌≡◌, ◌≤◌, length};
 ghost use Rattle.std.specs.IoError.{error_kind};
 ghost use Rattle.t1_names.specs.Causes.{cause_of, cause_text};
 
@@ -43,7 +43,8 @@ impl Cause {
 
     /// What is said of it behind a message.
     pub fn text(self) -> &'static str
-        ensures { result.now ≡ cause_text self }
+        ensures text { result.now ≡ cause_text self }
+        ensures few { length result.now ≤ 40 }
     {
         match self {
             Cause::NoFile => ": no such file or folder",
