@@ -1,6 +1,6 @@
 -- What was written of things that were handed on.
 -- The bytes of one thing come right after those of the things before it; where a write fails they are a prefix.
-use Rattle.std.proofs.Common.{◌≡◌, ◌-◌, ℕ, true, Bool, List, [], ◌∷◌, ◌++◌, Option, None, Some, append-nil, append_assoc, ap, arith, codes, inl, inr, length, refl, subst, sym, ◌∙◌}
+use Rattle.std.proofs.Common.{◌≡◌, ◌-◌, ℕ, true, Bool, List, [], ◌∷◌, ◌++◌, Option, None, Some, append-nil, append_assoc, ap, arith, inl, inr, length, refl, subst, sym, ◌∙◌}
 use Rattle.std.proofs.KnownBytes.{Appends-nil, Appends-trans}
 use Rattle.std.proofs.lemmas.Option.{none-some}
 use Rattle.std.specs.Io.KnownBytes.{Appends}

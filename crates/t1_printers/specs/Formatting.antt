@@ -1,5 +1,5 @@
 -- What is given to a formatter of things that are handed on, and what is printed on standard error.
-use Rattle.std.specs.Prelude.{◌≡◌, ℕ, Bool, true, List, codes, Option, None, Some}
+use Rattle.std.specs.Prelude.{◌≡◌, ℕ, Bool, true, List, Option, None, Some}
 use Rattle.t1_forms.specs.Tellings.{ToldValue, of_line, of_unchecked, reason_told, what_spelled, what_value}
 use Rattle.t1_forms.specs.declared.told.Told.{Told}
 use Rattle.t1_io.specs.Devices.{PutFailed, SinkState, Wrote}

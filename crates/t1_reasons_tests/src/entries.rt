@@ -5,10 +5,10 @@ use std::test::Fail;
 use t1_char::Edition;
 use t1_font::Encoding;
 use t1_reasons::{
-    Edges, EntryKind, Found, Reason, Unused, font_reason, fuzz_across, fuzz_that_does,
-    scale_that_does, unused_reason,
+    EntryKind, Found, Reason, Unused, font_reason, fuzz_across, fuzz_that_does, scale_that_does,
+    unused_reason,
 };
-use t1_rules::Rule;
+use t1_rules::{Edges, Rule};
 use t1_samples::{NOTDEF, Sample, font_of, opened};
 
 /// One, in units of 10^-9.
