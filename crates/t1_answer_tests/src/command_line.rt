@@ -17,7 +17,7 @@ Usage: t1check [OPTIONS] [FILE]
 Arguments:
   [FILE]  The font's file, one a run; without it standard input is read
 
-CheckOptions:
+Options:
       --after <K>     Leaves the first K lines of the report out [default: 0]
       --max <M>       Writes at most M of the other lines
       --trace <NAME>  Writes the steps of the glyph NAME in place of the report, STEP PATH TOKEN a line
