@@ -3,5 +3,6 @@ pub mod KeyTexts
 pub mod Lacking
 pub mod LinesWritten
 pub mod NamesKept
+pub mod OneFault
 pub mod ReasonsOfCodes
 pub mod WaiverNames

@@ -10,6 +10,7 @@ use Rattle.t1_rules.specs.Book.{code_of, text_of}
 use Rattle.t1_rules.specs.Keys.{key_text_of}
 use Rattle.t1_report.specs.Faults.{FaultValue}
 use Rattle.t1_report.specs.Lines.{IsInFont, line_of, place_text, rule_part, path_text}
+use Rattle.t1_report.specs.Places.{fault_place}
 use Rattle.t1_report.specs.Waivers.{Waiver}
 use Rattle.t1_lines.specs.Lines.{FaultLineValue, place_in, line_in, place_words, spaced, fault_spelled, IsPlace, IsSmall}
 use Rattle.t1_lines.specs.Laws.{FaultsAreWrittenAsLines}
@@ -63,7 +64,7 @@ waiver-named (v ∷ waivers) zero w names found = let same : v ≡ w = cc in sub
 waiver-named (v ∷ waivers) (suc i) w names found = waiver-named waivers i w (All-tail Named v waivers names) found
 
 place-written : (font : FontValue) (waivers : List Waiver) (fault : FaultValue) → IsInFont font waivers fault
-    → place_text font waivers fault ++ rule_part fault
+    → place_text font waivers fault (fault_place font fault) ++ rule_part fault
     ≡ spaced (place_words (place_in font waivers fault) (code_of fault.rule)) (text_of fault.rule ++ codes "\n")
 place-written font waivers fault there =
     elim (cases_Bool (fault.unit == 0)) [
@@ -82,11 +83,11 @@ place-written font waivers fault there =
 pub line-written : (font : FontValue) (waivers : List Waiver) (fault : FaultValue) → IsInFont font waivers fault
     → line_of font waivers fault ≡ fault_spelled (line_in font waivers fault) ++ codes "\n"
 line-written font waivers fault there =
-    append_assoc (decimal fault.number) (58 ∷ 32 ∷ []) (place_text font waivers fault ++ rule_part fault)
+    append_assoc (decimal fault.number) (58 ∷ 32 ∷ []) (place_text font waivers fault (fault_place font fault) ++ rule_part fault)
     ∙ ap (λ t. decimal fault.number ++ (58 ∷ 32 ∷ t)) (place-written font waivers fault there)
     ∙ sym (spelled-end (line_in font waivers fault) (codes "\n"))
 
-place-is : (font : FontValue) (waivers : List Waiver) (fault : FaultValue) → HasNames font → HaveNames waivers → IsInFont font waivers fault → IsSmall fault
+pub place-is : (font : FontValue) (waivers : List Waiver) (fault : FaultValue) → HasNames font → HaveNames waivers → IsInFont font waivers fault → IsSmall fault
     → IsPlace (place_in font waivers fault) fault.rule
 place-is font waivers fault glyphs names there plain =
     elim (cases_Bool (fault.unit == 0)) [

@@ -1,5 +1,5 @@
--- The statements of laws: how faults are written, what names were read, and that a refusal has one reason.
-use Rattle.std.specs.Prelude.{◌≡◌, ◌⊎◌, ℕ, List, ◌++◌, codes, Ok, None, Some}
+-- The statements of laws: how faults are written, that a line tells one fault, what names were read, and that a refusal has one reason.
+use Rattle.std.specs.Prelude.{◌≡◌, ◌⊎◌, ¬◌, ℕ, List, ◌∷◌, ◌++◌, codes, Ok, None, Some}
 use Rattle.t1_char.specs.declared.edition.Edition.{Edition}
 use Rattle.t1_font.specs.ClearText.{clear_of}
 use Rattle.t1_font.specs.Fonts.{FontValue, Marks}
@@ -10,7 +10,7 @@ use Rattle.t1_report.specs.Faults.{FaultValue}
 use Rattle.t1_report.specs.Lines.{IsInFont, line_of}
 use Rattle.t1_report.specs.Waivers.{Waiver, waivers_of}
 use Rattle.t1_report.specs.declared.waivers.WaiverError.TheVariants as waivers
-use Rattle.t1_lines.specs.Lines.{IsFaultLine, IsSmall, fault_spelled, line_in}
+use Rattle.t1_lines.specs.Lines.{FaultLineValue, IsFaultLine, IsSmall, fault_spelled, line_in}
 use Rattle.t1_lines.specs.Names.{HasNames, HaveNames}
 use Rattle.t1_report.specs.Refusals.{refusal_code_of, Refusal}
 use Rattle.t1_report.specs.Refusals.Refusal.{Font, Waivers}
@@ -22,6 +22,26 @@ FaultsAreWrittenAsLines = (font : FontValue) (waivers : List Waiver) (fault : Fa
     IsInFont font waivers fault → IsSmall fault →
     IsFaultLine (line_in font waivers fault)
     × (line_of font waivers fault ≡ fault_spelled (line_in font waivers fault) ++ codes "\n")
+
+-- No text is that of two lines: it says the number, the place and the rule.
+abbrev pub ATextIsOneLine : Type 0
+ATextIsOneLine = (a b : FaultLineValue) → IsFaultLine a → IsFaultLine b → fault_spelled a ≡ fault_spelled b → a ≡ b
+
+-- Two faults of a font and its waivers whose lines are written alike have one number, one place and one rule.
+abbrev pub AWrittenLineTellsOneFault : Type 0
+AWrittenLineTellsOneFault = (font : FontValue) (waivers : List Waiver) (a b : FaultValue) → HasNames font → HaveNames waivers →
+    IsInFont font waivers a → IsInFont font waivers b → IsSmall a → IsSmall b →
+    line_of font waivers a ≡ line_of font waivers b →
+    line_in font waivers a ≡ line_in font waivers b
+
+-- A colon and a blank are nowhere in a name.
+abbrev pub HasNoColon : List ℕ → Type 0
+HasNoColon name = (front rest : List ℕ) → ¬ (name ≡ front ++ (58 ∷ 32 ∷ rest))
+
+-- Behind such a name `NAME: LINE` is split in one way.
+abbrev pub APrintedLineSplitsOnce : Type 0
+APrintedLineSplitsOnce = (name other line more : List ℕ) → HasNoColon name → HasNoColon other →
+    name ++ (58 ∷ 32 ∷ line) ≡ other ++ (58 ∷ 32 ∷ more) → (name ≡ other) × (line ≡ more)
 
 -- The glyphs of a font that was read have such names.
 abbrev pub FontsHaveNames : Type 0

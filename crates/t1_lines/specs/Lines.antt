@@ -1,5 +1,5 @@
 -- What a line says, and how it is spelled.
-use Rattle.std.specs.Prelude.{◌≡◌, ℕ, ◌+◌, ◌-◌, ◌/◌, ◌%◌, ◌<◌, ◌≤◌, ◌^◌, ◌==◌, List, [], ◌∷◌, ◌++◌, codes, length, if◌then◌else◌, IsTrue, Option, Some, None, slice_get}
+use Rattle.std.specs.Prelude.{◌≡◌, ℕ, ◌+◌, ◌<◌, ◌≤◌, ◌^◌, List, [], ◌∷◌, ◌++◌, codes, length, IsTrue, Option, Some, None, slice_get}
 use Rattle.std.specs.List.{list_all, AllByRecursion}
 use Rattle.std.specs.Fmt.{decimal}
 use Rattle.t1_scan.specs.Bytes.{is_regular}
@@ -10,7 +10,10 @@ use Rattle.t1_rules.specs.Book.{code_of, text_of}
 use Rattle.t1_rules.specs.Keys.{key_text_of, index_count, key_count}
 use Rattle.t1_report.specs.Faults.{FaultValue}
 use Rattle.t1_report.specs.Lines.{path_text}
+use Rattle.t1_report.specs.Places.{fault_place}
 use Rattle.t1_report.specs.Waivers.{Waiver}
+use Rattle.t1_report.specs.declared.places.FaultPlace.{FaultPlace}
+use Rattle.t1_report.specs.declared.places.FaultPlace.TheVariants.{Glyph, Key, Waiver as AtWaiver}
 use Rattle.t1_lines.specs.declared.line.FaultLine.{FaultLine}
 use Rattle.t1_lines.specs.declared.line.Line.{Line}
 use Rattle.t1_lines.specs.declared.line.Line.TheVariants.{Fault, Refusal}
@@ -85,16 +88,18 @@ abbrev pub IsLine : LineValue → Type 0
 IsLine (of_fault l) = IsFaultLine l
 IsLine (of_refusal code) = Unit {0}
 
--- Where a fault is; a waiver that isn't there has no name.
+-- Where a fault is, with its names; a waiver that isn't there has none.
 abbrev pub waiver_in : Option Waiver → PlaceValue
 waiver_in None = at_waiver [] U01
 waiver_in (Some w) = at_waiver w.0 w.1
 
+abbrev pub named : FontValue → List Waiver → FaultValue → FaultPlace → PlaceValue
+named font waivers fault (Key key index) = at_key key index
+named font waivers fault (Glyph glyph) = at_step (glyph_name font glyph) fault.path fault.step
+named font waivers fault (AtWaiver number) = waiver_in (slice_get waivers number)
+
 abbrev pub place_in : FontValue → List Waiver → FaultValue → PlaceValue
-place_in font waivers fault =
-    if fault.unit == 0 then at_key (fault.step / index_count) (fault.step % index_count)
-    else (if fault.unit == length font.glyphs + 1 then waiver_in (slice_get waivers (fault.step - 1))
-    else at_step (glyph_name font (fault.unit - 1)) fault.path fault.step)
+place_in font waivers fault = named font waivers fault (fault_place font fault)
 
 -- The line of a fault.
 abbrev pub line_in : FontValue → List Waiver → FaultValue → FaultLineValue

@@ -1,7 +1,7 @@
 //! Laws above the definitions: each is the contract of a function without a body.
 
 ghost use Rattle.t1_report.specs.Faults.{fault_value};
-ghost use Rattle.t1_lines.specs.Laws.{EachCodeIsOfAReason, FaultsAreWrittenAsLines, FontsHaveNames, MemoryAloneRefusesNone, NoCodeIsOfTwo, WaiversHaveNames};
+ghost use Rattle.t1_lines.specs.Laws.{APrintedLineSplitsOnce, ATextIsOneLine, AWrittenLineTellsOneFault, EachCodeIsOfAReason, FaultsAreWrittenAsLines, FontsHaveNames, MemoryAloneRefusesNone, NoCodeIsOfTwo, WaiversHaveNames};
 ghost use Rattle.t1_lines.specs.Lines.{IsSmall};
 
 use t1_report::Fault;
@@ -9,6 +9,15 @@ use t1_report::Fault;
 /// Each fault's line is written as it is spelled.
 pub fn faults_are_written_as_lines()
     ensures { FaultsAreWrittenAsLines }
+{}
+
+/// The text of a line tells its fault: its number, its place and its rule. A line that is printed behind a font's name is split in one way where the
+/// name has no colon and blank.
+#[tactic(auto, using(crate::proofs::OneFault::one_line, crate::proofs::OneFault::one_fault, crate::proofs::OneFault::one_split))]
+pub fn a_line_tells_one_fault()
+    ensures line { ATextIsOneLine }
+    ensures fault { AWrittenLineTellsOneFault }
+    ensures split { APrintedLineSplitsOnce }
 {}
 
 /// Each fault's numbers are of 64 and 32 bits, and at most ten Subrs are being executed at it.

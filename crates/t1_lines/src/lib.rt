@@ -7,6 +7,7 @@
 //! What is promised:
 //!
 //! - What `t1_report::write_fault` writes of a fault is spelled as the line of its number, place and rule.
+//! - A text is that of one fault: its number, its place and its rule.
 //! - Glyphs and waivers that were read have names without blanks and delimiters.
 //! - Each refusal has one reason, and each reason but running out of memory one refusal.
 //!
@@ -25,7 +26,7 @@ mod words;
 
 pub use faults::{fault_line, place_of};
 pub use laws::{
-    each_refusal_has_a_code, faults_are_small, faults_are_written_as_lines, fonts_have_names,
+    a_line_tells_one_fault, each_refusal_has_a_code, faults_are_small, faults_are_written_as_lines, fonts_have_names,
     waivers_have_names,
 };
 pub use line::{FaultLine, Line, Place};

@@ -24,7 +24,6 @@ use Rattle.t1_picture.specs.Marks.{all_causes, causes_of, direction_at, fault_li
 use Rattle.t1_picture.specs.Private.Runs.{GoesTo, IsOfSameGlyph, seen_steps}
 use Rattle.t1_picture.specs.Subjects.{Subject}
 use Rattle.t1_reasons.specs.GlyphReasons.{IsOfSameGlyph as IsSameMachine, glyph_reason, reason_at}
-use Rattle.t1_reasons.specs.Reported.{key_reason, waiver_reason}
 use Rattle.t1_reasons.specs.declared.reason.Reason.{Reason}
 use Rattle.t1_report.specs.declared.marks.Mark.{Mark}
 use Rattle.t1_report.specs.Checked.{CheckedFont, checked}
@@ -257,13 +256,10 @@ pub reason_is : (s : Subject) (m : MachineView) (f : FaultValue) → IsRunFor s 
     → reason_at m f.rule f.step ≡ reason_of s f
 reason_is s m f run unit there =
     let place : f.unit - 1 ≡ s.glyph = omega (arith, unit) in
+    let at_step : reason_of s f ≡ glyph_reason s.font s.edition (f.unit - 1) f.rule f.step = rw (in_glyph s f unit, no_waiver s f unit there) refl in
     reason_in_glyph s m f.rule f.step run
     ∙ ap (λ (g : ℕ). glyph_reason s.font s.edition g f.rule f.step) (sym place)
-    ∙ sym (ap (λ b. cond b (key_reason (checked s.font s.edition) f.rule f.step)
-    (cond (f.unit == length s.font.glyphs + 1) (waiver_reason s.font (slice_get s.waivers (f.step - 1)))
-    (glyph_reason s.font s.edition (f.unit - 1) f.rule f.step))) (in_glyph s f unit)
-    ∙ ap (λ b. cond b (waiver_reason s.font (slice_get s.waivers (f.step - 1))) (glyph_reason s.font s.edition (f.unit - 1) f.rule f.step))
-    (no_waiver s f unit there))
+    ∙ sym at_step
 
 -- Where the stems of its step are, and what its reason names.
 pub steps_of_glyph : (s : Subject) (m : MachineView) → IsRunFor s m → steps_in m ≡ glyph_steps s

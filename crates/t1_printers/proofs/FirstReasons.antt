@@ -13,6 +13,7 @@ use Rattle.t1_printers.specs.declared.unit.UnitNumber.{UnitNumber}
 use Rattle.t1_many.specs.Reasons.{told_text}
 use Rattle.t1_report.specs.Checked.{CheckedFont}
 use Rattle.t1_report.specs.Faults.{FaultValue}
+use Rattle.t1_lines.specs.Lines.{place_in}
 use Rattle.t1_report.specs.Waivers.{Waiver}
 use Rattle.t1_rules.specs.Book.{number_of}
 
@@ -50,7 +51,7 @@ pub line_requested : (groups : List GroupValue) (reasons : Bool) (font : Checked
     ≡ with_line groups (held_line reasons font waivers fault)
 line_requested groups reasons font waivers fault =
     ap (set groups (number_of fault.rule - 1))
-    (requested (group_of groups fault.rule) (unit_number font.value fault) (terminal_name (unit_name font.value waivers fault))
+    (requested (group_of groups fault.rule) (unit_number fault (place_in font.value waivers fault)) (terminal_name (unit_name (place_in font.value waivers fault)))
     (λ is_told. told_text is_told font waivers fault) reasons)
 
 -- The reason of the first of some lines and one more.

@@ -8,6 +8,7 @@ use Rattle.t1_printers.specs.Units.{NamedUnit, names_of}
 use Rattle.t1_many.specs.Reasons.{told_text}
 use Rattle.t1_report.specs.Checked.{CheckedFont}
 use Rattle.t1_report.specs.Faults.{FaultValue}
+use Rattle.t1_lines.specs.Lines.{place_in}
 use Rattle.t1_report.specs.Waivers.{Waiver}
 use Rattle.t1_rules.specs.Book.{level_of, number_of, rules}
 use Rattle.t1_rules.specs.declared.level.Level.{Level}
@@ -24,7 +25,7 @@ pub record HeldLine : Type 0 where
 abbrev pub line_with : FontValue → List Waiver → FaultValue → Option (List ℕ) → HeldLine
 line_with font waivers fault reason = record {
   rule = fault.rule;
-  unit = record { number = unit_number font fault; name = terminal_name (unit_name font waivers fault) };
+  unit = (let place = place_in font waivers fault in record { number = unit_number fault place; name = terminal_name (unit_name place) });
   reason = reason;
 }
 

@@ -10,12 +10,13 @@ ghost use Rattle.t1_report.specs.Lines.{IsInFont};
 
 use crate::group::Group;
 use crate::groups::Groups;
-use crate::unit::{UnitNumber, unit_number, waiver_name};
+use crate::unit::{UnitNumber, waiver_name};
 use std::alloc::{AllocError, Global};
 use t1_font::Font;
+use t1_lines::{Place, place_of};
 use t1_reason_texts::ShortText;
 use t1_report::{Fault, Waivers};
-use t1_rules::{INDEXES, Rule, all_rules, key_text};
+use t1_rules::{Rule, all_rules, key_text};
 
 impl Groups {
     /// Groups of no line, with room for names in each.
@@ -49,16 +50,29 @@ impl Groups {
         ensures { OnOk result (group_values self.new ≡ with_line (group_values self.old)
             (line_with font.now waivers.now (fault_value fault.now) (option_map (λ t. t.bytes) reason.now))) }
     {
-        let number = unit_number(font, fault);
-        if fault.unit == 0 {
-            let key = (fault.step / INDEXES) as u8;
-            self.add(alloc, fault.rule, number, key_text(key).as_bytes(), reason)
-        } else if fault.unit as usize == font.glyphs().len() + 1 {
-            let name = waiver_name(alloc, waivers, fault.step)?;
-            self.add(alloc, fault.rule, number, name.as_slice(), reason)
-        } else {
-            let name = font.glyph_name((fault.unit - 1) as usize);
-            self.add(alloc, fault.rule, number, name, reason)
+        match place_of(font, waivers, fault) {
+            Place::Key { key, .. } => {
+                let number = UnitNumber {
+                    unit: 0,
+                    part: u32::from(key),
+                };
+                self.add(alloc, fault.rule, number, key_text(key).as_bytes(), reason)
+            }
+            Place::Step { name, .. } => {
+                let number = UnitNumber {
+                    unit: fault.unit,
+                    part: 0,
+                };
+                self.add(alloc, fault.rule, number, name, reason)
+            }
+            Place::Waiver { name, rule } => {
+                let number = UnitNumber {
+                    unit: fault.unit,
+                    part: fault.step,
+                };
+                let name = waiver_name(alloc, name, rule)?;
+                self.add(alloc, fault.rule, number, name.as_slice(), reason)
+            }
         }
     }
 

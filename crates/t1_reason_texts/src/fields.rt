@@ -65,10 +65,7 @@ fn of(number: i64) -> Field
 fn across(number: i128) -> Field
     ensures { result ≡ value_field number }
 {
-    Field::Decimal(Exact {
-        number,
-        unit: Unit::Value,
-    })
+    Field::Decimal(Exact::new(number, Unit::Value))
 }
 
 /// The fields of a reason: none where it adds nothing.

@@ -7,6 +7,8 @@ use Rattle.t1_char.specs.Editions.{limit_of}
 use Rattle.t1_char.specs.Steps.{StepView, steps_of}
 use Rattle.t1_char.specs.Turns.{MachineView}
 use Rattle.t1_report.specs.Checked.{CheckedFont, step_limit}
+use Rattle.t1_report.specs.Faults.{FaultValue}
+use Rattle.t1_report.specs.declared.places.FaultPlace.TheVariants.{Glyph, Waiver as AtWaiver}
 use Rattle.t1_report.specs.Reports.{is_broken, is_told, is_unused, rules_of, step_breaks, tells_unused}
 use Rattle.t1_report.specs.Waivers.{Waiver}
 use Rattle.t1_report.proofs.Told.{in_glyph, past_waivers, told_in_font, told_of_waiver}
@@ -24,7 +26,7 @@ use Rattle.t1_reasons.specs.declared.reason.Reason.{Reason}
 use Rattle.t1_reasons.specs.CharstringReasons.{told_of_step}
 use Rattle.t1_reasons.specs.FaultReasons.{FaultsHaveReasons, HasReason, IsOf, ReportedPlacesHaveReasons}
 use Rattle.t1_reasons.specs.GlyphReasons.{glyph_reason, limit_reason, next_reason, reason_among, reason_at, reason_at_place}
-use Rattle.t1_reasons.specs.Reported.{ReportedFaultsHaveReasons, fault_reason, waiver_reason}
+use Rattle.t1_reasons.specs.Reported.{ReportedFaultsHaveReasons, fault_reason, place_reason, waiver_reason}
 use Rattle.t1_reasons.specs.StepReasons.{step_reason}
 use Rattle.t1_reasons.proofs.LawProofs.{broken_where_reason}
 
@@ -130,6 +132,9 @@ unit_has font waivers zero step rule number path told =
     broken_in_font font step rule (sym (told_in_font font waivers step (number_of rule)) ∙ told)
 unit_has font waivers (suc glyph) step rule number path told = rw (positive, less) (go (suc glyph == length font.value.glyphs + 1) refl)
   where
+    fault : FaultValue
+    fault = record { number = number; unit = suc glyph; step = step; rule = rule; path = path }
+
     positive : (suc glyph == 0) ≡ false
     positive = grind arith
 
@@ -137,7 +142,7 @@ unit_has font waivers (suc glyph) step rule number path told = rw (positive, les
     less = omega arith
 
     go : (b : Bool) → (suc glyph == length font.value.glyphs + 1) ≡ b
-        → is_some (if b then waiver_reason font.value (slice_get waivers (step - 1)) else glyph_reason font.value font.edition glyph rule step) ≡ true
+        → is_some (place_reason font waivers fault (if b then AtWaiver (step - 1) else Glyph glyph)) ≡ true
     go true same =
         unused_has font waivers step (number_of rule)
         (sym (told_of_waiver font waivers (suc glyph) step (number_of rule) (eqb-true (suc glyph) (length font.value.glyphs + 1) same)) ∙ told)

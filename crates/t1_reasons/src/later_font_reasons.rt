@@ -83,7 +83,7 @@ fn listed_reason(rule: Rule, numbers: &[i64], index: u32) -> Option<Reason>
 fn wrong_number(rule: Rule, number: i64) -> Option<Reason>
     ensures { result ≡ find (is_wrong_listed rule) (Number number ∷ []) }
 {
-    (is_wrong_number(rule, number)).then_some(Reason::Number { number })
+    is_wrong_number(rule, number).then_some(Reason::Number { number })
 }
 
 fn is_wrong_number(rule: Rule, number: i64) -> bool

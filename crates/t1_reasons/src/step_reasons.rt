@@ -40,7 +40,7 @@ pub(crate) fn told_where(
 ) -> Option<Reason>
     ensures { result ≡ find is_any (only_where is_broken (told_by rule background.now (step_view step.now))) }
 {
-    (is_broken).then_some(told_by(rule, background, step))
+    is_broken.then_some(told_by(rule, background, step))
 }
 
 /// What a rule that compares no numbers says of a step that breaks it.
@@ -560,7 +560,7 @@ pub(crate) fn triple_reason(step: &Step) -> Option<Reason>
         return None;
     }
     let [one, two, three] = three_stems(step);
-    (are_unequal(one, two, three)).then_some(Reason::Triple { one, two, three })
+    are_unequal(one, two, three).then_some(Reason::Triple { one, two, three })
 }
 
 /// Why a step breaks S01.

@@ -29,6 +29,7 @@ mod faults;
 mod laws;
 mod lines;
 mod marks;
+mod places;
 mod reporting;
 mod traces;
 mod unit_faults;
@@ -48,6 +49,7 @@ pub use laws::{
 };
 pub use lines::write_fault;
 pub use marks::Mark;
+pub use places::FaultPlace;
 pub use reporting::{report, report_with};
 pub use traces::write_step;
 pub use unit_faults::UnitFaults;

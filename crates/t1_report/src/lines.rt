@@ -1,19 +1,20 @@
 //! The lines of a report.
 
-ghost use Rattle.std.specs.Prelude.{◌≡◌, ◌≤◌, ◌/◌, ◌<◌};
+ghost use Rattle.std.specs.Prelude.{◌<◌, slice_get};
 ghost use Rattle.std.specs.List.{flat_map};
 ghost use Rattle.t1_io.specs.Devices.{Writes};
-ghost use Rattle.t1_font.specs.Fonts.{glyph_name};
 ghost use Rattle.t1_report.specs.Faults.{fault_value};
-ghost use Rattle.t1_report.specs.Lines.{IsInFont, glyph_place, inner_text, key_place, line_of, path_text, place_text, waiver_place};
-ghost use Rattle.t1_rules.specs.Keys.{index_count, key_count};
+ghost use Rattle.t1_report.specs.Lines.{IsInFont, glyph_place, inner_text, key_place, line_of, path_text, place_text, waiver_text};
+ghost use Rattle.t1_report.specs.Places.{fault_place};
+ghost use Rattle.t1_rules.specs.Keys.{key_count};
 
 use crate::faults::Fault;
+use crate::places::FaultPlace;
 use crate::waivers::Waivers;
 use itoa::Buffer;
 use t1_font::Font;
 use t1_io::{Broken, Sink, put_all, put_parts};
-use t1_rules::{INDEXES, key_text, rule_code, rule_text};
+use t1_rules::{key_text, rule_code, rule_text};
 
 /// Writes the line of a fault: `1: font file 0 F01 no end segment`, or of a glyph
 /// `2: glyph A 5>6 8 P01 drawing without a move`, or of a waiver `3: waiver A P01 U01 waiver not used`. The fault
@@ -53,40 +54,40 @@ fn write_place<W: Sink>(
 ) -> Result<(), Broken>
     requires { IsInFont font.now waivers.now (fault_value fault.now) }
     ensures { Writes (W.state sink.old) (W.state sink.new)
-        (place_text font.now waivers.now (fault_value fault.now)) result }
+        (place_text font.now waivers.now (fault_value fault.now) (fault_place font.now (fault_value fault.now))) result }
 {
-    if fault.unit == 0 {
-        write_key_place(sink, fault.step)
-    } else if fault.unit as usize == font.glyphs().len() + 1 {
-        write_waiver_place(sink, waivers, fault.step)
-    } else {
-        write_glyph_place(sink, font, fault)
+    match fault.place(font) {
+        FaultPlace::Key { key, index } => write_key_place(sink, key, index),
+        FaultPlace::Glyph(glyph) => write_glyph_place(sink, font.glyph_name(glyph), fault),
+        FaultPlace::Waiver(number) => write_waiver_place(sink, waivers, number),
     }
 }
 
-/// Writes the key and the index of a step of the font.
-fn write_key_place<W: Sink>(sink: &mut W, step: u32) -> Result<(), Broken>
-    requires { step / index_count < key_count }
-    ensures { Writes (W.state sink.old) (W.state sink.new) (key_place step) result }
+/// Writes a key of the font and an index.
+fn write_key_place<W: Sink>(sink: &mut W, key: u8, index: u16) -> Result<(), Broken>
+    requires { key < key_count }
+    ensures { Writes (W.state sink.old) (W.state sink.new) (key_place key index) result }
 {
-    let key = (step / INDEXES) as u8;
     put_parts(
         sink,
         &[
             b"font ",
             key_text(key).as_bytes(),
             b" ",
-            Buffer::new().format(step % INDEXES).as_bytes(),
+            Buffer::new().format(index).as_bytes(),
         ],
     )
 }
 
-/// Writes the waiver of a step.
-fn write_waiver_place<W: Sink>(sink: &mut W, waivers: &Waivers<'_>, step: u32) -> Result<(), Broken>
-    requires { 1 ≤ step }
-    ensures { Writes (W.state sink.old) (W.state sink.new) (waiver_place waivers.now step) result }
+/// Writes the waiver of a number, if it is there.
+fn write_waiver_place<W: Sink>(
+    sink: &mut W,
+    waivers: &Waivers<'_>,
+    number: usize,
+) -> Result<(), Broken>
+    ensures { Writes (W.state sink.old) (W.state sink.new) (waiver_text (slice_get waivers.now number)) result }
 {
-    let Some((name, rule)) = waivers.pair(step as usize - 1) else {
+    let Some((name, rule)) = waivers.pair(number) else {
         return Ok(());
     };
     put_all(sink, b"waiver ")?;
@@ -94,16 +95,11 @@ fn write_waiver_place<W: Sink>(sink: &mut W, waivers: &Waivers<'_>, step: u32) -
     put_parts(sink, &[b" ", rule_code(rule).as_bytes()])
 }
 
-/// Writes the glyph, the path and the step of a fault.
-fn write_glyph_place<W: Sink>(sink: &mut W, font: &Font<'_>, fault: &Fault) -> Result<(), Broken>
-    requires { 1 ≤ fault.now.unit }
-    ensures { Writes (W.state sink.old) (W.state sink.new)
-        (glyph_place font.now (fault_value fault.now)) result }
+/// Writes a glyph's name, the path and the step of a fault.
+fn write_glyph_place<W: Sink>(sink: &mut W, name: &[u8], fault: &Fault) -> Result<(), Broken>
+    ensures { Writes (W.state sink.old) (W.state sink.new) (glyph_place name.now (fault_value fault.now)) result }
 {
-    put_parts(
-        sink,
-        &[b"glyph ", font.glyph_name((fault.unit - 1) as usize), b" "],
-    )?;
+    put_parts(sink, &[b"glyph ", name, b" "])?;
     write_path(sink, fault.path.as_slice())?;
     put_parts(sink, &[b" ", Buffer::new().format(fault.step).as_bytes()])
 }
