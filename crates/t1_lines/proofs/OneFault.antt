@@ -1,5 +1,5 @@
 -- A text is one line: each of its words ends at a byte that it doesn't have, so equal texts have equal words.
-use Rattle.std.proofs.Common.{◌≡◌, ◌≢◌, ◌<◌, ◌≤◌, ◌^◌, ℕ, true, false, true≢false, ◌==◌, List, [], ◌∷◌, ◌++◌, refl, sym, ap, ◌∙◌, inl, inr, arith, Option, Some, None, decimal, codes, flat_map}
+use Rattle.std.proofs.Common.{◌≡◌, ◌≢◌, ◌<◌, ◌≤◌, ◌^◌, ℕ, true, false, true≢false, ◌==◌, List, [], ◌∷◌, ◌++◌, length, refl, sym, ap, ◌∙◌, inl, inr, arith, Option, Some, None, decimal, codes, flat_map}
 use Rattle.std.proofs.lemmas.Bool.{cases_Bool}
 use Rattle.std.proofs.lemmas.Fmt.{decimal_injective}
 use Rattle.std.proofs.lemmas.List.{append-nil, append_cancel_right}
@@ -19,9 +19,9 @@ use Rattle.t1_lines.proofs.Lacking.{lacks-code, lacks-decimal, lacks-key, lacks-
 use Rattle.t1_lines.proofs.LinesWritten.{line-written, place-is}
 
 -- Two texts in front of a byte that neither has.
-record AreSame (a b rest more : List ℕ) : Type 0 where
+record AreSame (a b s t : List ℕ) : Type 0 where
   pub front : a ≡ b
-  pub rest : rest ≡ more
+  pub rest : s ≡ t
 
 same_front : (byte : ℕ) (a b rest more : List ℕ) → lacks byte a ≡ true → lacks byte b ≡ true → a ++ (byte ∷ rest) ≡ b ++ (byte ∷ more)
     → AreSame a b rest more
@@ -29,6 +29,10 @@ same_front byte a b rest more one other e =
     let both : Some (a, rest) ≡ Some (b, more) = sym (cut-append byte a rest one) ∙ ap (cut byte) e ∙ cut-append byte b more other in
     let same = some_same (a, rest) (b, more) both in
     record { front = ap (λ p. p.0) same; rest = ap (λ p. p.1) same }
+
+-- First words of other lengths.
+other_word : (a b s t : List ℕ) → lacks 32 a ≡ true → lacks 32 b ≡ true → (length a ≡ length b → ⊥) → a ++ (32 ∷ s) ≡ b ++ (32 ∷ t) → ⊥
+other_word a b s t one other apart e = apart (ap length (same_front 32 a b s t one other e).front)
 
 -- A text without a byte isn't cut at it.
 cut_none : (byte : ℕ) (text : List ℕ) → lacks byte text ≡ true → cut byte text ≡ None
@@ -39,9 +43,10 @@ cut_none byte (c ∷ text) none =
       | inr e ↦ (let later : lacks byte text ≡ true = rw e at none in rw (e, cut_none byte text later) refl)
     ]
 
-never_cut : (byte : ℕ) (a b rest : List ℕ) → lacks byte a ≡ true → lacks byte b ≡ true → a ≡ b ++ (byte ∷ rest) → ⊥
-never_cut byte a b rest one other e =
-    let both : None ≡ Some (b, rest) = sym (cut_none byte a one) ∙ ap (cut byte) e ∙ cut-append byte b rest other in cc
+never_cut : (byte : ℕ) (a b rest : List ℕ) → lacks byte a ≡ true → lacks byte b ≡ true → a ≡ b ++ (byte ∷ rest) → (x y : List ℕ) → x ≡ y
+never_cut byte a b rest one other e x y =
+    let none : cut byte a ≡ None = cut_none byte a one in
+    let some : cut byte a ≡ Some (b, rest) = ap (cut byte) e ∙ cut-append byte b rest other in cc
 
 abbrev IsSmallNumber : ℕ → Type 0
 IsSmallNumber n = n < 2 ^ 32
@@ -62,9 +67,9 @@ same_numbers n m [] [] one other e =
     let same : decimal n ≡ decimal m = sym (append-nil (decimal n)) ∙ e ∙ append-nil (decimal m) in
     ap (λ k. k ∷ []) (decimal_injective n m (wide n one.0) (wide m other.0) same)
 same_numbers n m [] (j ∷ js) one other e =
-    absurd (never_cut 62 (decimal n) (decimal m) _ (no_angle n one.0) (no_angle m other.0) (sym (append-nil (decimal n)) ∙ e))
+    never_cut 62 (decimal n) (decimal m) _ (no_angle n one.0) (no_angle m other.0) (sym (append-nil (decimal n)) ∙ e) _ _
 same_numbers n m (k ∷ ks) [] one other e =
-    absurd (never_cut 62 (decimal m) (decimal n) _ (no_angle m other.0) (no_angle n one.0) (sym (append-nil (decimal m)) ∙ sym e))
+    never_cut 62 (decimal m) (decimal n) _ (no_angle m other.0) (no_angle n one.0) (sym (append-nil (decimal m)) ∙ sym e) _ _
 same_numbers n m (k ∷ ks) (j ∷ js) one other e =
     let parts = same_front 62 (decimal n) (decimal m) _ _ (no_angle n one.0) (no_angle m other.0) e in
     let rest : decimal k ++ flat_map inner_text ks ≡ decimal j ++ flat_map inner_text js =
@@ -117,11 +122,11 @@ same_words (at_key k i) (at_key j h) one other p q e =
 same_words (at_step n s t) (at_step m r u) one other p q e =
     let first = same_front 32 (codes "glyph") (codes "glyph") _ _ refl refl e in
     let name = same_front 32 n m _ _ (lacks-name n p.0) (lacks-name m q.0) first.rest in
-    let path = same_front 32 (path_text s) (path_text r) _ _ (blankless_path s p.2.0) (blankless_path r q.2.0) name.rest in
-    let step = same_front 32 (decimal t) (decimal u) _ _ (no_blank t (wide t p.2.1)) (no_blank u (wide u q.2.1)) path.rest in
+    let path = same_front 32 (path_text s) (path_text r) _ _ (blankless_path s p.2) (blankless_path r q.2) name.rest in
+    let step = same_front 32 (decimal t) (decimal u) _ _ (no_blank t (wide t p.3)) (no_blank u (wide u q.3)) path.rest in
     let code = same_front 32 (code_of one) (code_of other) _ _ (lacks-code one) (lacks-code other) step.rest in
-    let is_path = same_path s r p.2.0 q.2.0 path.front in
-    let is_step = decimal_injective t u (wide t p.2.1) (wide u q.2.1) step.front in
+    let is_path = same_path s r p.2 q.2 path.front in
+    let is_step = decimal_injective t u (wide t p.3) (wide u q.3) step.front in
     record {
       place = ap (λ x. at_step x s t) name.front ∙ ap (λ x. at_step m x t) is_path ∙ ap (at_step m r) is_step;
       rule = same_rule one other code.front;
@@ -132,12 +137,18 @@ same_words (at_waiver n r) (at_waiver m s) one other p q e =
     let waived = same_front 32 (code_of r) (code_of s) _ _ (lacks-code r) (lacks-code s) name.rest in
     let is = same_rule r s waived.front in
     record { place = ap (λ x. at_waiver x r) name.front ∙ ap (at_waiver m) is; rule = p.1 ∙ sym q.1 }
-same_words (at_key k i) (at_step m r u) one other p q e = cc
-same_words (at_key k i) (at_waiver m s) one other p q e = cc
-same_words (at_step n s t) (at_key j h) one other p q e = cc
-same_words (at_step n s t) (at_waiver m r) one other p q e = cc
-same_words (at_waiver n r) (at_key j h) one other p q e = cc
-same_words (at_waiver n r) (at_step m s u) one other p q e = cc
+same_words (at_key k i) (at_step m r u) one other p q e =
+    absurd (other_word (codes "font") (codes "glyph") _ _ refl refl (λ (is : 4 ≡ 5). omega (arith, is)) e)
+same_words (at_key k i) (at_waiver m s) one other p q e =
+    absurd (other_word (codes "font") (codes "waiver") _ _ refl refl (λ (is : 4 ≡ 6). omega (arith, is)) e)
+same_words (at_step n s t) (at_key j h) one other p q e =
+    absurd (other_word (codes "glyph") (codes "font") _ _ refl refl (λ (is : 5 ≡ 4). omega (arith, is)) e)
+same_words (at_step n s t) (at_waiver m r) one other p q e =
+    absurd (other_word (codes "glyph") (codes "waiver") _ _ refl refl (λ (is : 5 ≡ 6). omega (arith, is)) e)
+same_words (at_waiver n r) (at_key j h) one other p q e =
+    absurd (other_word (codes "waiver") (codes "font") _ _ refl refl (λ (is : 6 ≡ 4). omega (arith, is)) e)
+same_words (at_waiver n r) (at_step m s u) one other p q e =
+    absurd (other_word (codes "waiver") (codes "glyph") _ _ refl refl (λ (is : 6 ≡ 5). omega (arith, is)) e)
 
 pub one_line : ATextIsOneLine
 one_line a b one other e =
@@ -159,18 +170,35 @@ one_fault font waivers a b glyphs names there there' small small' e =
     (record { number = small'.number; place = place-is font waivers b glyphs names there' small' })
     (append_cancel_right _ _ (codes "\n") line)
 
+-- Two bytes that differ, and a text in which the second is nowhere behind the first.
+abbrev LacksPair : ℕ → ℕ → List ℕ → Type 0
+LacksPair x y name = (front rest : List ℕ) → name ≡ front ++ (x ∷ y ∷ rest) → ⊥
+
+later : (x y c : ℕ) (name : List ℕ) → LacksPair x y (c ∷ name) → LacksPair x y name
+later x y c name lacks front rest is = lacks (c ∷ front) rest (ap (λ t. c ∷ t) is)
+
+not_empty : (x y : ℕ) (name line more : List ℕ) → x ≢ y → LacksPair x y name → x ∷ y ∷ line ≡ name ++ (x ∷ y ∷ more) → name ≡ []
+not_empty x y [] line more apart lacks e = refl
+not_empty x y (c ∷ []) line more apart lacks e = let same : y ≡ x = cc in absurd (apart (sym same))
+not_empty x y (c ∷ d ∷ rest) line more apart lacks e = let is : c ∷ d ∷ rest ≡ x ∷ y ∷ rest = cc in absurd (lacks [] rest is)
+
+split : (x y : ℕ) (name other line more : List ℕ) → x ≢ y → LacksPair x y name → LacksPair x y other
+    → name ++ (x ∷ y ∷ line) ≡ other ++ (x ∷ y ∷ more) → AreSame name other line more
+split x y [] other line more apart one two e =
+    let none = not_empty x y other line more apart two e in
+    let rest : x ∷ y ∷ line ≡ x ∷ y ∷ more = e ∙ ap (λ t. t ++ (x ∷ y ∷ more)) none in
+    record { front = sym none; rest = cc }
+split x y (c ∷ name) [] line more apart one two e =
+    let none = not_empty x y (c ∷ name) more line apart one (sym e) in
+    let rest : x ∷ y ∷ line ≡ x ∷ y ∷ more = ap (λ t. t ++ (x ∷ y ∷ line)) (sym none) ∙ e in
+    record { front = none; rest = cc }
+split x y (c ∷ name) (d ∷ other) line more apart one two e =
+    let first : c ≡ d = cc in
+    let tail : name ++ (x ∷ y ∷ line) ≡ other ++ (x ∷ y ∷ more) = cc in
+    let same = split x y name other line more apart (later x y c name one) (later x y d other two) tail in
+    record { front = ap (λ b. b ∷ name) first ∙ ap (λ t. d ∷ t) same.front; rest = same.rest }
+
 -- `NAME: LINE`.
 pub one_split : APrintedLineSplitsOnce
-one_split [] [] line more plain other e = (refl, (let tail = e in cc))
-one_split [] (c ∷ []) line more plain other e = cc
-one_split [] (c ∷ d ∷ rest) line more plain other e =
-    let is : c ∷ d ∷ rest ≡ 58 ∷ 32 ∷ rest = (let both = e in cc) in absurd (other [] rest is)
-one_split (c ∷ []) [] line more plain other e = cc
-one_split (c ∷ d ∷ rest) [] line more plain other e =
-    let is : c ∷ d ∷ rest ≡ 58 ∷ 32 ∷ rest = (let both = e in cc) in absurd (plain [] rest is)
-one_split (c ∷ name) (d ∷ other) line more plain apart e =
-    let first : c ≡ d = (let both = e in cc) in
-    let tail : name ++ (58 ∷ 32 ∷ line) ≡ other ++ (58 ∷ 32 ∷ more) = (let both = e in cc) in
-    let later = one_split name other line more (λ front rest is. plain (c ∷ front) rest (ap (λ t. c ∷ t) is))
-    (λ front rest is. apart (d ∷ front) rest (ap (λ t. d ∷ t) is)) tail in
-    (ap (λ x. x ∷ name) first ∙ ap (λ t. d ∷ t) later.0, later.1)
+one_split name other line more one two e =
+    let same = split 58 32 name other line more (λ is. omega (arith, is)) one two e in (same.front, same.rest)

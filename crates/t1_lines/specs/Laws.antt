@@ -1,5 +1,5 @@
 -- The statements of laws: how faults are written, that a line tells one fault, what names were read, and that a refusal has one reason.
-use Rattle.std.specs.Prelude.{◌≡◌, ◌⊎◌, ¬◌, ℕ, List, ◌∷◌, ◌++◌, codes, Ok, None, Some}
+use Rattle.std.specs.Prelude.{◌≡◌, ◌⊎◌, ℕ, List, ◌∷◌, ◌++◌, codes, Ok, None, Some}
 use Rattle.t1_char.specs.declared.edition.Edition.{Edition}
 use Rattle.t1_font.specs.ClearText.{clear_of}
 use Rattle.t1_font.specs.Fonts.{FontValue, Marks}
