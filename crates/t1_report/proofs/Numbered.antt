@@ -1,8 +1,11 @@
--- Faults that are numbered one after another, place by place.
-use Rattle.std.proofs.Common.{◌≡◌, ℕ, zero, suc, ◌+◌, ◌<◌, List, [], ◌∷◌, drop, length, map, slice_index_or, refl, ap, ◌∙◌, arith}
+-- Faults that are numbered one after another, place by place; and the fault of a number.
+use Rattle.std.proofs.Common.{◌≡◌, ℕ, zero, suc, ◌+◌, ◌<◌, List, [], ◌∷◌, None, drop, length, map, slice_get, slice_index_or, refl, ap, ◌∙◌, arith}
+use Rattle.std.proofs.lemmas.Option.{slice_get_past}
 use Rattle.std.specs.List.{range_with_len}
 use Rattle.t1_report.specs.Faults.{FaultValue}
+use Rattle.t1_report.specs.Numbered.{numbered}
 use Rattle.t1_report.specs.Reports.{AreNumbered}
+use native.Mathlib.Numerals.{unary_clauses}
 
 abbrev numbers : List FaultValue → List ℕ
 numbers faults = map (λ (fault : FaultValue). fault.number) faults
@@ -28,3 +31,12 @@ numbered_by_places n (fault ∷ faults) all =
     let rest : numbers faults ≡ range_with_len (n + 1) (length faults) = numbered_by_places (n + 1) faults (λ i d less. all (suc i) d (omega (arith, less))
     ∙ omega arith) in
     ap (λ m. m ∷ numbers faults) first ∙ ap (λ l. n ∷ l) rest
+
+-- ---- by a number
+
+pub one_numbered : (faults : List FaultValue) (count : ℕ) → numbered faults (count + 1) ≡ slice_get faults count
+one_numbered faults count = simp unary_clauses refl
+
+pub none_numbered : (faults : List FaultValue) (count number : ℕ) → count ≡ length faults → count < number → numbered faults number ≡ None
+none_numbered faults count zero all more = absurd (omega (arith, more))
+none_numbered faults count (suc place) all more = slice_get_past faults place (omega (arith, all, more))

@@ -3,6 +3,7 @@ pub mod Courses
 pub mod Faults
 pub mod Laws
 pub mod Lines
+pub mod Numbered
 pub mod Places
 pub mod Private
 pub mod Refusals

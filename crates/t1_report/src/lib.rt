@@ -13,6 +13,7 @@
 //!   waived, then the waivers that aren't used, numbered from 1. A font has one such report and no other.
 //! - A line is written whole, or a write failed and a prefix of the line was written.
 //! - A [`Walk`] returns the same faults one at a time, from any [`Mark`] on; it can't fail.
+//! - [`fault_numbered`] returns the fault of a number in the report, without the others; it can't fail.
 //! - [`UnitFaults`] returns those of one unit, one at a time, numbered from 1 in the unit; it can't fail.
 //! - Running out of memory is an error of its own, and says nothing of the font. Only [`report`] and
 //!   [`Waivers::read`] allocate.
@@ -50,7 +51,7 @@ pub use laws::{
 pub use lines::write_fault;
 pub use marks::Mark;
 pub use places::FaultPlace;
-pub use reporting::{report, report_with};
+pub use reporting::{fault_numbered, report, report_with};
 pub use traces::write_step;
 pub use unit_faults::UnitFaults;
 pub use waivers::{LARGEST_WAIVERS, WaiverError, Waivers};

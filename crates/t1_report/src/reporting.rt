@@ -1,10 +1,11 @@
 //! The report of a font, as a walk returns it.
 
-ghost use Rattle.std.specs.Prelude.{◌≤◌, IfOk, length};
+ghost use Rattle.std.specs.Prelude.{◌≤◌, IfOk, IfSome, length, option_map};
 ghost use Rattle.std.specs.List.{All};
 ghost use Rattle.t1_report.specs.Checked.{checked};
 ghost use Rattle.t1_report.specs.Faults.{fault_value, faults_of};
 ghost use Rattle.t1_report.specs.Lines.{IsInFont};
+ghost use Rattle.t1_report.specs.Numbered.{IsNumbered};
 ghost use Rattle.t1_report.specs.Reports.{IsReport};
 ghost use Rattle.t1_report.specs.Waivers.{largest_waivers};
 ghost use Rattle.t1_rules.specs.Components.{AreOf};
@@ -55,6 +56,27 @@ pub fn report_with(
         faults.push(fault)?;
     }
     Ok(faults)
+}
+
+/// Returns the fault of a number in the report, which counts from 1; None where the report has none of this number.
+pub fn fault_numbered(
+    font: &Font<'_>,
+    sidebearings: &Sidebearings,
+    waivers: &Waivers<'_>,
+    number: u64,
+) -> Option<Fault>
+    requires { AreOf font.now sidebearings.now }
+    ensures fault { IsNumbered (checked font.now sidebearings.now.edition) waivers.now number (option_map fault_value result) }
+    ensures in_font { IfSome result (λ fault. IsInFont font.now waivers.now (fault_value fault)) }
+{
+    // The call does nothing: the proof cites what it ensures.
+    are_few(font, waivers);
+    let mut walk = Walk::begin(font, sidebearings, waivers);
+    let mut fault = None;
+    for _count in 0..number {
+        fault = Some(walk.next()?);
+    }
+    fault
 }
 
 /// Neither a font's glyphs nor waivers are so many that the numbers of faults could overflow.
