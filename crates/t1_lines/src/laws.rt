@@ -13,7 +13,6 @@ pub fn faults_are_written_as_lines()
 
 /// The text of a line tells its fault: its number, its place and its rule. A line that is printed behind a font's name is split in one way where the
 /// name has no colon and blank.
-#[tactic(auto, using(crate::proofs::OneFault::one_line, crate::proofs::OneFault::one_fault, crate::proofs::OneFault::one_split))]
 pub fn a_line_tells_one_fault()
     ensures line { ATextIsOneLine }
     ensures fault { AWrittenLineTellsOneFault }

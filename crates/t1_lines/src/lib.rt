@@ -26,8 +26,8 @@ mod words;
 
 pub use faults::{fault_line, place_of};
 pub use laws::{
-    a_line_tells_one_fault, each_refusal_has_a_code, faults_are_small, faults_are_written_as_lines, fonts_have_names,
-    waivers_have_names,
+    a_line_tells_one_fault, each_refusal_has_a_code, faults_are_small, faults_are_written_as_lines,
+    fonts_have_names, waivers_have_names,
 };
 pub use line::{FaultLine, Line, Place};
 pub use words::cut;

@@ -13,10 +13,7 @@ use t1_rules::INDEXES;
 #[derive(Clone, Copy, Debug, PartialEq, Eq)]
 pub enum FaultPlace {
     /// At a key of the font, by its number, and an index.
-    Key {
-        key: u8,
-        index: u16,
-    },
+    Key { key: u8, index: u16 },
     /// In the glyph of this number.
     Glyph(usize),
     /// At the waiver of this number.
