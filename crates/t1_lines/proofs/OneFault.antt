@@ -1,5 +1,5 @@
 -- A text is one line: each of its words ends at a byte that it doesn't have, so equal texts have equal words.
-use Rattle.std.proofs.Common.{◌≡◌, ◌≢◌, ◌<◌, ◌≤◌, ◌^◌, ℕ, true, false, true≢false, ◌==◌, List, [], ◌∷◌, ◌++◌, length, refl, sym, ap, ◌∙◌, inl, inr, arith, Option, Some, None, decimal, codes, flat_map}
+use Rattle.std.proofs.Common.{◌≡◌, ◌≢◌, ◌<◌, ◌≤◌, ◌^◌, ℕ, true, false, true≢false, ◌==◌, List, [], ◌∷◌, ◌++◌, length, refl, sym, ap, ◌∙◌, inl, inr, arith, Some, None, decimal, codes, flat_map}
 use Rattle.std.proofs.lemmas.Bool.{cases_Bool}
 use Rattle.std.proofs.lemmas.Fmt.{decimal_injective}
 use Rattle.std.proofs.lemmas.List.{append-nil, append_cancel_right}
@@ -11,8 +11,8 @@ use Rattle.t1_rules.specs.declared.rule.Rule.{Rule}
 use Rattle.t1_rules.proofs.Lemmas.RuleCodes.{rule_is_found}
 use Rattle.t1_report.specs.Lines.{inner_text, path_text}
 use Rattle.t1_lines.specs.Cutting.{cut}
-use Rattle.t1_lines.specs.Laws.{APrintedLineSplitsOnce, ATextIsOneLine, AWrittenLineTellsOneFault, HasNoColon}
-use Rattle.t1_lines.specs.Lines.{FaultLineValue, IsPlace, PlaceValue, at_key, at_step, at_waiver, fault_spelled, line_in, place_words, spaced}
+use Rattle.t1_lines.specs.Laws.{APrintedLineSplitsOnce, ATextIsOneLine, AWrittenLineTellsOneFault}
+use Rattle.t1_lines.specs.Lines.{IsPlace, PlaceValue, at_key, at_step, at_waiver, fault_spelled, line_in, place_words, spaced}
 use Rattle.t1_lines.proofs.Cuts.{cut-append, lacks, some_same}
 use Rattle.t1_lines.proofs.KeyTexts.{key-found, key_of}
 use Rattle.t1_lines.proofs.Lacking.{lacks-code, lacks-decimal, lacks-key, lacks-name, lacks-path}
