@@ -10,7 +10,7 @@ use crate::layout::Layout;
 use crate::plan::Plan;
 use crate::unlisted::give_unlisted;
 use std::alloc::Global;
-use t1_forms::{FormatError, Sarif};
+use t1_forms::{FormatError, JUnit, Sarif};
 use t1_io::Sink;
 use t1_many::{FontFiles, Lost, Plain};
 use t1_printers::{
@@ -52,11 +52,16 @@ where
     match plan.layout {
         Layout::Lines { reasons } => write_plain(alloc, plan, files, reasons, out, errors),
         Layout::Groups(terminal) => write_groups(alloc, plan, files, terminal, out, errors),
-        Layout::JsonLines { reasons } => {
-            write_formatted(alloc, plan, files, reasons, JsonLines, out, errors)
+        Layout::JsonLines { clean, reasons } => {
+            let lines = JsonLines { clean };
+            write_formatted(alloc, plan, files, reasons, lines, out, errors)
         }
         Layout::GitHub { reasons } => write_commands(alloc, plan, files, reasons, out, errors),
         Layout::Sarif { pages, reasons } => match Sarif::begin(alloc, &mut out, pages) {
+            Ok(document) => write_formatted(alloc, plan, files, reasons, document, out, errors),
+            Err(error) => unwritten(alloc, lost_by(error), out, errors),
+        },
+        Layout::JUnit { failing, reasons } => match JUnit::begin(alloc, &mut out, failing) {
             Ok(document) => write_formatted(alloc, plan, files, reasons, document, out, errors),
             Err(error) => unwritten(alloc, lost_by(error), out, errors),
         },
@@ -166,7 +171,7 @@ where
     T: Formatter + Drop,
     W: Sink + Drop,
     E: Sink + Drop,
-    ensures { WritesFormatted (record { reasons = reasons; writes = T.writes }) T.finishes (run_of plan.entry S.calls files.old files.new)
+    ensures { WritesFormatted (record { reasons = reasons; writes = T.writes; ends = T.ends }) T.finishes (run_of plan.entry S.calls files.old files.new)
         (record { formatter = formatter; out = W.state out; errors = E.state errors })
         (record { out = W.state result.out; errors = E.state result.errors })
         (record { found = result.found; status = result.status }) }
