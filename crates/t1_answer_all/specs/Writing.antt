@@ -25,6 +25,7 @@ use Rattle.t1_printers.specs.Documents.{end_written, telling_written}
 use Rattle.t1_printers.specs.Formatting.{Form, FormattedTakes, Formatting, Output, nothing_ends, output_of}
 use Rattle.t1_printers.specs.JsonLines.{clean_written, object_written}
 use Rattle.t1_printers.specs.declared.github.GitHubCommands.{GitHubCommands as Commands}
+use Rattle.t1_rules.specs.declared.mask.Mask.{Mask}
 use Rattle.t1_run.specs.Opening.{Sinks}
 use Rattle.t1_run.specs.declared.status.Status.{Status}
 
@@ -86,6 +87,12 @@ pub data WritesDocument {T : Type 0} (opening : List ℕ) (Begins : T → Type 0
       (lost : Lost) → IsLinePut old.out new.out opening (Some lost) → new.errors ≡ old.errors → AreUntouched run.files
       → checked.status ≡ Err lost → WritesDocument opening Begins form Finishes run old new checked
 
+-- A document of JUnit's form, in which the lines of these rules fail.
+abbrev pub WritesCases : Mask → Bool → Run → Sinks → Sinks → Checked → Type 0
+WritesCases failing reasons run old new checked =
+    WritesDocument suite_opening (λ document. junit_state document ≡ no_case failing)
+    (record { reasons = reasons; writes = case_telling_written; ends = case_written }) cases_ended run old new checked
+
 -- What is chosen of the fonts was handed on to a form of groups, which had none at first.
 abbrev pub WritesGroups : Writing → Run → Sinks → Sinks → Checked → Type 0
 WritesGroups writing run old new checked =
@@ -123,9 +130,7 @@ WritesBy (sarif pages reasons) run old new checked =
     WritesDocument (opening pages) (λ document. sarif_state document ≡ no_line_of pages)
     (record { reasons = reasons; writes = telling_written; ends = nothing_ends }) end_written run old new checked
 WritesBy (commands reasons) run old new checked = WritesCommands reasons run old new checked
-WritesBy (cases failing reasons) run old new checked =
-    WritesDocument suite_opening (λ document. junit_state document ≡ no_case failing)
-    (record { reasons = reasons; writes = case_telling_written; ends = case_written }) cases_ended run old new checked
+WritesBy (cases failing reasons) run old new checked = WritesCases failing reasons run old new checked
 
 abbrev pub WritesIn : Run → Sinks → Sinks → Checked → Type 0
 WritesIn run = WritesBy run.plan.layout run

@@ -2,7 +2,7 @@
 
 ghost use Rattle.std.specs.Prelude.{◌≡◌, Err};
 ghost use Rattle.t1_answer_all.specs.Plans.{run_of};
-ghost use Rattle.t1_answer_all.specs.Writing.{FinishesChecked, FinishesForm, WritesCommands, WritesFormatted, WritesGroups, WritesIn, WritesPlain, lost_by};
+ghost use Rattle.t1_answer_all.specs.Writing.{FinishesChecked, FinishesForm, WritesCases, WritesCommands, WritesFormatted, WritesGroups, WritesIn, WritesPlain, lost_by};
 ghost use Rattle.t1_many.specs.Handing.{lost_of};
 
 use crate::findings::{Findings, check_fonts};
@@ -16,6 +16,7 @@ use t1_many::{FontFiles, Lost, Plain};
 use t1_printers::{
     Formatted, Formatter, GitHubCommands, GitHubGroups, GroupForm, Grouped, JsonLines,
 };
+use t1_rules::Mask;
 use t1_run::Status;
 
 /// Fonts of which was written what is chosen.
@@ -61,10 +62,9 @@ where
             Ok(document) => write_formatted(alloc, plan, files, reasons, document, out, errors),
             Err(error) => unwritten(alloc, lost_by(error), out, errors),
         },
-        Layout::JUnit { failing, reasons } => match JUnit::begin(alloc, &mut out, failing) {
-            Ok(document) => write_formatted(alloc, plan, files, reasons, document, out, errors),
-            Err(error) => unwritten(alloc, lost_by(error), out, errors),
-        },
+        Layout::JUnit { failing, reasons } => {
+            write_cases(alloc, plan, files, failing, reasons, out, errors)
+        }
     }
 }
 
@@ -153,6 +153,31 @@ where
     match out.flush() {
         Ok(()) => write_groups(alloc, plan, files, GitHubGroups { reasons }, out, errors),
         Err(_) => unwritten(alloc, Lost::Device, out, errors),
+    }
+}
+
+/// The same as a document of JUnit's form, in which the lines of these rules fail.
+fn write_cases<S, W, E>(
+    alloc: Global,
+    plan: Plan<'_>,
+    files: &mut S,
+    failing: Mask,
+    reasons: bool,
+    out: W,
+    errors: E,
+) -> Written<W, E>
+where
+    S: FontFiles,
+    W: Sink + Drop,
+    E: Sink + Drop,
+    ensures { WritesCases failing reasons (run_of plan.entry S.calls files.old files.new)
+        (record { out = W.state out; errors = E.state errors }) (record { out = W.state result.out; errors = E.state result.errors })
+        (record { found = result.found; status = result.status }) }
+{
+    let mut out = out;
+    match JUnit::begin(alloc, &mut out, failing) {
+        Ok(document) => write_formatted(alloc, plan, files, reasons, document, out, errors),
+        Err(error) => unwritten(alloc, lost_by(error), out, errors),
     }
 }
 

@@ -68,7 +68,7 @@ begun failing = record { failing = failing; lines = []; failure = None }
 -- The first line that fails, with one line more.
 abbrev pub first_failure : Option (List ℕ) → Bool → List ℕ → Option (List ℕ)
 first_failure (Some message) fails line = Some message
-first_failure None fails line = if fails then Some (xml_text line) else None
+first_failure None fails line = if fails then Some line else None
 
 -- ---- what is reported
 
@@ -82,7 +82,7 @@ abbrev pub after_what : JUnitState → WhatValue → List ℕ → Option ReasonV
 after_what state (of_line (of_fault l)) line reason =
     record state {
       lines = state.lines ++ line_text line reason;
-      failure = first_failure state.failure (has state.failing (number_of l.rule)) line;
+      failure = first_failure state.failure (has state.failing (number_of l.rule)) (xml_text line);
     }
 after_what state (of_line (of_refusal code)) line reason = state
 after_what state (of_unchecked why) line reason = state

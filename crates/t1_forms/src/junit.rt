@@ -144,14 +144,19 @@ impl JUnit {
         })
     }
 
-    /// Keeps a line that is shown so, where none failed before as one that fails.
+    /// Keeps a line as the first that fails, if it fails and none did before.
     fn keep_failure(&mut self, rule: Rule, line: String)
         ensures { junit_state self.new ≡ record (junit_state self.old) {
           failure = first_failure (junit_state self.old).failure (has self.old.failing (number_of rule)) (string_bytes line);
         } }
     {
-        if self.failure.is_none() && self.failing.has(rule) {
-            self.failure = Some(line);
+        match self.failure {
+            Some(_) => {}
+            None => {
+                if self.failing.has(rule) {
+                    self.failure = Some(line);
+                }
+            }
         }
     }
 

@@ -29,12 +29,12 @@ module _ (reasons : Bool) (failing : Mask) (name : List ℕ) (font : CheckedFont
   first_of (Some message) faults = Some message
 
   first_more : (first : Option (List ℕ)) (fault : FaultValue) (faults : List FaultValue)
-      → first_of (first_failure first (has failing (number_of fault.rule)) (spelled_line font waivers fault)) faults ≡ first_of first (fault ∷ faults)
+      → first_of (first_failure first (has failing (number_of fault.rule)) (xml_text (spelled_line font waivers fault))) faults ≡ first_of first (fault ∷ faults)
   first_more (Some message) fault faults = refl
   first_more None fault faults = by_case (has failing (number_of fault.rule)) refl
     where
       by_case : (fails : Bool) → has failing (number_of fault.rule) ≡ fails
-          → first_of (first_failure None (has failing (number_of fault.rule)) (spelled_line font waivers fault)) faults ≡ first_of None (fault ∷ faults)
+          → first_of (first_failure None (has failing (number_of fault.rule)) (xml_text (spelled_line font waivers fault))) faults ≡ first_of None (fault ∷ faults)
       by_case true is = rw is refl
       by_case false is = rw is refl
 
@@ -61,7 +61,7 @@ module _ (reasons : Bool) (failing : Mask) (name : List ℕ) (font : CheckedFont
       (sym (append-nil lines))
   lines_kept (fault ∷ faults) found lines first more is =
       let text : List ℕ = line_text (spelled_line font waivers fault) (told_fault reasons [] font waivers fault).reason in
-      lines_kept faults found (lines ++ text) (first_failure first (has failing (number_of fault.rule)) (spelled_line font waivers fault)) more is
+      lines_kept faults found (lines ++ text) (first_failure first (has failing (number_of fault.rule)) (xml_text (spelled_line font waivers fault))) more is
       ∙ ap₂ (λ (f : Option (List ℕ)) (l : List ℕ). case_text (Some name) (found_with f l) ++ texts_of (case_stream reasons) (begun failing) more)
       (first_more first fault faults) (append_assoc lines text (font_lines reasons font waivers faults))
 

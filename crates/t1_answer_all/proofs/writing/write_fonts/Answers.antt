@@ -35,7 +35,6 @@ returns-in-Err g c =
     (not_begun (lost_by c.in-Err.error) (rw c.unwritten.ensures.out (not_put Sarif _ _ _ c.in-Err.error c.in-Err.ensures.text))
     (ap g.E.Sink.state c.unwritten.ensures.errors) refl (c.unwritten.ensures.status ∙ ap Err c.lost_by.ensures))
 
-pub returns-in-Ok-begin-2 : goal.returns-in-Ok-begin-2
-returns-in-Ok-begin-2 g c =
-    written_in _ (cases c.in-JUnit.failing c.in-JUnit.reasons) _ _ _ (ap layout_value c.in-JUnit.is)
-    (begun c.in-Ok-begin-2.document _ c.in-Ok-begin-2.ensures.text c.in-Ok-begin-2.ensures.state c.write_formatted-in-Ok-begin-2.ensures)
+pub returns-in-JUnit : goal.returns-in-JUnit
+returns-in-JUnit g c =
+    written_in _ (cases c.in-JUnit.failing c.in-JUnit.reasons) _ _ _ (ap layout_value c.in-JUnit.is) c.write_cases.ensures
