@@ -286,7 +286,7 @@ END
         try 'github-node.yml' 0 env PATH="$HOME/bin:$scratch/services:$PATH" sh run_parts "$scratch/node.parts" "$scratch/node"
         cp sarif.wanted wanted
         ! has jq jq || try 'github-node.yml: SARIF' 0 jq -r "$uris" node/t1check.sarif
-        rm -r "$HOME/bin" "$HOME/package"
+        rm -r "${HOME:?}/bin" "$HOME/package"
         spoil_sums
         wanted <<'END'
 Get t1check: status 1
@@ -356,7 +356,7 @@ END
 --
 END
         try 'gitlab-node.yml: tests' 0 grep -c '^<testcase ' gitlab_node/t1check.xml
-        rm -r "$HOME/bin" "$HOME/package"
+        rm -r "${HOME:?}/bin" "$HOME/package"
     fi
 fi
 

@@ -1,12 +1,12 @@
 -- What is written as a document of JUnit's form.
-use Rattle.std.proofs.Common.{◌≡◌, ℕ, Bool, true, false, List, [], ◌∷◌, ◌++◌, Option, None, Some, find, map, refl, sym, ap, ◌∙◌, append_assoc, append-nil}
-use Rattle.t1_forms.specs.JUnit.{JUnitState, junit_state}
+use Rattle.std.proofs.Common.{◌≡◌, ℕ, Bool, List, [], Option, None, Some, ap}
+use Rattle.t1_forms.specs.JUnit.{junit_state}
 use Rattle.t1_forms.specs.Tellings.{ToldValue}
 use Rattle.t1_forms.specs.declared.junit.JUnit.{JUnit}
-use Rattle.t1_many.specs.Handing.{Handed, HandsOn, done}
+use Rattle.t1_many.specs.Handing.{Handed, HandsOn}
 use Rattle.t1_many.specs.declared.policy.Lost.{Lost}
 use Rattle.t1_printers.proofs.Streams.{Moves, out-none, out-put, seen, takes, written}
-use Rattle.t1_printers.specs.Cases.{AreCases, after_case, case_at_end, case_stream, case_telling_written, case_written, found_written}
+use Rattle.t1_printers.specs.Cases.{AreCases, after_case, case_at_end, case_stream, case_telling_written, case_written}
 use Rattle.t1_printers.specs.Formatting.{Formatting, Output}
 use Rattle.t1_printers.specs.Streams.{IsKept}
 use Rattle.t1_summary.specs.declared.found.FontClass.{FontClass}

@@ -1,12 +1,11 @@
 -- Each font is one case.
-use Rattle.std.proofs.Common.{◌≡◌, ℕ, Bool, true, false, List, [], ◌∷◌, ◌++◌, Option, None, Some, find, map, option_map, refl, sym, ap, ap₂, subst, ◌∙◌, append_assoc, append-nil}
-use Rattle.t1_forms.specs.JUnit.{JUnitState, begun, case_text, first_failure, found_text, found_with, line_text}
+use Rattle.std.proofs.Common.{◌≡◌, ℕ, Bool, true, false, List, [], ◌∷◌, ◌++◌, Option, None, Some, map, refl, sym, ap, ap₂, ◌∙◌, append_assoc, append-nil}
+use Rattle.t1_forms.specs.JUnit.{JUnitState, begun, case_text, first_failure, found_with, line_text}
 use Rattle.t1_forms.specs.Xml.{xml_text}
 use Rattle.t1_many.specs.Handing.{Handed, done, failure, line}
-use Rattle.t1_many.specs.Outcomes.{found_of_error}
 use Rattle.t1_many.specs.declared.font_error.FontError.{FontError}
 use Rattle.t1_many.specs.declared.font_error.FontError.TheVariants as errors
-use Rattle.t1_printers.specs.Cases.{CheckedFontsHaveACase, OtherFontsHaveACase, after_case, after_telling, case_at_end, case_stream, first_failing, font_lines, is_checked, spelled_line}
+use Rattle.t1_printers.specs.Cases.{CheckedFontsHaveACase, OtherFontsHaveACase, case_stream, first_failing, font_lines, is_checked, spelled_line}
 use Rattle.t1_printers.specs.Formatting.{told_fault}
 use Rattle.t1_printers.specs.Streams.{texts_of}
 use Rattle.t1_report.specs.Checked.{CheckedFont}

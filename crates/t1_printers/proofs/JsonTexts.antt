@@ -1,5 +1,5 @@
 -- What is written as lines of JSON.
-use Rattle.std.proofs.Common.{◌≡◌, ℕ, Bool, true, false, List, [], ◌∷◌, ◌++◌, Option, None, Some}
+use Rattle.std.proofs.Common.{◌≡◌, ℕ, Bool, true, List, [], ◌∷◌, ◌++◌, Option, None, Some}
 use Rattle.t1_forms.specs.Tellings.{ToldValue}
 use Rattle.t1_io.specs.Devices.{SinkState}
 use Rattle.t1_many.specs.Handing.{Handed, HandsOn, done}

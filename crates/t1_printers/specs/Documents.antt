@@ -2,7 +2,7 @@
 use Rattle.std.specs.Prelude.{◌≡◌, ◌⊎◌, ℕ, Bool, true, List, [], ◌∷◌, ◌++◌, Option, None, Some}
 use Rattle.std.specs.Io.KnownBytes.{Appends}
 use Rattle.std.specs.List.{flat_map}
-use Rattle.t1_forms.specs.Sarif.{SarifState, after_telling, closing, sarif_state, telling_text}
+use Rattle.t1_forms.specs.Sarif.{after_telling, closing, sarif_state, telling_text}
 use Rattle.t1_forms.specs.SarifDocuments.{tellings_text}
 use Rattle.t1_forms.specs.Tellings.{ToldValue, what_spelled}
 use Rattle.t1_forms.specs.declared.sarif.Sarif.{Sarif}

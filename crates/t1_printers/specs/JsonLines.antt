@@ -1,5 +1,5 @@
 -- Lines of JSON: what is written of things that are handed on.
-use Rattle.std.specs.Prelude.{◌≡◌, ℕ, Bool, true, false, List, [], codes, Option, None, Some}
+use Rattle.std.specs.Prelude.{◌≡◌, ℕ, Bool, true, List, [], codes, Option, None, Some}
 use Rattle.t1_forms.specs.Objects.{font_line, object_line}
 use Rattle.t1_forms.specs.Tellings.{ToldValue}
 use Rattle.t1_io.specs.Devices.{SinkState}
