@@ -43,7 +43,7 @@ _t1check() {
         t1check) options='--after --max --trace --edition --waive --help' ;;
         t1check-all)
             options='-q --edition --only --except --level --fail-on --no-waivers --write-waivers --force --baseline
-                --update-baseline --files-from --exclude --shard --format --docs --columns --colour --long
+                --update-baseline --files-from --exclude --shard --format --docs --clean --columns --colour --long
                 --reasons --no-reasons --no-settings --explain --help --version'
             ;;
         t1draw) options='--edition --waive --step --fault --faulty -o --help' ;;
