@@ -16,7 +16,8 @@ use t1_lines::Line;
 use t1_rules::{Mask, Rule};
 
 /// What is before all cases.
-const OPENING: &str = "<?xml version=\"1.0\" encoding=\"UTF-8\"?>\n<testsuites>\n<testsuite name=\"t1check-all\">\n";
+const OPENING: &str =
+    "<?xml version=\"1.0\" encoding=\"UTF-8\"?>\n<testsuites>\n<testsuite name=\"t1check-all\">\n";
 
 /// What is after them.
 const CLOSING: &str = "</testsuite>\n</testsuites>\n";
@@ -128,11 +129,7 @@ fn error_text(alloc: Global, font: Option<&[u8]>, line: &[u8]) -> Result<String,
 
 impl JUnit {
     /// Begins a document in which the lines of these rules fail.
-    pub fn begin<W: Sink>(
-        alloc: Global,
-        sink: &mut W,
-        failing: Mask,
-    ) -> Result<JUnit, FormatError>
+    pub fn begin<W: Sink>(alloc: Global, sink: &mut W, failing: Mask) -> Result<JUnit, FormatError>
         ensures text { WritesLine (W.state sink.old) (W.state sink.new) opening result }
         ensures state { IfOk result (λ j. junit_state j ≡ begun failing) }
     {

@@ -65,9 +65,9 @@ pub use group::Group;
 pub use grouped::Grouped;
 pub use json_lines::JsonLines;
 pub use laws::{
-    cases_are_written, documents_are_written, fonts_have_cases, group_commands_are_written, grouped_lines_are_flushed,
-    json_lines_are_written, lines_are_counted, lines_are_those_of_reports, lines_fit_terminals,
-    terminal_lines_are_written,
+    cases_are_written, documents_are_written, fonts_have_cases, group_commands_are_written,
+    grouped_lines_are_flushed, json_lines_are_written, lines_are_counted,
+    lines_are_those_of_reports, lines_fit_terminals, terminal_lines_are_written,
 };
 pub use telling::give;
 pub use terminal::Terminal;
