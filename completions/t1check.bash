@@ -43,7 +43,7 @@ _t1check() {
         t1check) options='--after --max --trace --edition --waive --help' ;;
         t1check-all)
             options='-q --edition --only --except --level --fail-on --no-waivers --write-waivers --force --baseline
-                --update-baseline --files-from --exclude --shard --format --docs --columns --colour --long
+                --update-baseline --files-from --exclude --shard --format --docs --clean --columns --colour --long
                 --reasons --no-reasons --no-settings --explain --help --version'
             ;;
         t1draw) options='--edition --waive --step --fault --faulty -o --help' ;;
@@ -56,7 +56,7 @@ _t1check() {
         t1check--edition | t1check-all--edition | t1draw--edition) _t1check_take < <(compgen -W '1 2 3' -- "$word") ;;
         t1check-all--only | t1check-all--except) _t1check_rules "$1" "$word" ;;
         t1check-all--level | t1check-all--fail-on) _t1check_take < <(compgen -W 'must should tidy' -- "$word") ;;
-        t1check-all--format) _t1check_take < <(compgen -W 'jsonl sarif github' -- "$word") ;;
+        t1check-all--format) _t1check_take < <(compgen -W 'jsonl sarif github junit' -- "$word") ;;
         *)
             # With --explain words are codes, as those of t1explain.
             [[ " ${COMP_WORDS[*]} " != *' --explain '* ]] || tool=t1explain

@@ -7,7 +7,7 @@ export LC_ALL
 
 # The page and its module; counts of instructions; manual pages; terminals and shells; recipes; packages; t1lint; the fonts that are measured.
 packages='nodejs chromium binaryen valgrind man-db mandoc bsdutils zsh fish python3 jq
-python3-yaml pre-commit parallel mupdf-tools dpkg-dev lintian lcdf-typetools t1utils
+libxml2-utils python3-yaml pre-commit parallel mupdf-tools dpkg-dev lintian lcdf-typetools t1utils
 fonts-urw-base35 lmodern cm-super-minimal texlive-lang-other'
 most_seconds=300
 

@@ -64,7 +64,7 @@ t1check-all,--except,L:L,L01
 t1explain,H0:H01,H02,H03,H04,H05,H06,H07
 $prefix/bin/t1explain,H02,e0:E01,E02,E03,E04,E05,E06,E07,E08,E09
 t1check-all,--format,s:sarif
-t1check-all,--format,=,:jsonl,sarif,github
+t1check-all,--format,=,:jsonl,sarif,github,junit
 t1check-all,--docs,f:
 t1check-all,--fi:--files-from
 t1check-all,--files-from,f:
@@ -125,6 +125,7 @@ H06	stem beside stem3 (must)
 H07	another stem3 (must)
 github	Write lines in a form for other programs
 jsonl	Write lines in a form for other programs
+junit	Write lines in a form for other programs
 sarif	Write lines in a form for other programs
 font.pfb
 S01	no such Subr (must)

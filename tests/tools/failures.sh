@@ -52,7 +52,7 @@ END
 try 'known faults of a run that was ended' 0 cat known
 
 if [ -c /dev/full ]; then
-    for words in '' '--format jsonl' '--format sarif' '--format github' '--columns 80'; do
+    for words in '' '--format jsonl' '--format sarif' '--format github' '--format junit' '--columns 80'; do
         # shellcheck disable=SC2086
         limited "$all" -q $words glyphs.pfb edge.pfb 2>given >/dev/full
         given=$?

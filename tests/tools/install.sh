@@ -82,11 +82,12 @@ wanted <<'END'
 ./share/doc/t1check/docs/pictures/letter.svg
 ./share/doc/t1check/docs/pictures/page.png
 ./share/doc/t1check/docs/recipes/Jenkinsfile
+./share/doc/t1check/docs/recipes/Jenkinsfile-node
 ./share/doc/t1check/docs/recipes/github-node.yml
 ./share/doc/t1check/docs/recipes/github.yml
+./share/doc/t1check/docs/recipes/gitlab-node.yml
 ./share/doc/t1check/docs/recipes/gitlab.jq
 ./share/doc/t1check/docs/recipes/gitlab.yml
-./share/doc/t1check/docs/recipes/junit.jq
 ./share/doc/t1check/docs/recipes/pre-commit-config.yaml
 ./share/doc/t1check/docs/recipes/rows.jq
 ./share/doc/t1check/docs/recipes/sums.awk

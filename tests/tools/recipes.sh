@@ -40,7 +40,7 @@ for file in "$recipes"/*; do
         fail "docs/recipes/$name: no words at its top, or not on the page"
     fi
 done
-for name in github.yml github-node.yml gitlab.yml Jenkinsfile pre-commit-config.yaml; do
+for name in github.yml github-node.yml gitlab.yml gitlab-node.yml Jenkinsfile Jenkinsfile-node pre-commit-config.yaml; do
     if grep -qF "$version" "$recipes/$name"; then pass; else fail "docs/recipes/$name: not of version $version"; fi
 done
 
@@ -58,51 +58,6 @@ echo 'B H02' >shelf/two.pfa.waivers
 limited "$all" -q --format jsonl --files-from fonts.txt >shelf.jsonl 2>/dev/null
 
 if has jq jq; then
-    wanted <<'END'
-<testsuite name="t1check" tests="13" failures="11">
-<testcase classname="shelf/a|b.pfa" name="glyph A - 4 P03"><failure message="closepath without a path"/></testcase>
-<testcase classname="shelf/cut.pfa" name="refused E03"><failure message="segment cut short"/></testcase>
-<testcase classname="shelf/glyphs.pfb" name="font BlueValues 1 Z07"><failure message="zone too high for BlueScale"/></testcase>
-<testcase classname="shelf/glyphs.pfb" name="font StdHW 0 Z01"><failure message="value of another kind"/></testcase>
-<testcase classname="shelf/glyphs.pfb" name="glyph A 5 6 P03"><failure message="closepath without a path"/></testcase>
-<testcase classname="shelf/glyphs.pfb" name="glyph A - 12 P02"><failure message="path not closed"/></testcase>
-<testcase classname="shelf/glyphs.pfb" name="glyph B - 4 GE01"><failure message="no endchar"/></testcase>
-<testcase classname="shelf/two.pfa" name="glyph A - 4 P03"><failure message="closepath without a path"/></testcase>
-<testcase classname="shelf/two.pfa" name="glyph A - 5 P03"><failure message="closepath without a path"/></testcase>
-<testcase classname="shelf/two.pfa" name="waiver B H02 U01"><failure message="waiver not used"/></testcase>
-<testcase classname="missing.pfb" name="unchecked"><failure message="read failed: no such file or folder"/></testcase>
-<testcase classname="shelf/back\\slash.pfa" name="t1check"/>
-<testcase classname="shelf/clean.pfa" name="t1check"/>
-</testsuite>
---
-END
-    try 'junit.jq' 0 jq -rs --rawfile fonts fonts.txt -f "$recipes/junit.jq" shelf.jsonl
-    cp "$scratch/out" shelf.xml
-    wanted <<'END'
-<testsuite name="t1check" tests="2" failures="0">
-<testcase classname="a&lt;&amp;&quot;\x1B.pfb" name="t1check"/>
-<testcase classname="b.pfb" name="t1check"/>
-</testsuite>
---
-END
-    printf '././b.pfb\n\na<&"\033.pfb\nb.pfb\n' >names
-    try 'junit.jq, clean fonts alone' 0 jq -rs --rawfile fonts names -f "$recipes/junit.jq" /dev/null
-    wanted <<'END'
-<testsuite name="t1check" tests="11" failures="11">
---
-END
-    # shellcheck disable=SC2016
-    try 'junit.jq without a list' 0 sh -c 'jq -rs -f "$0/junit.jq" shelf.jsonl | head -n 1' "$recipes"
-    if has python3 python3; then
-        wanted <<'END'
-13 13
---
-END
-        try 'junit.jq by a parser: tests, and their names' 0 python3 -c '
-import xml.etree.ElementTree as E
-cases = [(c.get("classname"), c.get("name")) for c in E.parse("shelf.xml").getroot()]
-print(len(cases), len(set(cases)))'
-    fi
     limited jq -s -f "$recipes/gitlab.jq" shelf.jsonl >shelf.json
     wanted <<'END'
 ["unchecked: read failed: no such file or folder","unchecked","blocker","missing.pfb"]
@@ -185,9 +140,12 @@ done
 END
 cat >services/npm <<'END'
 #!/bin/sh
-[ "$1 $2" = 'install -g' ] && mkdir -p "$HOME/bin" && tar -xzf "$3" -C "$HOME" || exit 1
-for program in "$HOME"/package/web/t1*.mjs; do
-    ln -sf "$program" "$HOME/bin/$(basename "$program" .mjs)"
+[ "$1 $2" = 'install -g' ] || exit 1
+prefix=$HOME
+[ "$3" != --prefix ] || { prefix=$4 && shift 2; }
+mkdir -p "$prefix/bin" && tar -xzf "$3" -C "$prefix" || exit 1
+for program in "$prefix"/package/web/t1*.mjs; do
+    ln -sf "$program" "$prefix/bin/$(basename "$program" .mjs)"
 done
 END
 printf '#!/bin/sh\n' >services/apt-get
@@ -209,7 +167,7 @@ make_project() {
     rm -rf "$1"
     mkdir -p "$1/fonts" "$1/ci"
     cp shelf/clean.pfa shelf/cut.pfa edge.pfb "$1/fonts/"
-    cp "$recipes/gitlab.jq" "$recipes/junit.jq" "$1/ci/"
+    cp "$recipes/gitlab.jq" "$1/ci/"
 }
 
 # Writes the shell's lines of a file of YAML, one file a part, and the variables as exports: FILE FOLDER. A part that runs after a failed one too is
@@ -328,7 +286,7 @@ END
         try 'github-node.yml' 0 env PATH="$HOME/bin:$scratch/services:$PATH" sh run_parts "$scratch/node.parts" "$scratch/node"
         cp sarif.wanted wanted
         ! has jq jq || try 'github-node.yml: SARIF' 0 jq -r "$uris" node/t1check.sarif
-        rm -r "$HOME/bin" "$HOME/package"
+        rm -r "${HOME:?}/bin" "$HOME/package"
         spoil_sums
         wanted <<'END'
 Get t1check: status 1
@@ -348,6 +306,7 @@ END
             # Later runs take the program from the cache.
             : >release/none
             cat gitlab/t1check.json >>gitlab.json
+            cat gitlab/t1check.xml >>gitlab.xml
         done >gitlab.runs
         rm release/none
         sort gitlab.runs | uniq -c | sed 's/^ *//' >gitlab.counts
@@ -366,24 +325,43 @@ glyph A step 9: H02 stems overlap
 --
 END
         try 'gitlab.yml: code quality' 0 jq -r '.[].description' gitlab.json
+        wanted <<'END'
+<testcase classname="t1check-all" name="fonts/clean.pfa" file="fonts/clean.pfa"></testcase>
+<testcase classname="t1check-all" name="fonts/cut.pfa" file="fonts/cut.pfa"><error message="refused: E03 segment cut short">refused: E03 segment cut short
+<testcase classname="t1check-all" name="fonts/edge.pfb" file="fonts/edge.pfb"><failure message="1: glyph A - 9 H02 stems overlap">1: glyph A - 9 H02 stems overlap
+<testsuite name="t1check-all">
+<testsuite name="t1check-all">
+<testsuite name="t1check-all">
+<testsuite name="t1check-all">
+<testsuites>
+<testsuites>
+<testsuites>
+<testsuites>
+--
+END
+        try 'gitlab.yml: tests' 0 sh -c 'grep "^<test" gitlab.xml | sort'
+    fi
+    if [ -n "$node_runs" ]; then
+        make_project gitlab_node
+        python3 parts.py "$recipes/gitlab-node.yml" "$scratch/gitlab_node.parts"
+        wanted <<END
+before: status 0
+$node_package: OK
+script: status 2
+--
+END
+        try 'gitlab-node.yml' 0 env PATH="$HOME/bin:$scratch/services:$PATH" sh run_parts "$scratch/gitlab_node.parts" "$scratch/gitlab_node"
+        wanted <<'END'
+3
+--
+END
+        try 'gitlab-node.yml: tests' 0 grep -c '^<testcase ' gitlab_node/t1check.xml
+        rm -r "${HOME:?}/bin" "$HOME/package"
     fi
 fi
 
 # A pipeline for Jenkins: its variables, and what is between its quotes, which has no backslash that Groovy would read.
-if has jq jq; then
-    make_project jenkins
-    rm -rf "$HOME/t1check-$version"
-    mkdir jenkins.parts
-    awk -v q="'" -v folder="$scratch/jenkins.parts" '
-        $1 ~ /^[A-Z]+$/ && $2 == "=" { print "export " $1 "=" $3 >(folder "/variables") }
-        index($0, q q q) { within = !within; if (within) part = folder "/" number++; next }
-        within { print >part }
-    ' "$recipes/Jenkinsfile"
-    wanted <<'END'
---
-END
-    try 'Jenkinsfile: backslashes' 1 grep -nF \\ "$recipes/Jenkinsfile"
-    cat >run_jenkins <<'END'
+cat >run_jenkins <<'END'
 cd "$2" || exit
 . "$1/variables"
 for part in "$1"/[0-9]*; do
@@ -391,51 +369,73 @@ for part in "$1"/[0-9]*; do
     echo "status $?"
 done
 END
-    wanted <<END
+# Makes a project, and such parts of a file: FILE PROJECT.
+make_jenkins() {
+    make_project "$2"
+    mkdir "$2.parts"
+    awk -v q="'" -v folder="$scratch/$2.parts" '
+        $1 ~ /^[A-Z]+$/ && $2 == "=" { print "export " $1 "=" $3 >(folder "/variables") }
+        index($0, q q q) { within = !within; if (within) part = folder "/" number++; next }
+        within { print >part }
+    ' "$recipes/$1"
+    wanted <<'END'
+--
+END
+    try "$1: backslashes" 1 grep -nF \\ "$recipes/$1"
+}
+rm -rf "$HOME/t1check-$version"
+make_jenkins Jenkinsfile jenkins
+wanted <<END
 $tarball: OK
 status 0
 status 0
 --
 END
-    try 'Jenkinsfile' 0 env PATH="$scratch/services:$PATH" sh run_jenkins "$scratch/jenkins.parts" "$scratch/jenkins"
-    wanted <<'END'
+try 'Jenkinsfile' 0 env PATH="$scratch/services:$PATH" sh run_jenkins "$scratch/jenkins.parts" "$scratch/jenkins"
+wanted <<'END'
 status 0
 status 0
 --
 END
-    : >release/none
-    try 'Jenkinsfile, once more' 0 env PATH="$scratch/services:$PATH" sh run_jenkins "$scratch/jenkins.parts" "$scratch/jenkins"
-    rm release/none
-    wanted <<'END'
-<testcase classname="fonts/clean.pfa" name="t1check"/>
-<testcase classname="fonts/cut.pfa" name="refused E03"><failure message="segment cut short"/></testcase>
-<testcase classname="fonts/edge.pfb" name="glyph A - 9 H02"><failure message="stems overlap"/></testcase>
-<testsuite name="t1check" tests="3" failures="2">
---
-END
-    # shellcheck disable=SC2016
-    try 'Jenkinsfile: tests' 0 sh -c 'grep "^<test" "$0" | sort' jenkins/t1check.xml
-    rm jenkins/fonts/*.pfb jenkins/fonts/cut.pfa
-    wanted <<'END'
-status 0
-status 0
---
-END
-    try 'Jenkinsfile, clean fonts' 0 sh run_jenkins "$scratch/jenkins.parts" "$scratch/jenkins"
-    wanted <<'END'
-<testsuite name="t1check" tests="1" failures="0">
-<testcase classname="fonts/clean.pfa" name="t1check"/>
+: >release/none
+try 'Jenkinsfile, once more' 0 env PATH="$scratch/services:$PATH" sh run_jenkins "$scratch/jenkins.parts" "$scratch/jenkins"
+rm release/none
+wanted <<'END'
+<?xml version="1.0" encoding="UTF-8"?>
+<testsuites>
+<testsuite name="t1check-all">
+<testcase classname="t1check-all" name="fonts/clean.pfa" file="fonts/clean.pfa"></testcase>
+<testcase classname="t1check-all" name="fonts/cut.pfa" file="fonts/cut.pfa"><error message="refused: E03 segment cut short">refused: E03 segment cut short
+</error></testcase>
+<testcase classname="t1check-all" name="fonts/edge.pfb" file="fonts/edge.pfb"><failure message="1: glyph A - 9 H02 stems overlap">1: glyph A - 9 H02 stems overlap
+</failure></testcase>
 </testsuite>
+</testsuites>
 --
 END
-    try 'Jenkinsfile, clean fonts: tests' 0 cat jenkins/t1check.xml
-    ln -s nowhere jenkins/fonts/lost.pfb
-    wanted <<'END'
+try 'Jenkinsfile: tests' 0 cat jenkins/t1check.xml
+ln -s nowhere jenkins/fonts/lost.pfb
+wanted <<'END'
 status 0
 status 1
 --
 END
-    try 'Jenkinsfile, a font that is missing' 0 sh run_jenkins "$scratch/jenkins.parts" "$scratch/jenkins"
+try 'Jenkinsfile, a font that is missing' 0 sh run_jenkins "$scratch/jenkins.parts" "$scratch/jenkins"
+if [ -n "$node_runs" ]; then
+    make_jenkins Jenkinsfile-node jenkins_node
+    wanted <<END
+$(grep "$node_package" release/SHA256SUMS)
+status 0
+status 0
+--
+END
+    try 'Jenkinsfile-node' 0 env PATH="$scratch/services:$PATH" sh run_jenkins "$scratch/jenkins_node.parts" "$scratch/jenkins_node"
+    wanted <<'END'
+3
+--
+END
+    try 'Jenkinsfile-node: tests' 0 grep -c '^<testcase ' jenkins_node/t1check.xml
+    rm -r "$HOME/t1check-node-$version"
 fi
 
 # ---- the page's commands, in a project that has what they name

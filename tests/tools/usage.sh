@@ -26,8 +26,8 @@ usage '--update-baseline wants --baseline' --update-baseline glyphs.pfb
 usage '--update-baseline and --shard exclude one another' --update-baseline --baseline known --shard 1/2 glyphs.pfb
 usage '--write-waivers excludes --baseline and --shard' --write-waivers --shard 1/2 glyphs.pfb
 usage '--force wants --write-waivers' --force glyphs.pfb
-usage '--format wants jsonl, sarif or github' --format json glyphs.pfb
-usage '--format wants jsonl, sarif or github' --format= glyphs.pfb
+usage '--format wants jsonl, sarif, github or junit' --format json glyphs.pfb
+usage '--format wants jsonl, sarif, github or junit' --format= glyphs.pfb
 usage '--docs wants a URL' --format sarif --docs= glyphs.pfb
 usage '--docs wants --format' --docs https://example.org/RULES.md glyphs.pfb
 

@@ -1,14 +1,14 @@
 -- What is written of fonts, by the layout.
-use Rattle.std.specs.Prelude.{◌≡◌, Bool, List, Option, None, Some, Result, Ok, Err, IfOk}
+use Rattle.std.specs.Prelude.{◌≡◌, ℕ, Bool, List, Option, None, Some, Result, Ok, Err, IfOk}
 use Rattle.t1_answer_all.specs.Checks.{Checked, ChecksFonts, IsFound}
 use Rattle.t1_answer_all.specs.Unlisted.{GivesEach}
 use Rattle.t1_answer_all.specs.Plans.{Run}
-use Rattle.t1_answer_all.specs.Layouts.{LayoutValue, commands, groups, json_lines, lines, sarif}
-use Rattle.t1_forms.specs.PageValues.{PagesValue}
+use Rattle.t1_answer_all.specs.Layouts.{LayoutValue, cases, commands, groups, json_lines, lines, sarif}
+use Rattle.t1_forms.specs.JUnit.{begun as no_case, junit_state, opening as suite_opening}
 use Rattle.t1_forms.specs.Sarif.{begun as no_line_of, opening, sarif_state}
 use Rattle.t1_forms.specs.declared.error.FormatError.{FormatError}
 use Rattle.t1_forms.specs.declared.error.FormatError.TheVariants as errors
-use Rattle.t1_forms.specs.declared.sarif.Sarif.{Sarif as Document}
+use Rattle.t1_printers.specs.Cases.{case_telling_written, case_written, cases_ended}
 use Rattle.t1_printers.specs.Commands.{command_writing, command_written}
 use Rattle.t1_printers.specs.GroupLines.{Writing}
 use Rattle.t1_printers.specs.Grouping.{GroupedTakes}
@@ -22,10 +22,10 @@ use Rattle.t1_many.specs.Plain.{IsFlushed, IsLinePut, PlainTakes}
 use Rattle.t1_many.specs.declared.policy.Lost.{Lost}
 use Rattle.t1_many.specs.declared.policy.Lost.TheVariants.{Device, Memory}
 use Rattle.t1_printers.specs.Documents.{end_written, telling_written}
-use Rattle.t1_printers.specs.Formatting.{Form, FormattedTakes, Formatting, Output, output_of}
-use Rattle.t1_printers.specs.JsonLines.{object_written}
+use Rattle.t1_printers.specs.Formatting.{Form, FormattedTakes, Formatting, Output, nothing_ends, output_of}
+use Rattle.t1_printers.specs.JsonLines.{clean_written, object_written}
 use Rattle.t1_printers.specs.declared.github.GitHubCommands.{GitHubCommands as Commands}
-use Rattle.t1_printers.specs.declared.json_lines.JsonLines.{JsonLines as Objects}
+use Rattle.t1_rules.specs.declared.mask.Mask.{Mask}
 use Rattle.t1_run.specs.Opening.{Sinks}
 use Rattle.t1_run.specs.declared.status.Status.{Status}
 
@@ -76,16 +76,22 @@ abbrev pub lost_by : FormatError → Lost
 lost_by errors.Memory = Memory
 lost_by errors.Broken = Device
 
--- A document of SARIF was begun, and then written; or it couldn't be begun.
-pub data WritesDocument (reasons : Bool) (pages : PagesValue) (run : Run) (old new : Sinks) (checked : Checked) : Type 0 where
+-- A document was begun by an opening, and then written; or it couldn't be begun.
+pub data WritesDocument {T : Type 0} (opening : List ℕ) (Begins : T → Type 0) (form : Form T) (Finishes : T → SinkState → SinkState → Option Lost → Type 0)
+    (run : Run) (old new : Sinks) (checked : Checked) : Type 0 where
   begun :
-      (document : Document) → (behind : SinkState) → Wrote old.out behind (opening pages) → sarif_state document ≡ no_line_of pages
-      → WritesFormatted (record { reasons = reasons; writes = telling_written }) end_written run
-      (record { formatter = document; out = behind; errors = old.errors }) new checked
-      → WritesDocument reasons pages run old new checked
+      (document : T) → (behind : SinkState) → Wrote old.out behind opening → Begins document
+      → WritesFormatted form Finishes run (record { formatter = document; out = behind; errors = old.errors }) new checked
+      → WritesDocument opening Begins form Finishes run old new checked
   not_begun :
-      (lost : Lost) → IsLinePut old.out new.out (opening pages) (Some lost) → new.errors ≡ old.errors → AreUntouched run.files
-      → checked.status ≡ Err lost → WritesDocument reasons pages run old new checked
+      (lost : Lost) → IsLinePut old.out new.out opening (Some lost) → new.errors ≡ old.errors → AreUntouched run.files
+      → checked.status ≡ Err lost → WritesDocument opening Begins form Finishes run old new checked
+
+-- A document of JUnit's form, in which the lines of these rules fail.
+abbrev pub WritesCases : Mask → Bool → Run → Sinks → Sinks → Checked → Type 0
+WritesCases failing reasons run old new checked =
+    WritesDocument suite_opening (λ document. junit_state document ≡ no_case failing)
+    (record { reasons = reasons; writes = case_telling_written; ends = case_written }) cases_ended run old new checked
 
 -- What is chosen of the fonts was handed on to a form of groups, which had none at first.
 abbrev pub WritesGroups : Writing → Run → Sinks → Sinks → Checked → Type 0
@@ -117,12 +123,14 @@ abbrev pub WritesBy : LayoutValue → Run → Sinks → Sinks → Checked → Ty
 WritesBy (lines reasons) run old new checked = WritesPlain reasons run old new checked
 WritesBy (groups terminal) run old new checked =
     WritesGroups (terminal_writing terminal.width terminal.has_colours terminal.reasons) run old new checked
-WritesBy (json_lines reasons) run old new checked =
-    (formatter : Objects)
-    × WritesFormatted (record { reasons = reasons; writes = object_written }) NoEnd run
-    (record { formatter = formatter; out = old.out; errors = old.errors }) new checked
-WritesBy (sarif pages reasons) run old new checked = WritesDocument reasons pages run old new checked
+WritesBy (json_lines clean reasons) run old new checked =
+    WritesFormatted (record { reasons = reasons; writes = object_written; ends = clean_written }) NoEnd run
+    (record { formatter = record { clean = clean }; out = old.out; errors = old.errors }) new checked
+WritesBy (sarif pages reasons) run old new checked =
+    WritesDocument (opening pages) (λ document. sarif_state document ≡ no_line_of pages)
+    (record { reasons = reasons; writes = telling_written; ends = nothing_ends }) end_written run old new checked
 WritesBy (commands reasons) run old new checked = WritesCommands reasons run old new checked
+WritesBy (cases failing reasons) run old new checked = WritesCases failing reasons run old new checked
 
 abbrev pub WritesIn : Run → Sinks → Sinks → Checked → Type 0
 WritesIn run = WritesBy run.plan.layout run

@@ -7,6 +7,7 @@ ghost use Rattle.t1_forms.specs.PageValues.{page_value};
 use t1_forms::{Page, Pages};
 use t1_options::{Format, Options, Reasons};
 use t1_printers::Terminal;
+use t1_rules::Mask;
 use t1_run::borrowed;
 
 /// How what is chosen is written.
@@ -16,12 +17,14 @@ pub enum Layout<'a> {
     Lines { reasons: bool },
     /// As on a terminal, a line for each font and rule.
     Groups(Terminal),
-    /// As lines of JSON.
-    JsonLines { reasons: bool },
+    /// As lines of JSON, if requested also of fonts of which no line is reported.
+    JsonLines { clean: bool, reasons: bool },
     /// As a document of SARIF, with these pages.
     Sarif { pages: Pages<'a>, reasons: bool },
     /// As commands of GitHub, one for each font and rule.
     GitHub { reasons: bool },
+    /// As a document of JUnit's form, in which the lines of these rules fail.
+    JUnit { failing: Mask, reasons: bool },
 }
 
 /// The layout that options request. A document of SARIF has these pages.
@@ -30,7 +33,10 @@ pub fn layout_of<'a>(options: &'a Options, pages: &'a [Page]) -> Layout<'a>
 {
     let reasons = have_each(options.reasons);
     match options.form {
-        Some(Format::JsonLines) => Layout::JsonLines { reasons },
+        Some(Format::JsonLines) => Layout::JsonLines {
+            clean: options.clean,
+            reasons,
+        },
         Some(Format::Sarif) => Layout::Sarif {
             pages: Pages {
                 list: pages,
@@ -39,6 +45,10 @@ pub fn layout_of<'a>(options: &'a Options, pages: &'a [Page]) -> Layout<'a>
             reasons,
         },
         Some(Format::GitHub) => Layout::GitHub { reasons },
+        Some(Format::JUnit) => Layout::JUnit {
+            failing: options.failing,
+            reasons,
+        },
         None => without_form(options),
     }
 }

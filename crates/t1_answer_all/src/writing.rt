@@ -2,7 +2,7 @@
 
 ghost use Rattle.std.specs.Prelude.{◌≡◌, Err};
 ghost use Rattle.t1_answer_all.specs.Plans.{run_of};
-ghost use Rattle.t1_answer_all.specs.Writing.{FinishesChecked, FinishesForm, WritesCommands, WritesFormatted, WritesGroups, WritesIn, WritesPlain, lost_by};
+ghost use Rattle.t1_answer_all.specs.Writing.{FinishesChecked, FinishesForm, WritesCases, WritesCommands, WritesFormatted, WritesGroups, WritesIn, WritesPlain, lost_by};
 ghost use Rattle.t1_many.specs.Handing.{lost_of};
 
 use crate::findings::{Findings, check_fonts};
@@ -10,12 +10,13 @@ use crate::layout::Layout;
 use crate::plan::Plan;
 use crate::unlisted::give_unlisted;
 use std::alloc::Global;
-use t1_forms::{FormatError, Sarif};
+use t1_forms::{FormatError, JUnit, Sarif};
 use t1_io::Sink;
 use t1_many::{FontFiles, Lost, Plain};
 use t1_printers::{
     Formatted, Formatter, GitHubCommands, GitHubGroups, GroupForm, Grouped, JsonLines,
 };
+use t1_rules::Mask;
 use t1_run::Status;
 
 /// Fonts of which was written what is chosen.
@@ -52,14 +53,18 @@ where
     match plan.layout {
         Layout::Lines { reasons } => write_plain(alloc, plan, files, reasons, out, errors),
         Layout::Groups(terminal) => write_groups(alloc, plan, files, terminal, out, errors),
-        Layout::JsonLines { reasons } => {
-            write_formatted(alloc, plan, files, reasons, JsonLines, out, errors)
+        Layout::JsonLines { clean, reasons } => {
+            let lines = JsonLines { clean };
+            write_formatted(alloc, plan, files, reasons, lines, out, errors)
         }
         Layout::GitHub { reasons } => write_commands(alloc, plan, files, reasons, out, errors),
         Layout::Sarif { pages, reasons } => match Sarif::begin(alloc, &mut out, pages) {
             Ok(document) => write_formatted(alloc, plan, files, reasons, document, out, errors),
             Err(error) => unwritten(alloc, lost_by(error), out, errors),
         },
+        Layout::JUnit { failing, reasons } => {
+            write_cases(alloc, plan, files, failing, reasons, out, errors)
+        }
     }
 }
 
@@ -151,6 +156,31 @@ where
     }
 }
 
+/// The same as a document of JUnit's form, in which the lines of these rules fail.
+fn write_cases<S, W, E>(
+    alloc: Global,
+    plan: Plan<'_>,
+    files: &mut S,
+    failing: Mask,
+    reasons: bool,
+    out: W,
+    errors: E,
+) -> Written<W, E>
+where
+    S: FontFiles,
+    W: Sink + Drop,
+    E: Sink + Drop,
+    ensures { WritesCases failing reasons (run_of plan.entry S.calls files.old files.new)
+        (record { out = W.state out; errors = E.state errors }) (record { out = W.state result.out; errors = E.state result.errors })
+        (record { found = result.found; status = result.status }) }
+{
+    let mut out = out;
+    match JUnit::begin(alloc, &mut out, failing) {
+        Ok(document) => write_formatted(alloc, plan, files, reasons, document, out, errors),
+        Err(error) => unwritten(alloc, lost_by(error), out, errors),
+    }
+}
+
 /// The same in the form of a formatter, which has written what comes before all else.
 fn write_formatted<S, T, W, E>(
     alloc: Global,
@@ -166,7 +196,7 @@ where
     T: Formatter + Drop,
     W: Sink + Drop,
     E: Sink + Drop,
-    ensures { WritesFormatted (record { reasons = reasons; writes = T.writes }) T.finishes (run_of plan.entry S.calls files.old files.new)
+    ensures { WritesFormatted (record { reasons = reasons; writes = T.writes; ends = T.ends }) T.finishes (run_of plan.entry S.calls files.old files.new)
         (record { formatter = formatter; out = W.state out; errors = E.state errors })
         (record { out = W.state result.out; errors = E.state result.errors })
         (record { found = result.found; status = result.status }) }

@@ -1,4 +1,5 @@
 pub mod Commands
+pub mod JUnit
 pub mod Laws
 pub mod Members
 pub mod NameWords
@@ -12,3 +13,4 @@ pub mod SarifObjects
 pub mod Shown
 pub mod Tellings
 pub mod Writing
+pub mod Xml

@@ -82,3 +82,14 @@ object_of t = object (with_reason t.reason (with_font t.font (what_members t.wha
 -- The line that is written of it, with its end.
 abbrev pub object_line : ToldValue → List ℕ
 object_line t = compact_text (object_of t) ++ codes "\n"
+
+-- The object of a font of which no line is reported, and its line.
+abbrev pub font_object : List ℕ → List ℕ → List ℕ → Data
+font_object font unit description =
+    object
+    (member (codes "file") (string (shown font))
+    (member (codes "text") (string description)
+    (member (codes "unit") (string unit) no_members)))
+
+abbrev pub font_line : List ℕ → List ℕ → List ℕ → List ℕ
+font_line font unit description = compact_text (font_object font unit description) ++ codes "\n"

@@ -4,14 +4,14 @@ ghost use Rattle.std.specs.Prelude.{◌≡◌, IfOk, option_map, string_bytes};
 ghost use Rattle.serde_json.specs.Data.{string};
 ghost use Rattle.serde_json.specs.View.{members_view, view};
 ghost use Rattle.t1_lines.specs.Lines.{at_key, at_step, at_waiver, place_value};
-ghost use Rattle.t1_forms.specs.Objects.{fault_members, list_of, members_of_all, object_line, object_of, reason_object, refusal_code_of, refusal_reason_of, what_members, with_font};
+ghost use Rattle.t1_forms.specs.Objects.{fault_members, font_line, font_object, list_of, members_of_all, object_line, object_of, reason_object, refusal_code_of, refusal_reason_of, what_members, with_font};
 ghost use Rattle.t1_forms.specs.Shown.{shown};
 ghost use Rattle.t1_forms.specs.Tellings.{reason_value, told_value, what_value};
 ghost use Rattle.t1_forms.specs.Writing.{WritesLine};
 
 use crate::members::reason_members;
 use crate::{FormatError, Told, ToldReason, What, shown};
-use serde_json::{Map, Value, put};
+use serde_json::{Map, Value, json, put};
 use std::alloc::{AllocError, Global};
 use t1_font::{RefusalCode, refusal_text};
 use t1_io::{Sink, put_all};
@@ -274,6 +274,49 @@ pub fn write_object<W: Sink>(
     ensures { WritesLine (W.state sink.old) (W.state sink.new) (object_line (told_value told.now)) result }
 {
     let line = object_line(alloc, told)?;
+    put_all(sink, line.as_bytes())?;
+    Ok(())
+}
+
+/// The object of a font of which no line is reported.
+fn font_object(
+    alloc: Global,
+    font: &[u8],
+    unit: &str,
+    description: &str,
+) -> Result<Value, AllocError>
+    ensures { IfOk result (λ v. view v ≡ font_object font.now unit.now description.now) }
+{
+    let file = text(alloc, font)?;
+    json!(in alloc; {"file": file, "text": description, "unit": unit})
+}
+
+/// The line that is written of it.
+fn font_line(
+    alloc: Global,
+    font: &[u8],
+    unit: &str,
+    description: &str,
+) -> Result<String, AllocError>
+    ensures { IfOk result (λ s. string_bytes s ≡ font_line font.now unit.now description.now) }
+{
+    let object = font_object(alloc, font, unit, description)?;
+    let mut text = object.to_string(alloc)?;
+    text.push_str("\n")?;
+    Ok(text)
+}
+
+/// Writes an object of a font of which no line is reported, without blanks, and byte 10. Its members: `file`, `text` and `unit`.
+pub fn write_font<W: Sink>(
+    alloc: Global,
+    sink: &mut W,
+    font: &[u8],
+    unit: &str,
+    description: &str,
+) -> Result<(), FormatError>
+    ensures { WritesLine (W.state sink.old) (W.state sink.new) (font_line font.now unit.now description.now) result }
+{
+    let line = font_line(alloc, font, unit, description)?;
     put_all(sink, line.as_bytes())?;
     Ok(())
 }

@@ -50,6 +50,7 @@ rules =
     ∷ option_rule (codes "shard")
     ∷ option_rule (codes "format")
     ∷ option_rule (codes "docs")
+    ∷ flag_rule (codes "clean")
     ∷ option_rule (codes "columns")
     ∷ flag_rule (codes "colour")
     ∷ flag_rule (codes "long")

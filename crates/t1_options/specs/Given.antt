@@ -22,6 +22,7 @@ pub record GivenValue : Type 0 where
   pub shard : Option Text
   pub format : Option Text
   pub docs : Option Text
+  pub clean : Bool
   pub columns : Option Text
   pub colour : Bool
   pub long : Bool
@@ -60,6 +61,7 @@ given_in rows = record {
   shard = first_of (codes "shard") rows;
   format = first_of (codes "format") rows;
   docs = first_of (codes "docs") rows;
+  clean = is_in rows (codes "clean");
   columns = first_of (codes "columns") rows;
   colour = is_in rows (codes "colour");
   long = is_in rows (codes "long");
@@ -95,6 +97,7 @@ given_value g = record {
   shard = option_map (λ s. s.now) g.shard;
   format = option_map (λ s. s.now) g.format;
   docs = option_map (λ s. s.now) g.docs;
+  clean = g.clean;
   columns = option_map (λ s. s.now) g.columns;
   colour = g.colour;
   long = g.long;

@@ -54,6 +54,7 @@ pub record HasValues (given : GivenValue) (options : Options) : Type 0 where
   pub shard : options.shard ≡ option_and_then shard_in given.shard
   pub form : options.form ≡ option_and_then form_in given.format
   pub docs : option_map string_bytes options.docs ≡ option_and_then url_in given.docs
+  pub clean : options.clean ≡ given.clean
   pub columns : options.columns ≡ option_and_then number_in given.columns
   pub colour : options.colour ≡ given.colour
   pub long : options.long ≡ given.long

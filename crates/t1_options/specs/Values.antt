@@ -9,7 +9,7 @@ use Rattle.t1_char.specs.declared.edition.Edition.{Edition}
 use Rattle.t1_char.specs.Editions.{edition_numbered}
 use Rattle.t1_scan.specs.Bytes.{is_decimal_digit}
 use Rattle.t1_options.specs.declared.asked.Format.{Format}
-use Rattle.t1_options.specs.declared.asked.Format.TheVariants.{GitHub, JsonLines, Sarif}
+use Rattle.t1_options.specs.declared.asked.Format.TheVariants.{GitHub, JUnit, JsonLines, Sarif}
 use Rattle.t1_options.specs.declared.asked.Shard.{Shard}
 
 -- The first byte is this one.
@@ -45,7 +45,8 @@ abbrev pub form_in : Text → Option Format
 form_in text =
     if bytes_eq text (codes "jsonl") then Some JsonLines
     else (if bytes_eq text (codes "sarif") then Some Sarif
-    else (if bytes_eq text (codes "github") then Some GitHub else None))
+    else (if bytes_eq text (codes "github") then Some GitHub
+    else (if bytes_eq text (codes "junit") then Some JUnit else None)))
 
 abbrev pub is_slash : ℕ → Bool
 is_slash byte = byte == 47

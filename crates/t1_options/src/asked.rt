@@ -43,6 +43,8 @@ pub struct Options {
     pub form: Option<Format>,
     /// The URL of the page of all rules.
     pub docs: Option<String>,
+    /// Whether lines of JSON name fonts of which no line is reported.
+    pub clean: bool,
     /// The columns to which a line for each font and rule is cut. Without it: a line for each fault.
     pub columns: Option<u32>,
     /// Whether these lines have colours.
@@ -108,4 +110,6 @@ pub enum Format {
     Sarif,
     /// Commands of a workflow of GitHub.
     GitHub,
+    /// A document of JUnit's form.
+    JUnit,
 }

@@ -41,8 +41,9 @@ font NAME has its waivers, lines as `A H02`. A FONT `-` is standard input.
   --files-from FILE  check what FILE names too, a line each; - is standard input
   --exclude GLOB     omit fonts whose names match: * and ? within a folder, ** over folders
   --shard I/N        check part I of N of the list
-  --format FORM      write lines, and what was not checked, in a form for other programs: jsonl, sarif or github
+  --format FORM      write lines, and what was not checked, in a form for other programs: jsonl, sarif, github or junit
   --docs URL         let a sarif document name the page of each rule, as URL#ANCHOR
+  --clean            let jsonl name fonts without lines too
   --columns N        write a line for each font and rule, cut to N columns, as on a terminal
   --colour           colour these by the levels of their rules
   --long             write each line of a report, also on a terminal
@@ -93,6 +94,7 @@ const ARGUMENTS: &[Argument] = &[
     Argument::Option("shard", "I/N"),
     Argument::Option("format", "FORM"),
     Argument::Option("docs", "URL"),
+    Argument::Flag("clean"),
     Argument::Option("columns", "N"),
     Argument::Flag("colour"),
     Argument::Flag("long"),

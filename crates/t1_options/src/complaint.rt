@@ -59,7 +59,7 @@ pub(crate) fn text_of(complaint: Complaint) -> &'static str
         Complaint::Edition => "--edition wants 1, 2 or 3",
         Complaint::Columns => "--columns wants a number from 1 on",
         Complaint::Baseline => "--baseline wants a file",
-        Complaint::Format => "--format wants jsonl, sarif or github",
+        Complaint::Format => "--format wants jsonl, sarif, github or junit",
         Complaint::Docs => "--docs wants a URL",
         Complaint::UpdateOfNone => "--update-baseline wants --baseline",
         Complaint::UpdateOfShard => "--update-baseline and --shard exclude one another",

@@ -215,6 +215,7 @@ fn options_of(
         shard: shard(given.shard),
         form: form(given.format),
         docs,
+        clean: given.clean,
         columns: number(given.columns),
         colour: given.colour,
         long: given.long,

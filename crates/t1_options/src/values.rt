@@ -135,6 +135,8 @@ fn form_in(text: &str) -> Option<Format>
         Some(Format::Sarif)
     } else if text == "github" {
         Some(Format::GitHub)
+    } else if text == "junit" {
+        Some(Format::JUnit)
     } else {
         None
     }

@@ -20,6 +20,7 @@ pub(crate) struct Expected<'a> {
     pub(crate) shard: Option<Shard>,
     pub(crate) form: Option<Format>,
     pub(crate) docs: Option<&'a str>,
+    pub(crate) clean: bool,
     pub(crate) columns: Option<u32>,
     pub(crate) colour: bool,
     pub(crate) long: bool,
@@ -40,6 +41,7 @@ pub(crate) const PLAIN: Expected<'static> = Expected {
     shard: None,
     form: None,
     docs: None,
+    clean: false,
     columns: None,
     colour: false,
     long: false,
@@ -86,6 +88,7 @@ fn are_expected(options: &Options, expected: Expected<'_>) -> bool {
         && options.shard == expected.shard
         && options.form == expected.form
         && text(&options.docs) == expected.docs
+        && options.clean == expected.clean
         && options.columns == expected.columns
         && options.colour == expected.colour
         && options.long == expected.long

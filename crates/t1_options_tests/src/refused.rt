@@ -37,11 +37,11 @@ const VALUES: &[Case] = &[
     ),
     (
         &["t1check-all", "--format", "json", "a.pfb"],
-        "--format wants jsonl, sarif or github",
+        "--format wants jsonl, sarif, github or junit",
     ),
     (
         &["t1check-all", "--format=", "a.pfb"],
-        "--format wants jsonl, sarif or github",
+        "--format wants jsonl, sarif, github or junit",
     ),
     (
         &["t1check-all", "--format", "sarif", "--docs=", "a.pfb"],
@@ -175,7 +175,7 @@ const FIRST: &[Case] = &[
     (&["t1check-all", "--edition=4", "-j0"], JOBS),
     (
         &["t1check-all", "--shard=0/0", "--format=x"],
-        "--format wants jsonl, sarif or github",
+        "--format wants jsonl, sarif, github or junit",
     ),
     (
         &["t1check-all", "--shard=0/0", "--force"],

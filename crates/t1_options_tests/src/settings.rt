@@ -178,7 +178,7 @@ const REFUSED: &[Refusal] = &[
     (
         &["t1check-all", "--format=text", "a.pfb"],
         File::Unreadable,
-        "t1check-all: --format wants jsonl, sarif or github\nt1check-all: 't1check-all --help' says how it is used\n",
+        "t1check-all: --format wants jsonl, sarif, github or junit\nt1check-all: 't1check-all --help' says how it is used\n",
     ),
     (
         &["t1check-all", "--update-baseline", "a.pfb"],

@@ -211,6 +211,21 @@ const FORMS: &[Case] = &[
         },
     ),
     (
+        &["t1check-all", "--clean", "--format", "jsonl", "a.pfb"],
+        Expected {
+            form: Some(Format::JsonLines),
+            clean: true,
+            ..PLAIN
+        },
+    ),
+    (
+        &["t1check-all", "--format=junit", "a.pfb"],
+        Expected {
+            form: Some(Format::JUnit),
+            ..PLAIN
+        },
+    ),
+    (
         &["t1check-all", "--format=github", "a.pfb"],
         Expected {
             form: Some(Format::GitHub),

@@ -13,5 +13,5 @@ appended old new text n appends start end =
 
 pub object_taken : {T : Type 0} (old new : Formatting T) (told : ToldValue) (n : List ℕ) → Gives object_written old new told None
     → old.out.written ≡ Some [] → new.out.written ≡ Some n → n ≡ object_line told
-object_taken old new told n (given wrote) start end = appended old.out.written new.out.written (object_line told) n wrote.bytes start end
+object_taken old new told n (given (wrote, same)) start end = appended old.out.written new.out.written (object_line told) n wrote.bytes start end
 object_taken old new told n (no_memory lost formatter out) start end = cc

@@ -43,7 +43,7 @@ impl<'a> LineWriter<'a> {
         let errors = Text::new(alloc);
         LineWriter {
             form,
-            objects: Formatted::new(alloc, JsonLines, out, errors, true),
+            objects: Formatted::new(alloc, JsonLines { clean: false }, out, errors, true),
             reasons: ReportReasons::new(font, sidebearings),
         }
     }

@@ -1,190 +1,90 @@
--- What is written as a document, and reported, of things that are handed on.
-use Rattle.std.proofs.Common.{◌≡◌, ◌⊎◌, ℕ, Bool, true, List, [], ◌∷◌, ◌++◌, Option, None, Some, inl, inr, refl, sym, ap, subst, ◌∙◌, append_assoc, append-nil}
-use Rattle.std.proofs.KnownBytes.{Appends-nil, Appends-trans}
-use Rattle.std.specs.Io.KnownBytes.{Appends}
+-- What is written as a document of SARIF.
+use Rattle.std.proofs.Common.{◌≡◌, ℕ, Bool, List, [], ◌∷◌, ◌++◌, Option, None, Some, refl, ap, subst, ◌∙◌, append_assoc}
 use Rattle.t1_forms.specs.Sarif.{SarifState, closing, sarif_state, telling_text}
 use Rattle.t1_forms.specs.SarifDocuments.{after_one, tellings_text}
 use Rattle.t1_forms.specs.Tellings.{ToldValue, what_spelled}
 use Rattle.t1_forms.specs.declared.sarif.Sarif.{Sarif}
 use Rattle.t1_io.specs.Devices.{AppendsFront}
 use Rattle.t1_many.specs.Handing.{Handed, HandsOn, done, failure, line}
-use Rattle.t1_many.specs.Plain.{tellings, told_of}
 use Rattle.t1_many.specs.declared.policy.Lost.{Lost}
-use Rattle.t1_many.specs.declared.policy.Lost.TheVariants.{Device, Memory}
-use Rattle.t1_printers.proofs.JsonTexts.{cause, front-all, front-first, front-none, front-second, kept, none-same}
-use Rattle.t1_printers.specs.Documents.{IsDocumentOf, all_values, telling_written, values_of}
-use Rattle.t1_printers.specs.Formatting.{Form, FormattedTakes, Formatting, Gives, GivesUnchecked, given, no_memory, told, told_unchecked, untold}
-use Rattle.t1_many.specs.FontErrors.{reason_of}
-use Rattle.t1_many.specs.Unchecked.{unchecked_line}
-use Rattle.t1_many.specs.declared.font_error.FontError.TheVariants.{Refused, Unchecked}
+use Rattle.t1_printers.proofs.Streams.{Moves, afters, front-first, kept_at_last, out-none, out-put, seen, takes, written}
+use Rattle.t1_printers.specs.Documents.{IsDocumentOf, all_values, telling_written}
+use Rattle.t1_printers.specs.Formatting.{FormattedTakes, Formatting, Output, nothing_ends, told_fault}
+use Rattle.t1_printers.specs.Streams.{IsKept, Stream, failure_value, texts_of}
+use Rattle.t1_summary.specs.declared.found.FontClass.{FontClass}
 
--- ---- a part of a document
+abbrev told_text : SarifState → ToldValue → List ℕ
+told_text state t = telling_text state t (what_spelled t.what)
 
-part_text : SarifState → List ToldValue → List ℕ
-part_text state [] = []
-part_text state (t ∷ ts) = telling_text state t (what_spelled t.what) ++ part_text (after_one state t) ts
+abbrev stream : Bool → Stream SarifState
+stream reasons = record {
+  reasons = reasons;
+  telling = told_text;
+  after = after_one;
+  ending = λ state name found. [];
+  after_font = λ state name found. state;
+}
 
-state_after : SarifState → List ToldValue → SarifState
-state_after state [] = state
-state_after state (t ∷ ts) = state_after (after_one state t) ts
+writing : (old new : Output Sarif) (t : ToldValue) (lost : Option Lost) → telling_written old new t lost
+    → Moves sarif_state old new (told_text (sarif_state old.formatter) t) (after_one (sarif_state old.formatter) t) lost
+writing old new t lost (put, kept) = (out-put old.out new.out _ lost put, kept)
 
-parts : (state : SarifState) (ts us : List ToldValue) → tellings_text state (ts ++ us) ≡ part_text state ts ++ tellings_text (state_after state ts) us
-unfolding part_text state_after
-parts state [] us = refl
-parts state (t ∷ ts) us =
-    ap (λ x. telling_text state t (what_spelled t.what) ++ x) (parts (after_one state t) ts us)
-    ∙ sym (append_assoc (telling_text state t (what_spelled t.what)) (part_text (after_one state t) ts)
-    (tellings_text (state_after (after_one state t) ts) us))
+same-kept : (old new : Output Sarif) (lost : Option Lost) → new ≡ old → IsKept (sarif_state new.formatter) (sarif_state old.formatter) lost
+same-kept old new None same = ap (λ (o : Output Sarif). sarif_state o.formatter) same
+same-kept old new (Some lost) same = tt
 
--- ---- one thing
-
--- It was written, kept and reported, or prefixes of it were written and reported where it stopped.
-abbrev IsOne : Formatting Sarif → Formatting Sarif → List ToldValue → List ℕ → Option Lost → Type 0
-IsOne old new values tells None =
-    Appends old.out.written new.out.written (part_text (sarif_state old.formatter) values)
-    × (sarif_state new.formatter ≡ state_after (sarif_state old.formatter) values)
-    × Appends old.errors.written new.errors.written tells
-IsOne old new values tells (Some lost) =
-    AppendsFront old.out.written new.out.written (part_text (sarif_state old.formatter) values)
-    × AppendsFront old.errors.written new.errors.written tells
-    × ((lost ≡ Memory) ⊎ (new.out.failed ≡ true) ⊎ (new.errors.failed ≡ true))
-
-one_part : (state : SarifState) (t : ToldValue) → telling_text state t (what_spelled t.what) ≡ part_text state (t ∷ [])
-unfolding part_text
-one_part state t = sym (append-nil (telling_text state t (what_spelled t.what)))
-
-one_after : (state : SarifState) (t : ToldValue) → after_one state t ≡ state_after state (t ∷ [])
-unfolding state_after
-one_after state t = refl
-
-given-one : (old new : Formatting Sarif) (t : ToldValue) (tells : List ℕ) (lost : Option Lost) → Gives telling_written old new t lost
-    → Appends old.errors.written new.errors.written tells → IsOne old new (t ∷ []) tells lost
-given-one old new t tells None (given (put, is)) errors = (
-  subst (Appends old.out.written new.out.written) (one_part (sarif_state old.formatter) t) put.bytes,
-  is ∙ one_after (sarif_state old.formatter) t,
-  errors,
+ending : (old new : Output Sarif) (name : List ℕ) (found : FontClass) (lost : Option Lost) → nothing_ends old new name found lost
+    → Moves sarif_state old new [] (sarif_state old.formatter) lost
+ending old new name found lost (same, none) = (
+  out-none old.out new.out lost (ap (λ (o : Output Sarif). o.out) same) none,
+  same-kept old new lost same,
 )
-given-one old new t tells (Some Device) (given (put, is)) errors = (
-  subst (AppendsFront old.out.written new.out.written) (one_part (sarif_state old.formatter) t) put.front,
-  front-all old.errors.written new.errors.written tells errors,
-  cause Device new.out new.errors (inr put.failed),
-)
-given-one old new t tells (Some Memory) (given (same, is)) errors = (
-  front-none old.out.written new.out.written (part_text (sarif_state old.formatter) (t ∷ [])) (none-same old.out new.out same),
-  front-all old.errors.written new.errors.written tells errors,
-  cause Memory new.out new.errors (inl refl),
-)
-given-one old new t tells lost (no_memory is formatter same) errors =
-    subst (IsOne old new (t ∷ []) tells) (sym is) (
-      front-none old.out.written new.out.written (part_text (sarif_state old.formatter) (t ∷ [])) (none-same old.out new.out same),
-      front-all old.errors.written new.errors.written tells errors,
-      cause Memory new.out new.errors (inl refl),
-    )
-
-unchecked-one : (old new : Formatting Sarif) (name reason : List ℕ) (lost : Option Lost)
-    → GivesUnchecked telling_written old new name reason lost → IsOne old new (told_unchecked name reason ∷ []) (unchecked_line name reason) lost
-unchecked-one old new name reason lost (told wrote gives) =
-    given-one old new (told_unchecked name reason) (unchecked_line name reason) lost gives wrote.bytes
-unchecked-one old new name reason lost (untold broke formatter same why) =
-    subst (IsOne old new (told_unchecked name reason ∷ []) (unchecked_line name reason)) (sym why) (
-      front-none old.out.written new.out.written (part_text (sarif_state old.formatter) (told_unchecked name reason ∷ []))
-          (none-same old.out new.out same),
-      broke.front,
-      inr (inr broke.failed),
-    )
-
-no_part : (state : SarifState) → [] ≡ part_text state []
-unfolding part_text
-no_part state = refl
-
-none_after : (state : SarifState) → state ≡ state_after state []
-unfolding state_after
-none_after state = refl
-
--- ---- things that are handed on
-
-abbrev form : Bool → Form Sarif
-form reasons = record { reasons = reasons; writes = telling_written }
 
 module _ (reasons : Bool) where
-  one : (old new : Formatting Sarif) (handed : Handed) (lost : Option Lost) → FormattedTakes (form reasons) old new handed lost
-      → IsOne old new (values_of reasons handed) (told_of handed) lost
-  one old new (line name font waivers fault) lost (gives, same) = given-one old new _ [] lost gives (none-same old.errors new.errors same)
-  one old new (failure name (Refused code)) lost (gives, same) = given-one old new _ [] lost gives (none-same old.errors new.errors same)
-  one old new (failure name (Unchecked why)) lost gives = unchecked-one old new name (reason_of why) lost gives
-  one old new (done name found) None (formatter, flushed, same) = (
-    subst (Appends old.out.written new.out.written) (no_part (sarif_state old.formatter)) (kept old.out.written new.out.written flushed.bytes),
-    ap sarif_state formatter ∙ none_after (sarif_state old.formatter),
-    none-same old.errors new.errors same,
-  )
-  one old new (done name found) (Some Device) (formatter, broke, same) = (
-    subst (AppendsFront old.out.written new.out.written) (no_part (sarif_state old.formatter))
-        (front-all old.out.written new.out.written [] (kept old.out.written new.out.written broke.bytes)),
-    front-all old.errors.written new.errors.written [] (none-same old.errors new.errors same),
-    inr (inl broke.failed),
-  )
-  one old new (done name found) (Some Memory) (formatter, never, same) = absurd never
+  abbrev last : SarifState → List Handed → SarifState
+  last = afters (stream reasons) sarif_state telling_written nothing_ends writing ending
 
-  more-written : (a b c : Formatting Sarif) (handed : Handed) (more : List Handed) (lost : Option Lost)
-      → IsOne a b (values_of reasons handed) (told_of handed) None → IsDocumentOf reasons b c more lost → IsDocumentOf reasons a c (handed ∷ more) lost
-  more-written a b c handed more None (first, after, first_told) ((text, is, out), errors) =
-      let part = part_text (sarif_state a.formatter) (values_of reasons handed) in (
-        (
-          part ++ text,
-          append_assoc part text (closing (sarif_state c.formatter)) ∙ ap (λ x. part ++ x) is
-              ∙ ap (λ s. part ++ tellings_text s (all_values reasons more)) after
-              ∙ sym (parts (sarif_state a.formatter) (values_of reasons handed) (all_values reasons more)),
-          Appends-trans a.out.written b.out.written c.out.written part text first out,
-        ),
-        Appends-trans a.errors.written b.errors.written c.errors.written (told_of handed) (tellings more) first_told errors,
-      )
-  more-written a b c handed more (Some reason) (first, after, first_told) (out, errors, failed) =
-      let part = part_text (sarif_state a.formatter) (values_of reasons handed) in (
-        subst (AppendsFront a.out.written c.out.written)
-            (ap (λ s. part ++ tellings_text s (all_values reasons more)) after
-            ∙ sym (parts (sarif_state a.formatter) (values_of reasons handed) (all_values reasons more)))
-            (front-second a.out.written b.out.written c.out.written part (tellings_text (sarif_state b.formatter) (all_values reasons more)) first out),
-        front-second a.errors.written b.errors.written c.errors.written (told_of handed) (tellings more) first_told errors,
-        failed,
-      )
+  -- What is written of all, and then the end, is the text of what they report.
+  texts-are : (state : SarifState) (handed : List Handed)
+      → texts_of (stream reasons) state handed ++ closing (last state handed) ≡ tellings_text state (all_values reasons handed)
+  texts-are state [] = refl
+  texts-are state (line name font waivers fault ∷ more) =
+      let t : ToldValue = told_fault reasons name font waivers fault in
+      append_assoc (told_text state t) (texts_of (stream reasons) (after_one state t) more) (closing (last (after_one state t) more))
+      ∙ ap (λ (rest : List ℕ). told_text state t ++ rest) (texts-are (after_one state t) more)
+  texts-are state (failure name reason ∷ more) =
+      let t : ToldValue = failure_value name reason in
+      append_assoc (told_text state t) (texts_of (stream reasons) (after_one state t) more) (closing (last (after_one state t) more))
+      ∙ ap (λ (rest : List ℕ). told_text state t ++ rest) (texts-are (after_one state t) more)
+  texts-are state (done name found ∷ more) = texts-are state more
 
-  written : (old new : Formatting Sarif) (handed : List Handed) (lost : Option Lost) → HandsOn (FormattedTakes (form reasons)) old new handed lost
+  document : (old new : Formatting Sarif) (handed : List Handed) (lost : Option Lost)
+      → HandsOn (FormattedTakes (record { reasons = reasons; writes = telling_written; ends = nothing_ends })) old new handed lost
       → IsDocumentOf reasons old new handed lost
-  written old new [] lost (same, none) =
-      subst (IsDocumentOf reasons old new []) (sym none)
-      (subst (λ (d : Formatting Sarif). IsDocumentOf reasons old d [] None) (sym same)
-      (([], refl, Appends-nil old.out.written), Appends-nil old.errors.written))
-  written old new (handed ∷ more) lost (inl (next, took, rest)) =
-      more-written old next new handed more lost (one old next handed None took) (written next new more lost rest)
-  written old new (handed ∷ more) lost (inr (reason, took, is)) =
-      let (out, errors, why) = one old new handed (Some reason) took in
-      let state = sarif_state old.formatter in
-      subst (IsDocumentOf reasons old new (handed ∷ more)) (sym is) (
-        subst (AppendsFront old.out.written new.out.written) (sym (parts state (values_of reasons handed) (all_values reasons more)))
-            (front-first old.out.written new.out.written (part_text state (values_of reasons handed))
-            (tellings_text (state_after state (values_of reasons handed)) (all_values reasons more)) out),
-        front-first old.errors.written new.errors.written (told_of handed) (tellings more) errors,
+  document old new handed None hands =
+      let (out, errors) = written (stream reasons) sarif_state telling_written nothing_ends writing ending old new handed None hands in
+      let text : List ℕ = texts_of (stream reasons) (sarif_state old.formatter) handed in (
+        (
+          text,
+          ap (λ (state : SarifState). text ++ closing state)
+              (kept_at_last (stream reasons) sarif_state telling_written nothing_ends writing ending old new handed hands)
+              ∙ texts-are (sarif_state old.formatter) handed,
+          out,
+        ),
+        errors,
+      )
+  document old new handed (Some reason) hands =
+      let (out, errors, why) = written (stream reasons) sarif_state telling_written nothing_ends writing ending old new handed (Some reason) hands in (
+        subst (AppendsFront old.out.written new.out.written) (texts-are (sarif_state old.formatter) handed)
+            (front-first old.out.written new.out.written (texts_of (stream reasons) (sarif_state old.formatter) handed)
+            (closing (last (sarif_state old.formatter) handed)) out),
+        errors,
         why,
       )
 
--- ---- a form, of which the formatter and the devices are seen
-
 module _ {F : Type 0} (told_with : F → Bool) (view : F → Formatting Sarif) where
-  abbrev takes : F → F → Handed → Option Lost → Type 0
-  takes old new handed lost = (told_with new ≡ told_with old) × FormattedTakes (form (told_with old)) (view old) (view new) handed lost
-
-  seen : (old new : F) (handed : List Handed) (lost : Option Lost) → HandsOn takes old new handed lost
-      → HandsOn (FormattedTakes (form (told_with old))) (view old) (view new) handed lost
-  seen old new [] lost (same, none) = (ap view same, none)
-  seen old new (handed ∷ more) lost (inl (next, (same, took), rest)) =
-      inl (
-        view next,
-        took,
-        subst (λ (r : Bool). HandsOn (FormattedTakes (form r)) (view next) (view new) more lost) same
-            (seen next new more lost rest),
-      )
-  seen old new (handed ∷ more) lost (inr (reason, (same, took), is)) = inr (reason, took, is)
-
-  pub seen-document : (old new : F) (handed : List Handed) (lost : Option Lost) → HandsOn takes old new handed lost
+  pub seen-document : (old new : F) (handed : List Handed) (lost : Option Lost)
+      → HandsOn (takes told_with view telling_written nothing_ends) old new handed lost
       → IsDocumentOf (told_with old) (view old) (view new) handed lost
-  seen-document old new handed lost hands = written (told_with old) (view old) (view new) handed lost (seen old new handed lost hands)
+  seen-document old new handed lost hands =
+      document (told_with old) (view old) (view new) handed lost (seen told_with view telling_written nothing_ends old new handed lost hands)

@@ -1,7 +1,9 @@
+pub mod CaseTexts
 pub mod Counts
 pub mod DocumentTexts
 pub mod FirstReasons
 pub mod Fitting
+pub mod FontCases
 pub mod Greatest
 pub mod GroupTails
 pub mod HeldGroups
@@ -11,4 +13,5 @@ pub mod LineTexts
 pub mod NamesText
 pub mod Runs
 pub mod Steps
+pub mod Streams
 pub mod Written

@@ -2,7 +2,7 @@
 use Rattle.std.specs.Prelude.{◌≡◌, ◌⊎◌, ℕ, Bool, true, List, [], ◌∷◌, ◌++◌, Option, None, Some}
 use Rattle.std.specs.Io.KnownBytes.{Appends}
 use Rattle.std.specs.List.{flat_map}
-use Rattle.t1_forms.specs.Sarif.{SarifState, after_telling, closing, sarif_state, telling_text}
+use Rattle.t1_forms.specs.Sarif.{after_telling, closing, sarif_state, telling_text}
 use Rattle.t1_forms.specs.SarifDocuments.{tellings_text}
 use Rattle.t1_forms.specs.Tellings.{ToldValue, what_spelled}
 use Rattle.t1_forms.specs.declared.sarif.Sarif.{Sarif}
@@ -11,15 +11,8 @@ use Rattle.t1_many.specs.Handing.{Handed, done, failure, line}
 use Rattle.t1_many.specs.Plain.{IsLinePut, tellings}
 use Rattle.t1_many.specs.declared.policy.Lost.{Lost}
 use Rattle.t1_many.specs.declared.policy.Lost.TheVariants.{Memory}
-use Rattle.t1_printers.specs.Formatting.{Formatting, Output, told_fault, told_refusal, told_unchecked}
-use Rattle.t1_many.specs.FontErrors.{reason_of}
-use Rattle.t1_many.specs.declared.font_error.FontError.{FontError}
-use Rattle.t1_many.specs.declared.font_error.FontError.TheVariants.{Refused, Unchecked}
-
--- What is kept, unless it stopped.
-abbrev pub IsKept : SarifState → SarifState → Option Lost → Type 0
-IsKept now state None = now ≡ state
-IsKept now state (Some lost) = Unit {0}
+use Rattle.t1_printers.specs.Formatting.{Formatting, Output, told_fault}
+use Rattle.t1_printers.specs.Streams.{IsKept, failure_value}
 
 -- What a document has of what is reported was put, and is kept.
 abbrev pub telling_written : Output Sarif → Output Sarif → ToldValue → Option Lost → Type 0
@@ -32,10 +25,6 @@ abbrev pub end_written : Sarif → SinkState → SinkState → Option Lost → T
 end_written document old new lost = IsLinePut old new (closing (sarif_state document)) lost
 
 -- What is reported of a thing that is handed on; how a font was found is reported of none.
-abbrev pub failure_value : List ℕ → FontError → ToldValue
-failure_value name (Refused code) = told_refusal name code
-failure_value name (Unchecked why) = told_unchecked name (reason_of why)
-
 abbrev pub values_of : Bool → Handed → List ToldValue
 values_of reasons (line name font waivers fault) = told_fault reasons name font waivers fault ∷ []
 values_of reasons (failure name reason) = failure_value name reason ∷ []

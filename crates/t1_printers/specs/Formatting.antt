@@ -16,6 +16,7 @@ use Rattle.t1_report.specs.Waivers.{Waiver}
 use Rattle.t1_many.specs.FontErrors.{reason_of}
 use Rattle.t1_many.specs.Unchecked.{unchecked_line}
 use Rattle.t1_many.specs.declared.font_error.FontError.TheVariants.{Refused, Unchecked}
+use Rattle.t1_summary.specs.declared.found.FontClass.{FontClass}
 
 -- Beside what is reported is its line, as it is spelled, where lines are shown.
 abbrev pub HasItsLine : Bool → Told → Type 0
@@ -67,10 +68,25 @@ pub data GivesUnchecked {T : Type 0} (writes : Output T → Output T → ToldVal
       PutFailed old.errors new.errors (unchecked_line name reason) → new.formatter ≡ old.formatter → new.out ≡ old.out
       → lost ≡ Some Device → GivesUnchecked writes old new name reason lost
 
--- A form of a formatter, with reasons or without, and what the formatter writes of a thing.
+-- The formatter wrote what is after all that is reported of a font, which was found so, and the output was flushed; or one of these failed.
+pub data EndsFont {T : Type 0} (ends : Output T → Output T → List ℕ → FontClass → Option Lost → Type 0) (old new : Formatting T) (name : List ℕ)
+    (found : FontClass) (lost : Option Lost) : Type 0 where
+  ended :
+      (behind : SinkState) → ends (output_of old) (record { formatter = new.formatter; out = behind }) name found None
+      → IsFlushed behind new.out lost → EndsFont ends old new name found lost
+  unended :
+      (reason : Lost) → ends (output_of old) (output_of new) name found (Some reason) → lost ≡ Some reason
+      → EndsFont ends old new name found lost
+
+-- Nothing is written after what is reported of a font.
+abbrev pub nothing_ends : {T : Type 0} → Output T → Output T → List ℕ → FontClass → Option Lost → Type 0
+nothing_ends old new name found lost = (new ≡ old) × (lost ≡ None)
+
+-- A form of a formatter, with reasons or without, and what the formatter writes of a thing, and after all that is reported of a font.
 pub record Form (T : Type 0) : Type 1 where
   pub reasons : Bool
   pub writes : Output T → Output T → ToldValue → Option Lost → Type 0
+  pub ends : Output T → Output T → List ℕ → FontClass → Option Lost → Type 0
 
 -- One thing that is handed on. The output is flushed after each font.
 abbrev pub FormattedTakes : {T : Type 0} → Form T → Formatting T → Formatting T → Handed → Option Lost → Type 0
@@ -79,5 +95,4 @@ FormattedTakes form old new (line name font waivers fault) lost =
 FormattedTakes form old new (failure name (Refused code)) lost =
     Gives form.writes old new (told_refusal name code) lost × (new.errors ≡ old.errors)
 FormattedTakes form old new (failure name (Unchecked why)) lost = GivesUnchecked form.writes old new name (reason_of why) lost
-FormattedTakes form old new (done name found) lost =
-    (new.formatter ≡ old.formatter) × IsFlushed old.out new.out lost × (new.errors ≡ old.errors)
+FormattedTakes form old new (done name found) lost = EndsFont form.ends old new name found lost × (new.errors ≡ old.errors)

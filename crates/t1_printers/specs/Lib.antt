@@ -1,3 +1,4 @@
+pub mod Cases
 pub mod Commands
 pub mod Documents
 pub mod FaultUnits
@@ -10,6 +11,7 @@ pub mod JsonLines
 pub mod Laws
 pub mod Private
 pub mod RuleGroups
+pub mod Streams
 pub mod Tails
 pub mod TerminalNames
 pub mod Terminals

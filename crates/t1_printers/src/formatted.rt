@@ -18,8 +18,8 @@ use t1_reasons::ReportReasons;
 use t1_report::{Fault, Waivers};
 use t1_summary::FontClass;
 
-/// Lines, refusals and fonts that weren't checked are given to a formatter, which writes them on the output. A font that wasn't checked is
-/// printed on standard error too, first. After each font the output is flushed.
+/// Lines, refusals, fonts that weren't checked, and how each font was found are given to a formatter, which writes them on the output. A font
+/// that wasn't checked is printed on standard error too, first. After each font the output is flushed.
 #[derive(Drop)]
 pub struct Formatted<T: Formatter, W: Sink, E: Sink> {
     /// What writes them.
@@ -86,7 +86,7 @@ impl<T: Formatter, W: Sink, E: Sink> Formatted<T, W, E> {
 
     /// Gives a refusal to the formatter.
     fn refused(&mut self, name: &str, code: RefusalCode) -> Result<(), Lost>
-        ensures given { FormattedTakes (record { reasons = self.old.reasons; writes = T.writes })
+        ensures given { FormattedTakes (record { reasons = self.old.reasons; writes = T.writes; ends = T.ends })
             (record { formatter = self.old.formatter; out = W.state self.old.out; errors = E.state self.old.errors })
             (record { formatter = self.new.formatter; out = W.state self.new.out; errors = E.state self.new.errors })
             (failure name.now (Refused code)) (lost_of result) }
@@ -110,7 +110,7 @@ impl<T: Formatter, W: Sink, E: Sink> Formatted<T, W, E> {
 impl<T: Formatter, W: Sink, E: Sink> Printer for Formatted<T, W, E> {
     ghost use Rattle.t1_many.specs.declared.policy.Lost.{Lost};
 
-    ghost takes = { λ old new handed lost. (new.reasons ≡ old.reasons) × FormattedTakes (record { reasons = old.reasons; writes = T.writes })
+    ghost takes = { λ old new handed lost. (new.reasons ≡ old.reasons) × FormattedTakes (record { reasons = old.reasons; writes = T.writes; ends = T.ends })
         (record { formatter = old.formatter; out = W.state old.out; errors = E.state old.errors })
         (record { formatter = new.formatter; out = W.state new.out; errors = E.state new.errors }) handed lost };
 
@@ -147,7 +147,9 @@ impl<T: Formatter, W: Sink, E: Sink> Printer for Formatted<T, W, E> {
         }
     }
 
-    fn done(&mut self, _name: &str, _found: FontClass) -> Result<(), Lost> {
+    fn done(&mut self, name: &str, found: FontClass) -> Result<(), Lost> {
+        self.formatter
+            .end_font(self.alloc, &mut self.out, name, found)?;
         self.out.flush()?;
         Ok(())
     }

@@ -4,6 +4,7 @@ ghost use Rattle.std.specs.Prelude.{◌≡◌, ◌++◌, IfOk, None, OnOk, Some,
 ghost use Rattle.t1_forms.specs.Commands.{command_of};
 ghost use Rattle.t1_forms.specs.Tellings.{what_value};
 ghost use Rattle.t1_printers.specs.Commands.{command_writing, command_written, group_message, message_reason, message_room};
+ghost use Rattle.t1_printers.specs.Formatting.{nothing_ends};
 ghost use Rattle.t1_printers.specs.GroupLines.{rule_tail};
 ghost use Rattle.t1_printers.specs.Grouping.{IsTextPut};
 ghost use Rattle.t1_printers.specs.Groups.{group_value};
@@ -20,6 +21,7 @@ use t1_io::Sink;
 use t1_lines::Line;
 use t1_many::Lost;
 use t1_rules::Rule;
+use t1_summary::FontClass;
 
 /// The width of a message.
 const ROOM: usize = 120;
@@ -40,6 +42,8 @@ impl Formatter for GitHubCommands {
 
     ghost writes = { command_written };
 
+    ghost ends = { nothing_ends };
+
     ghost finishes = { λ _ old new lost. (new ≡ old) × (lost ≡ None) };
 
     fn shows_lines() -> bool {
@@ -53,6 +57,16 @@ impl Formatter for GitHubCommands {
         told: &Told<'_>,
     ) -> Result<(), Lost> {
         Ok(write_command(sink, told)?)
+    }
+
+    fn end_font<W: Sink>(
+        &mut self,
+        _alloc: Global,
+        _sink: &mut W,
+        _name: &str,
+        _found: FontClass,
+    ) -> Result<(), Lost> {
+        Ok(())
     }
 
     fn finish<W: Sink>(self, _alloc: Global, _sink: &mut W) -> Result<(), Lost> {

@@ -1,12 +1,14 @@
 //! Laws above the definitions: each is the contract of a function that does nothing.
 
 ghost use Rattle.std.specs.Prelude.{◌≡◌, List, [], ◌∷◌, ◌++◌, ℕ, Option, None, true};
+ghost use Rattle.t1_printers.specs.Cases.{AreCases, CheckedFontsHaveACase, OtherFontsHaveACase};
 ghost use Rattle.t1_printers.specs.Commands.{message_room};
 ghost use Rattle.t1_printers.specs.Documents.{IsDocumentOf};
 ghost use Rattle.t1_printers.specs.JsonLines.{AreObjects};
 ghost use Rattle.t1_printers.specs.Laws.{CountsSumToLines, LinesAreInTheirGroups, LinesAreThoseOfReports, LinesFitTerminals, NoMoreNamesFit, ReasonsAreOfFirstLines};
 ghost use Rattle.t1_printers.specs.RuleGroups.{values_of};
 ghost use Rattle.t1_printers.specs.Writings.{AreWritten, command_wording, terminal_wording};
+ghost use Rattle.t1_forms.specs.declared.junit.JUnit.{JUnit as JUnitValue};
 ghost use Rattle.t1_forms.specs.declared.sarif.Sarif.{Sarif as SarifValue};
 ghost use Rattle.t1_printers.specs.declared.formatted.Formatted.{Formatted as FormattedValue};
 ghost use Rattle.t1_printers.specs.declared.github.GitHubGroups.{GitHubGroups as GitHubValue};
@@ -23,7 +25,7 @@ use crate::github::GitHubGroups;
 use crate::grouped::Grouped;
 use crate::json_lines::JsonLines;
 use crate::terminal::Terminal;
-use t1_forms::Sarif;
+use t1_forms::{JUnit, Sarif};
 use t1_io::Sink;
 use t1_many::Printer;
 
@@ -92,4 +94,20 @@ pub fn documents_are_written<'a, W: Sink, E: Sink>()
         → HandsOn ⟦<Formatted<Sarif<'a>, W, E> as Printer>⟧.takes old new handed lost
         → IsDocumentOf old.reasons (record { formatter = old.formatter; out = W.state old.out; errors = E.state old.errors })
         (record { formatter = new.formatter; out = W.state new.out; errors = E.state new.errors }) handed lost }
+{}
+
+/// What is handed on as a document of JUnit's form is written as cases, one after another, and reported as in the plain form. Where a device fails,
+/// or memory runs out, a prefix of it was.
+pub fn cases_are_written<W: Sink, E: Sink>()
+    ensures { (old new : FormattedValue JUnitValue W E) (handed : List Handed) (lost : Option LostValue)
+        → HandsOn ⟦<Formatted<JUnit, W, E> as Printer>⟧.takes old new handed lost
+        → AreCases old.reasons (record { formatter = old.formatter; out = W.state old.out; errors = E.state old.errors })
+        (record { formatter = new.formatter; out = W.state new.out; errors = E.state new.errors }) handed lost }
+{}
+
+/// Each font is one case: a failure exactly where one of its lines fails, by the first such line, and an error where it was refused or wasn't
+/// checked.
+pub fn fonts_have_cases()
+    ensures checked { CheckedFontsHaveACase }
+    ensures others { OtherFontsHaveACase }
 {}

@@ -12,7 +12,7 @@ returns-in-Err g c =
 
 pub returns : goal.returns
 returns g c =
-    formatted_ends (record { reasons = c.args.reasons; writes = g.T.Formatter.writes }) g.T.Formatter.finishes _ _ _ _
+    formatted_ends (record { reasons = c.args.reasons; writes = g.T.Formatter.writes; ends = g.T.Formatter.ends }) g.T.Formatter.finishes _ _ _ _
     (record {
       formatter = c.new-form.result.formatter;
       out = g.W.Sink.state c.new-form.result.out;
@@ -26,7 +26,7 @@ returns g c =
     (rw (c.new-form.ensures.formatter, c.new-form.ensures.out) c.in_default.ensures)
     (ap g.E.Sink.state c.new-form.ensures.errors) (ap g.E.Sink.state c.into_parts-formatter.ensures.errors) _ _
     (rw c.new-form.ensures.reasons at
-    (fonts-kept (λ (reasons : Bool). FormattedTakes (record { reasons = reasons; writes = g.T.Formatter.writes })) (λ form. form.reasons)
+    (fonts-kept (λ (reasons : Bool). FormattedTakes (record { reasons = reasons; writes = g.T.Formatter.writes; ends = g.T.Formatter.ends })) (λ form. form.reasons)
     (λ form. record { formatter = form.formatter; out = g.W.Sink.state form.out; errors = g.E.Sink.state form.errors }) _ _ _ _ _
     c.check_fonts-checked.ensures))
     (rw (sym c.into_parts-formatter.ensures.formatter, sym c.into_parts-formatter.ensures.out) c.finish_checked-status.ensures)

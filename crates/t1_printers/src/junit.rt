@@ -1,0 +1,51 @@
+//! A document of JUnit's form.
+
+ghost use Rattle.std.specs.Prelude.{◌≡◌, true};
+ghost use Rattle.t1_printers.specs.Cases.{case_telling_written, case_written, cases_ended};
+
+use crate::formatter::{Formatter, written};
+use std::alloc::Global;
+use t1_forms::{JUnit, Told};
+use t1_io::Sink;
+use t1_many::Lost;
+use t1_summary::FontClass;
+
+/// A document that was begun by [`JUnit::begin`].
+impl Formatter for JUnit {
+    ghost has_lines = { true };
+
+    ghost writes = { case_telling_written };
+
+    ghost ends = { case_written };
+
+    ghost finishes = { cases_ended };
+
+    fn shows_lines() -> bool
+        ensures { result ≡ true }
+    {
+        true
+    }
+
+    fn write<W: Sink>(&mut self, alloc: Global, sink: &mut W, told: &Told<'_>) -> Result<(), Lost> {
+        written(self.put(alloc, sink, told))
+    }
+
+    fn end_font<W: Sink>(
+        &mut self,
+        alloc: Global,
+        sink: &mut W,
+        name: &str,
+        found: FontClass,
+    ) -> Result<(), Lost> {
+        match found {
+            FontClass::Clean | FontClass::Known | FontClass::Faulty => {
+                written(self.put_case(alloc, sink, name.as_bytes()))
+            }
+            FontClass::Refused | FontClass::Unchecked => Ok(()),
+        }
+    }
+
+    fn finish<W: Sink>(self, _alloc: Global, sink: &mut W) -> Result<(), Lost> {
+        written(self.end(sink))
+    }
+}
