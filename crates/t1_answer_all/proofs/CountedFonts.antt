@@ -1,12 +1,8 @@
 -- Fonts that were checked with a form that counts.
-use Rattle.std.proofs.Common.{◌≡◌, List, [], ◌∷◌, ◌++◌, ℕ, Option, None, Result, inl, inr, refl, sym, ap, ap₂, ◌∙◌, append-nil, append_assoc, map, filter}
+use Rattle.std.proofs.Common.{◌≡◌, List, [], ◌∷◌, ◌++◌, ℕ, Option, None, inl, inr, refl, sym, ap, ap₂, ◌∙◌, append-nil, append_assoc, map, filter}
 use Rattle.std.proofs.lemmas.Grind.{flat_map-append}
 use Rattle.std.proofs.lemmas.Option.{none-some}
-use Rattle.t1_answer_all.specs.Checks.{ChecksFonts, IsFound, IsKept}
 use Rattle.t1_many.specs.Told.{all_handed, founds_of}
-use Rattle.t1_answer_all.specs.Checks.ChecksFonts.{cut_short, whole}
-use Rattle.t1_answer_all.specs.Plans.{Run, judges_in}
-use Rattle.t1_answer_all.specs.declared.findings.Findings.{Findings}
 use Rattle.t1_report.specs.Checked.{CheckedFont, checked}
 use Rattle.t1_many.specs.Counting.{Counts, all_fonts, all_lines, fonts_of, lines_of}
 use Rattle.t1_many.specs.Handing.{Handed, HandsOn, found_of, handed_of, is_told, line}
@@ -16,7 +12,6 @@ use Rattle.t1_many.specs.declared.verdict.Verdict.{Verdict}
 use Rattle.t1_report.specs.Faults.{FaultValue}
 use Rattle.t1_report.specs.Waivers.{Waiver}
 use Rattle.t1_rules.specs.declared.rule.Rule.{Rule}
-use Rattle.t1_run.specs.declared.status.Status.{Status}
 use Rattle.t1_summary.specs.Tallies.{tally_of}
 use Rattle.t1_summary.specs.declared.found.FontClass.{FontClass}
 use Rattle.t1_summary.specs.declared.tally.Tally.{Tally}
@@ -35,7 +30,7 @@ one_font judge name (reported report) =
     (no_fonts name (checked report.font report.edition) report.waivers (filter (λ fault. is_told (judge report fault)) report.faults))
 one_font judge name (failed reason) = refl
 
-fonts_are : (judges : List ℕ → Report → FaultValue → Verdict) (entries : List Entry)
+pub fonts_are : (judges : List ℕ → Report → FaultValue → Verdict) (entries : List Entry)
     → all_fonts (all_handed judges entries) ≡ founds_of judges entries
 fonts_are judges [] = refl
 fonts_are judges (entry ∷ entries) =
@@ -47,13 +42,13 @@ module _ {T F : Type 0} (takes : F → F → Handed → Option Lost → Type 0) 
   abbrev pub Takes : T → T → Handed → Option Lost → Type 0
   Takes old new handed lost = takes (form old) (form new) handed lost × Counts (tally old) (tally new) handed lost
 
-  handed_on : (old new : T) (handed : List Handed) (lost : Option Lost) → HandsOn Takes old new handed lost
+  pub handed_on : (old new : T) (handed : List Handed) (lost : Option Lost) → HandsOn Takes old new handed lost
       → HandsOn takes (form old) (form new) handed lost
   handed_on old new [] lost (same, none) = (ap form same, none)
   handed_on old new (x ∷ xs) lost (inl (next, (took, count), rest)) = inl (form next, took, handed_on next new xs lost rest)
   handed_on old new (x ∷ xs) lost (inr (reason, (took, count), is)) = inr (reason, took, is)
 
-  counted : (old new : T) (handed : List Handed) (founds : List FontClass) (lines : List Rule) → HandsOn Takes old new handed None
+  pub counted : (old new : T) (handed : List Handed) (founds : List FontClass) (lines : List Rule) → HandsOn Takes old new handed None
       → tally old ≡ tally_of founds lines → tally new ≡ tally_of (founds ++ all_fonts handed) (lines ++ all_lines handed)
   counted old new [] founds lines (same, none) is =
       ap tally same ∙ is ∙ ap₂ tally_of (sym (append-nil founds)) (sym (append-nil lines))
@@ -61,17 +56,3 @@ module _ {T F : Type 0} (takes : F → F → Handed → Option Lost → Type 0) 
       counted next new xs (founds ++ fonts_of x) (lines ++ lines_of x) rest (count founds lines is)
       ∙ ap₂ tally_of (append_assoc founds (fonts_of x) (all_fonts xs)) (append_assoc lines (lines_of x) (all_lines xs))
   counted old new (x ∷ xs) founds lines (inr (reason, (took, count), none)) is = absurd (none-some reason none)
-
-  pub fonts_counted : (run : Run) (old new : T) (found : Findings) (result : Result Status Lost) → tally old ≡ tally_of [] []
-      → found.tally ≡ tally new → ChecksFonts Takes run old new (IsKept run.plan found.readings.items found.kept) result
-      → ChecksFonts takes run (form old) (form new) (IsFound run.plan found) result
-  fonts_counted run old new found result none tally_is (whole entries are handed kept is) =
-      let handed_are = all_handed (judges_in run.plan) entries in
-      whole entries are (handed_on old new handed_are None handed)
-      (record {
-        counted = tally_is ∙ counted old new handed_are [] [] handed none
-            ∙ ap (λ (fs : List FontClass). tally_of fs (all_lines handed_are)) (fonts_are (judges_in run.plan) entries);
-        kept = kept;
-      }) is
-  fonts_counted run old new found result none tally_is (cut_short count entries are lost stop handed why is) =
-      cut_short count entries are lost stop (handed_on old new (all_handed (judges_in run.plan) entries) stop handed) why is

@@ -3,10 +3,9 @@ use Rattle.std.proofs.Common.{◌≡◌, List, [], ◌∷◌, Option, Result, in
 use Rattle.t1_answer_all.specs.Checks.{ChecksFonts}
 use Rattle.t1_answer_all.specs.Checks.ChecksFonts.{cut_short, whole}
 use Rattle.t1_answer_all.specs.Plans.{Run}
+use Rattle.t1_answer_all.specs.declared.findings.Findings.{Findings}
 use Rattle.t1_many.specs.Handing.{Handed, HandsOn}
-use Rattle.t1_many.specs.Outcomes.{Entry}
 use Rattle.t1_many.specs.declared.policy.Lost.{Lost}
-use Rattle.t1_run.specs.declared.status.Status.{Status}
 
 module _ {A B X : Type 0} (takes : X → B → B → Handed → Option Lost → Type 0) (kept : A → X) (view : A → B) where
   abbrev takes_on : A → A → Handed → Option Lost → Type 0
@@ -19,8 +18,8 @@ module _ {A B X : Type 0} (takes : X → B → B → Handed → Option Lost → 
       inl (view next, took, subst (λ (k : X). HandsOn (takes k) (view next) (view new) xs lost) same (handed-kept next new xs lost rest))
   handed-kept old new (x ∷ xs) lost (inr (reason, (same, took), is)) = inr (reason, took, is)
 
-  pub fonts-kept : (run : Run) (old new : A) (Keeps : List Entry → Type 0) (result : Result Status Lost)
-      → ChecksFonts takes_on run old new Keeps result → ChecksFonts (takes (kept old)) run (view old) (view new) Keeps result
-  fonts-kept run old new Keeps result (whole entries are handed keeps is) = whole entries are (handed-kept old new _ _ handed) keeps is
-  fonts-kept run old new Keeps result (cut_short count entries are lost stop handed why is) =
+  pub fonts-kept : (run : Run) (old new : A) (result : Result Findings Lost) → ChecksFonts takes_on run old new result
+      → ChecksFonts (takes (kept old)) run (view old) (view new) result
+  fonts-kept run old new result (whole entries found are handed is same) = whole entries found are (handed-kept old new _ _ handed) is same
+  fonts-kept run old new result (cut_short count entries are lost stop handed why is) =
       cut_short count entries are lost stop (handed-kept old new _ stop handed) why is

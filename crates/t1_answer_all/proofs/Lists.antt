@@ -6,7 +6,7 @@ use Rattle.t1_answer_all.specs.Listing.{AreNamedBy, IsGlobOf}
 use Rattle.t1_answer_all.specs.Places.{ListsGiven}
 use Rattle.t1_answer_all.specs.Private.Words.{AreWordsOf}
 use Rattle.t1_answer_all.specs.Words.{undecoded_of, words_of}
-use Rattle.t1_answer_all.specs.declared.words.Words.{Words}
+use Rattle.t1_names.specs.declared.lists.Words.{Words}
 use Rattle.t1_names.proofs.NamedLemmas.{names_next, zip-push}
 use Rattle.t1_names.specs.GlobValues.{glob_of}
 use Rattle.t1_names.specs.Globs.{Glob}

@@ -9,7 +9,7 @@ use Rattle.t1_answer_all.specs.Places.{Texts}
 use Rattle.t1_answer_all.specs.Usage.{IsToldSo}
 use Rattle.t1_answer_all.specs.Private.Words.{AddsList, AreWordsOf, IsNoText, IsText}
 use Rattle.t1_answer_all.specs.Words.{CannotReadOne, given_words, undecoded_in}
-use Rattle.t1_answer_all.specs.declared.words.Words.{Words}
+use Rattle.t1_names.specs.declared.lists.Words.{Words}
 use Rattle.t1_names.proofs.NamedLemmas.{names_next, zip-push}
 use Rattle.t1_names.specs.Lists.{unreadable_in, words_in}
 use Rattle.t1_run.specs.declared.usage.UsageError.{UsageError}

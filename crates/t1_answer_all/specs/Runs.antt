@@ -56,17 +56,16 @@ pub data Concludes (plan : PlanValue) (found : Findings) (old new : SinkState) (
       → (status : Status) → Tells (lost_line lost) Failed behind new status → left ≡ nothing_left status → Concludes plan found old new left
 
 -- The same once what is chosen of the fonts was written, and where that stopped.
-abbrev pub ConcludesWritten : PlanValue → Findings → Result Status Lost → SinkState → SinkState → LeftValue → Type 0
-ConcludesWritten plan found (Ok status) old new left = Concludes plan found old new left
-ConcludesWritten plan found (Err lost) old new left =
+abbrev pub ConcludesWritten : PlanValue → Result Findings Lost → SinkState → SinkState → LeftValue → Type 0
+ConcludesWritten plan (Ok found) old new left = Concludes plan found old new left
+ConcludesWritten plan (Err lost) old new left =
     (status : Status) × Tells (lost_line lost) Failed old new status × (left ≡ nothing_left status)
 
 -- What is chosen of the fonts was written, and all was printed. Or it stopped while that was written, which is printed, and nothing is left.
 pub data Runs (run : Run) (old new : Sinks) (left : LeftValue) : Type 0 where
   concluded :
-      (behind : Sinks) → (found : Findings) → (status : Status) → WritesIn run old behind (record { found = found; status = Ok status })
-      → Concludes run.plan found behind.errors new.errors left → new.out ≡ behind.out → Runs run old new left
+      (behind : Sinks) → (found : Findings) → WritesIn run old behind (Ok found) → Concludes run.plan found behind.errors new.errors left
+      → new.out ≡ behind.out → Runs run old new left
   stopped :
-      (behind : Sinks) → (found : Findings) → (lost : Lost) → WritesIn run old behind (record { found = found; status = Err lost })
-      → (status : Status) → Tells (lost_line lost) Failed behind.errors new.errors status → new.out ≡ behind.out → left ≡ nothing_left status
-      → Runs run old new left
+      (behind : Sinks) → (lost : Lost) → WritesIn run old behind (Err lost) → (status : Status)
+      → Tells (lost_line lost) Failed behind.errors new.errors status → new.out ≡ behind.out → left ≡ nothing_left status → Runs run old new left

@@ -1,7 +1,8 @@
 -- What is written of fonts, by the layout.
 use Rattle.std.specs.Prelude.{◌≡◌, ℕ, Bool, List, Option, None, Some, Result, Ok, Err, IfOk}
-use Rattle.t1_answer_all.specs.Checks.{Checked, ChecksFonts, IsFound}
+use Rattle.t1_answer_all.specs.Checks.{ChecksFonts}
 use Rattle.t1_answer_all.specs.Unlisted.{GivesEach}
+use Rattle.t1_answer_all.specs.declared.findings.Findings.{Findings}
 use Rattle.t1_answer_all.specs.Plans.{Run}
 use Rattle.t1_answer_all.specs.Layouts.{LayoutValue, cases, commands, groups, json_lines, lines, sarif}
 use Rattle.t1_forms.specs.JUnit.{begun as no_case, junit_state, opening as suite_opening}
@@ -27,11 +28,10 @@ use Rattle.t1_printers.specs.JsonLines.{clean_written, object_written}
 use Rattle.t1_printers.specs.declared.github.GitHubCommands.{GitHubCommands as Commands}
 use Rattle.t1_rules.specs.declared.mask.Mask.{Mask}
 use Rattle.t1_run.specs.Opening.{Sinks}
-use Rattle.t1_run.specs.declared.status.Status.{Status}
 
 -- As `NAME: LINE`.
-abbrev pub WritesPlain : Bool → Run → Sinks → Sinks → Checked → Type 0
-WritesPlain reasons run old new checked = ChecksFonts (PlainTakes reasons) run old new (IsFound run.plan checked.found) checked.status
+abbrev pub WritesPlain : Bool → Run → Sinks → Sinks → Result Findings Lost → Type 0
+WritesPlain reasons = ChecksFonts (PlainTakes reasons)
 
 -- What comes after all else was written, and all was flushed; or that failed.
 pub data FinishesForm (Finishes : SinkState → SinkState → Option Lost → Type 0) (old new : SinkState) (lost : Option Lost) : Type 0 where
@@ -39,33 +39,30 @@ pub data FinishesForm (Finishes : SinkState → SinkState → Option Lost → Ty
   unfinished : (reason : Lost) → Finishes old new (Some reason) → lost ≡ Some reason → FinishesForm Finishes old new lost
 
 -- A form was finished, unless the check of its fonts stopped.
-abbrev pub FinishesChecked : (SinkState → SinkState → Option Lost → Type 0) → SinkState → SinkState → Result Status Lost → Result Status Lost → Type 0
-FinishesChecked Finishes old new (Ok status) result = FinishesForm Finishes old new (lost_of result) × IfOk result (λ s. s ≡ status)
+abbrev pub FinishesChecked : (SinkState → SinkState → Option Lost → Type 0) → SinkState → SinkState → Result Findings Lost → Result Findings Lost → Type 0
+FinishesChecked Finishes old new (Ok found) result = FinishesForm Finishes old new (lost_of result) × IfOk result (λ f. f ≡ found)
 FinishesChecked Finishes old new (Err lost) result = (new ≡ old) × (result ≡ Err lost)
 
 -- A formatter was given what couldn't be listed, then what is chosen of the fonts, and then it finished. Or it stopped at one of these.
 pub data WritesFormatted {T : Type 0} (form : Form T) (Finishes : T → SinkState → SinkState → Option Lost → Type 0) (run : Run) (old : Formatting T)
-    (new : Sinks) (checked : Checked) : Type 0 where
+    (new : Sinks) (result : Result Findings Lost) : Type 0 where
   written :
       (begun ended : Formatting T) → GivesEach form.writes (output_of old) (output_of begun) run.plan.unlisted None
-      → begun.errors ≡ old.errors → (status : Status)
-      → ChecksFonts (FormattedTakes form) run begun ended (IsFound run.plan checked.found) (Ok status)
-      → FinishesForm (Finishes ended.formatter) ended.out new.out None → new.errors ≡ ended.errors → checked.status ≡ Ok status
-      → WritesFormatted form Finishes run old new checked
+      → begun.errors ≡ old.errors → (found : Findings) → ChecksFonts (FormattedTakes form) run begun ended (Ok found)
+      → FinishesForm (Finishes ended.formatter) ended.out new.out None → new.errors ≡ ended.errors → result ≡ Ok found
+      → WritesFormatted form Finishes run old new result
   unfinished :
       (begun ended : Formatting T) → GivesEach form.writes (output_of old) (output_of begun) run.plan.unlisted None
-      → begun.errors ≡ old.errors → (status : Status)
-      → ChecksFonts (FormattedTakes form) run begun ended (IsFound run.plan checked.found) (Ok status)
+      → begun.errors ≡ old.errors → (found : Findings) → ChecksFonts (FormattedTakes form) run begun ended (Ok found)
       → (lost : Lost) → FinishesForm (Finishes ended.formatter) ended.out new.out (Some lost) → new.errors ≡ ended.errors
-      → checked.status ≡ Err lost → WritesFormatted form Finishes run old new checked
+      → result ≡ Err lost → WritesFormatted form Finishes run old new result
   stopped :
       (begun ended : Formatting T) → GivesEach form.writes (output_of old) (output_of begun) run.plan.unlisted None
-      → begun.errors ≡ old.errors → (lost : Lost)
-      → ChecksFonts (FormattedTakes form) run begun ended (IsFound run.plan checked.found) (Err lost)
-      → new ≡ record { out = ended.out; errors = ended.errors } → checked.status ≡ Err lost → WritesFormatted form Finishes run old new checked
+      → begun.errors ≡ old.errors → (lost : Lost) → ChecksFonts (FormattedTakes form) run begun ended (Err lost)
+      → new ≡ record { out = ended.out; errors = ended.errors } → result ≡ Err lost → WritesFormatted form Finishes run old new result
   unlistable :
       (left : T) → (lost : Lost) → GivesEach form.writes (output_of old) (record { formatter = left; out = new.out }) run.plan.unlisted (Some lost)
-      → new.errors ≡ old.errors → AreUntouched run.files → checked.status ≡ Err lost → WritesFormatted form Finishes run old new checked
+      → new.errors ≡ old.errors → AreUntouched run.files → result ≡ Err lost → WritesFormatted form Finishes run old new result
 
 -- Nothing comes after all else.
 abbrev pub NoEnd : {T : Type 0} → T → SinkState → SinkState → Option Lost → Type 0
@@ -78,59 +75,59 @@ lost_by errors.Broken = Device
 
 -- A document was begun by an opening, and then written; or it couldn't be begun.
 pub data WritesDocument {T : Type 0} (opening : List ℕ) (Begins : T → Type 0) (form : Form T) (Finishes : T → SinkState → SinkState → Option Lost → Type 0)
-    (run : Run) (old new : Sinks) (checked : Checked) : Type 0 where
+    (run : Run) (old new : Sinks) (result : Result Findings Lost) : Type 0 where
   begun :
       (document : T) → (behind : SinkState) → Wrote old.out behind opening → Begins document
-      → WritesFormatted form Finishes run (record { formatter = document; out = behind; errors = old.errors }) new checked
-      → WritesDocument opening Begins form Finishes run old new checked
+      → WritesFormatted form Finishes run (record { formatter = document; out = behind; errors = old.errors }) new result
+      → WritesDocument opening Begins form Finishes run old new result
   not_begun :
       (lost : Lost) → IsLinePut old.out new.out opening (Some lost) → new.errors ≡ old.errors → AreUntouched run.files
-      → checked.status ≡ Err lost → WritesDocument opening Begins form Finishes run old new checked
+      → result ≡ Err lost → WritesDocument opening Begins form Finishes run old new result
 
 -- A document of JUnit's form, in which the lines of these rules fail.
-abbrev pub WritesCases : Mask → Bool → Run → Sinks → Sinks → Checked → Type 0
-WritesCases failing reasons run old new checked =
+abbrev pub WritesCases : Mask → Bool → Run → Sinks → Sinks → Result Findings Lost → Type 0
+WritesCases failing reasons run old new result =
     WritesDocument suite_opening (λ document. junit_state document ≡ no_case failing)
-    (record { reasons = reasons; writes = case_telling_written; ends = case_written }) cases_ended run old new checked
+    (record { reasons = reasons; writes = case_telling_written; ends = case_written }) cases_ended run old new result
 
 -- What is chosen of the fonts was handed on to a form of groups, which had none at first.
-abbrev pub WritesGroups : Writing → Run → Sinks → Sinks → Checked → Type 0
-WritesGroups writing run old new checked =
+abbrev pub WritesGroups : Writing → Run → Sinks → Sinks → Result Findings Lost → Type 0
+WritesGroups writing run old new result =
     (left : List GroupValue)
     × ChecksFonts (GroupedTakes writing) run (record { out = old.out; errors = old.errors; groups = no_groups writing.room })
-    (record { out = new.out; errors = new.errors; groups = left }) (IsFound run.plan checked.found) checked.status
+    (record { out = new.out; errors = new.errors; groups = left }) result
 
 -- Commands were written of what couldn't be listed, and flushed; then groups of the fonts; or it stopped at one of these.
-pub data WritesCommands (reasons : Bool) (run : Run) (old new : Sinks) (checked : Checked) : Type 0 where
+pub data WritesCommands (reasons : Bool) (run : Run) (old new : Sinks) (result : Result Findings Lost) : Type 0 where
   written :
       (formatter : Commands) → (begun : Output Commands)
       → GivesEach command_written (record { formatter = formatter; out = old.out }) begun run.plan.unlisted None
       → (flushed : SinkState) → IsFlushed begun.out flushed None
-      → WritesGroups (command_writing reasons) run (record { out = flushed; errors = old.errors }) new checked
-      → WritesCommands reasons run old new checked
+      → WritesGroups (command_writing reasons) run (record { out = flushed; errors = old.errors }) new result
+      → WritesCommands reasons run old new result
   unflushed :
       (formatter : Commands) → (begun : Output Commands)
       → GivesEach command_written (record { formatter = formatter; out = old.out }) begun run.plan.unlisted None
-      → (lost : Lost) → IsFlushed begun.out new.out (Some lost) → new.errors ≡ old.errors → AreUntouched run.files → checked.status ≡ Err lost
-      → WritesCommands reasons run old new checked
+      → (lost : Lost) → IsFlushed begun.out new.out (Some lost) → new.errors ≡ old.errors → AreUntouched run.files → result ≡ Err lost
+      → WritesCommands reasons run old new result
   unlistable :
       (formatter left : Commands) → (lost : Lost)
       → GivesEach command_written (record { formatter = formatter; out = old.out }) (record { formatter = left; out = new.out }) run.plan.unlisted (Some lost)
-      → new.errors ≡ old.errors → AreUntouched run.files → checked.status ≡ Err lost → WritesCommands reasons run old new checked
+      → new.errors ≡ old.errors → AreUntouched run.files → result ≡ Err lost → WritesCommands reasons run old new result
 
 -- What is written in this layout.
-abbrev pub WritesBy : LayoutValue → Run → Sinks → Sinks → Checked → Type 0
-WritesBy (lines reasons) run old new checked = WritesPlain reasons run old new checked
-WritesBy (groups terminal) run old new checked =
-    WritesGroups (terminal_writing terminal.width terminal.has_colours terminal.reasons) run old new checked
-WritesBy (json_lines clean reasons) run old new checked =
+abbrev pub WritesBy : LayoutValue → Run → Sinks → Sinks → Result Findings Lost → Type 0
+WritesBy (lines reasons) run old new result = WritesPlain reasons run old new result
+WritesBy (groups terminal) run old new result =
+    WritesGroups (terminal_writing terminal.width terminal.has_colours terminal.reasons) run old new result
+WritesBy (json_lines clean reasons) run old new result =
     WritesFormatted (record { reasons = reasons; writes = object_written; ends = clean_written }) NoEnd run
-    (record { formatter = record { clean = clean }; out = old.out; errors = old.errors }) new checked
-WritesBy (sarif pages reasons) run old new checked =
+    (record { formatter = record { clean = clean }; out = old.out; errors = old.errors }) new result
+WritesBy (sarif pages reasons) run old new result =
     WritesDocument (opening pages) (λ document. sarif_state document ≡ no_line_of pages)
-    (record { reasons = reasons; writes = telling_written; ends = nothing_ends }) end_written run old new checked
-WritesBy (commands reasons) run old new checked = WritesCommands reasons run old new checked
-WritesBy (cases failing reasons) run old new checked = WritesCases failing reasons run old new checked
+    (record { reasons = reasons; writes = telling_written; ends = nothing_ends }) end_written run old new result
+WritesBy (commands reasons) run old new result = WritesCommands reasons run old new result
+WritesBy (cases failing reasons) run old new result = WritesCases failing reasons run old new result
 
-abbrev pub WritesIn : Run → Sinks → Sinks → Checked → Type 0
+abbrev pub WritesIn : Run → Sinks → Sinks → Result Findings Lost → Type 0
 WritesIn run = WritesBy run.plan.layout run

@@ -52,12 +52,11 @@ where
         (left_value result.left) }
 {
     let Written {
-        status,
         found,
         out,
         mut errors,
     } = write_fonts(alloc, plan, files, out, errors);
-    let left = conclude_written(alloc, plan, status, found, &mut errors);
+    let left = conclude_written(alloc, plan, found, &mut errors);
     Ran { left, out, errors }
 }
 
@@ -65,14 +64,13 @@ where
 fn conclude_written<E: Sink>(
     alloc: Global,
     plan: Plan<'_>,
-    status: Result<Status, Lost>,
-    found: Findings,
+    found: Result<Findings, Lost>,
     errors: &mut E,
 ) -> Left
-    ensures { ConcludesWritten (plan_value plan.entry) found status (E.state errors.old) (E.state errors.new) (left_value result) }
+    ensures { ConcludesWritten (plan_value plan.entry) found (E.state errors.old) (E.state errors.new) (left_value result) }
 {
-    match status {
-        Ok(_) => conclude(alloc, plan, found, errors),
+    match found {
+        Ok(found) => conclude(alloc, plan, found, errors),
         Err(lost) => nothing_left(tell_lost(lost, errors)),
     }
 }

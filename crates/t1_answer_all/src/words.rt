@@ -8,18 +8,9 @@ ghost use Rattle.t1_answer_all.specs.Words.{CannotReadOne, given_words, undecode
 
 use crate::usage::unreadable;
 use std::alloc::{AllocError, Global};
-use t1_names::{Cause, FileSystem, words_in};
+use t1_names::{Cause, FileSystem, Words, words_in};
 use t1_options::is_marked;
 use t1_run::UsageError;
-
-/// Words that may name fonts and folders.
-#[derive(Drop)]
-pub(crate) struct Words {
-    /// Those that are UTF-8.
-    pub(crate) words: Vec<String>,
-    /// How many aren't; 2^64 - 1 where there are more.
-    pub(crate) undecoded: usize,
-}
 
 /// The words of the command line, and those of these lists, in this order.
 pub(crate) fn all_words<F: FileSystem>(
@@ -80,6 +71,6 @@ fn add_list(alloc: Global, words: &mut Words, text: &[u8]) -> Result<(), AllocEr
 {
     let mut listed = words_in(alloc, text)?;
     words.words.append(&mut listed.words)?;
-    words.undecoded = words.undecoded.saturating_add(listed.passed_over);
+    words.undecoded = words.undecoded.saturating_add(listed.undecoded);
     Ok(())
 }

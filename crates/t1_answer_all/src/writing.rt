@@ -17,15 +17,12 @@ use t1_printers::{
     Formatted, Formatter, GitHubCommands, GitHubGroups, GroupForm, Grouped, JsonLines,
 };
 use t1_rules::Mask;
-use t1_run::Status;
 
 /// Fonts of which was written what is chosen.
 #[derive(Drop)]
 pub(crate) struct Written<W: Sink + Drop, E: Sink + Drop> {
-    /// The greatest status of the fonts, or why it stopped.
-    pub(crate) status: Result<Status, Lost>,
-    /// What was found in them.
-    pub(crate) found: Findings,
+    /// What was found in them, or why it stopped.
+    pub(crate) found: Result<Findings, Lost>,
     /// The output.
     pub(crate) out: W,
     /// Standard error.
@@ -47,7 +44,7 @@ where
     E: Sink + Drop,
     ensures { WritesIn (run_of plan.entry S.calls files.old files.new)
         (record { out = W.state out; errors = E.state errors }) (record { out = W.state result.out; errors = E.state result.errors })
-        (record { found = result.found; status = result.status }) }
+        result.found }
 {
     let mut out = out;
     match plan.layout {
@@ -60,7 +57,7 @@ where
         Layout::GitHub { reasons } => write_commands(alloc, plan, files, reasons, out, errors),
         Layout::Sarif { pages, reasons } => match Sarif::begin(alloc, &mut out, pages) {
             Ok(document) => write_formatted(alloc, plan, files, reasons, document, out, errors),
-            Err(error) => unwritten(alloc, lost_by(error), out, errors),
+            Err(error) => unwritten(lost_by(error), out, errors),
         },
         Layout::JUnit { failing, reasons } => {
             write_cases(alloc, plan, files, failing, reasons, out, errors)
@@ -83,7 +80,7 @@ where
     E: Sink + Drop,
     ensures { WritesPlain reasons (run_of plan.entry S.calls files.old files.new)
         (record { out = W.state out; errors = E.state errors }) (record { out = W.state result.out; errors = E.state result.errors })
-        (record { found = result.found; status = result.status }) }
+        result.found }
 {
     let form = Plain {
         reasons,
@@ -92,7 +89,6 @@ where
     };
     let checked = check_fonts(alloc, plan, files, form);
     Written {
-        status: checked.status,
         found: checked.found,
         out: checked.printer.out,
         errors: checked.printer.errors,
@@ -115,13 +111,12 @@ where
     E: Sink + Drop,
     ensures { WritesGroups (T.writing form) (run_of plan.entry S.calls files.old files.new)
         (record { out = W.state out; errors = E.state errors }) (record { out = W.state result.out; errors = E.state result.errors })
-        (record { found = result.found; status = result.status }) }
+        result.found }
 {
     let grouped = Grouped::new(alloc, form, out, errors);
     let checked = check_fonts(alloc, plan, files, grouped);
     let (_form, out, errors) = checked.printer.into_parts();
     Written {
-        status: checked.status,
         found: checked.found,
         out,
         errors,
@@ -143,16 +138,16 @@ where
     E: Sink + Drop,
     ensures { WritesCommands reasons (run_of plan.entry S.calls files.old files.new)
         (record { out = W.state out; errors = E.state errors }) (record { out = W.state result.out; errors = E.state result.errors })
-        (record { found = result.found; status = result.status }) }
+        result.found }
 {
     let mut out = out;
     let mut formatter = GitHubCommands;
     if let Err(lost) = give_unlisted(alloc, plan.unlisted, &mut formatter, &mut out) {
-        return unwritten(alloc, lost, out, errors);
+        return unwritten(lost, out, errors);
     }
     match out.flush() {
         Ok(()) => write_groups(alloc, plan, files, GitHubGroups { reasons }, out, errors),
-        Err(_) => unwritten(alloc, Lost::Device, out, errors),
+        Err(_) => unwritten(Lost::Device, out, errors),
     }
 }
 
@@ -172,12 +167,12 @@ where
     E: Sink + Drop,
     ensures { WritesCases failing reasons (run_of plan.entry S.calls files.old files.new)
         (record { out = W.state out; errors = E.state errors }) (record { out = W.state result.out; errors = E.state result.errors })
-        (record { found = result.found; status = result.status }) }
+        result.found }
 {
     let mut out = out;
     match JUnit::begin(alloc, &mut out, failing) {
         Ok(document) => write_formatted(alloc, plan, files, reasons, document, out, errors),
-        Err(error) => unwritten(alloc, lost_by(error), out, errors),
+        Err(error) => unwritten(lost_by(error), out, errors),
     }
 }
 
@@ -199,23 +194,18 @@ where
     ensures { WritesFormatted (record { reasons = reasons; writes = T.writes; ends = T.ends }) T.finishes (run_of plan.entry S.calls files.old files.new)
         (record { formatter = formatter; out = W.state out; errors = E.state errors })
         (record { out = W.state result.out; errors = E.state result.errors })
-        (record { found = result.found; status = result.status }) }
+        result.found }
 {
     let mut formatter = formatter;
     let mut out = out;
     if let Err(lost) = give_unlisted(alloc, plan.unlisted, &mut formatter, &mut out) {
-        return unwritten(alloc, lost, out, errors);
+        return unwritten(lost, out, errors);
     }
     let form = Formatted::new(alloc, formatter, out, errors, reasons);
     let checked = check_fonts(alloc, plan, files, form);
     let (formatter, mut out, errors) = checked.printer.into_parts();
-    let status = finish_checked(alloc, formatter, &mut out, checked.status);
-    Written {
-        status,
-        found: checked.found,
-        out,
-        errors,
-    }
+    let found = finish_checked(alloc, formatter, &mut out, checked.found);
+    Written { found, out, errors }
 }
 
 /// Finishes a form, unless the check of its fonts stopped.
@@ -223,13 +213,13 @@ fn finish_checked<T: Formatter + Drop, W: Sink>(
     alloc: Global,
     formatter: T,
     out: &mut W,
-    status: Result<Status, Lost>,
-) -> Result<Status, Lost>
-    ensures { FinishesChecked (T.finishes formatter) (W.state out.old) (W.state out.new) status result }
+    found: Result<Findings, Lost>,
+) -> Result<Findings, Lost>
+    ensures { FinishesChecked (T.finishes formatter) (W.state out.old) (W.state out.new) found result }
 {
-    let status = status?;
+    let found = found?;
     finish_form(alloc, formatter, out)?;
-    Ok(status)
+    Ok(found)
 }
 
 /// Writes what comes after all else, and flushes it.
@@ -252,19 +242,13 @@ fn lost_by(error: FormatError) -> Lost
 }
 
 /// Nothing was found, since it stopped before the first font.
-fn unwritten<W: Sink + Drop, E: Sink + Drop>(
-    alloc: Global,
-    lost: Lost,
-    out: W,
-    errors: E,
-) -> Written<W, E>
-    ensures status { result.status ≡ Err lost }
+fn unwritten<W: Sink + Drop, E: Sink + Drop>(lost: Lost, out: W, errors: E) -> Written<W, E>
+    ensures found { result.found ≡ Err lost }
     ensures out { result.out ≡ out }
     ensures errors { result.errors ≡ errors }
 {
     Written {
-        status: Err(lost),
-        found: Findings::none(alloc),
+        found: Err(lost),
         out,
         errors,
     }

@@ -1,5 +1,5 @@
 -- How the check of a font ends, by what is known of its files.
-use Rattle.std.proofs.Common.{◌≡◌, ℕ, Bool, false, List, Result, Ok, Err, Some, inl, inr, refl, sym, ap, subst, ◌∙◌}
+use Rattle.std.proofs.Common.{◌≡◌, ℕ, Bool, false, List, Option, Result, Ok, Err, Some, inl, inr, refl, sym, ap, subst, ◌∙◌}
 use Rattle.t1_font.specs.declared.unread.RefusalCode.TheVariants.{E05}
 use Rattle.t1_char.specs.declared.edition.Edition.{Edition}
 use Rattle.t1_font.specs.FontFiles.{IsUnread, font_in}
@@ -10,10 +10,10 @@ use Rattle.t1_report.specs.Refusals.{Refusal}
 use Rattle.t1_report.specs.Refusals.Refusal.{Font, FontTooLarge, Waivers, WaiversTooLarge}
 use Rattle.t1_many.specs.Files.{Given, IsFound, given_by}
 use Rattle.t1_many.specs.Files.IsFound.{breaks, breaks_waivers, no_memory, refused, reports, waivers_refused}
+use Rattle.t1_many.specs.Handing.{lost_of}
 use Rattle.t1_many.specs.Outcomes.{Entry, Outcome, failed, reported}
 use Rattle.t1_many.specs.Private.Checking.{Checks, of_bytes, of_font, of_text}
 use Rattle.t1_many.specs.Recipients.{recipient_by}
-use Rattle.t1_summary.specs.declared.found.FontClass.{FontClass}
 use Rattle.t1_many.specs.declared.policy.Lost.{Lost}
 use Rattle.t1_report.specs.Checked.{checked}
 use Rattle.t1_report.specs.Faults.{FaultValue}
@@ -58,14 +58,14 @@ found_by edition given wider outcome on (breaks_waivers font read broke same) =
     breaks_waivers font (on.reads _ read) (on.breaks_waivers broke) same
 found_by edition given wider outcome on (no_memory same) = no_memory same
 
-module _ {R : Type 0} (takes : R → R → Entry → Result FontClass Lost → Type 0) (edition : Edition) (name : List ℕ) where
-  pub checks_by : (given wider : Given) (a b : R) (result : Result (Result FontClass Lost) Failure) → Widens given wider
+module _ {R T : Type 0} (takes : R → R → Entry → Option Lost → Type 0) (edition : Edition) (name : List ℕ) where
+  pub checks_by : (given wider : Given) (a b : R) (result : Result (Result T Lost) Failure) → Widens given wider
       → Checks (recipient_by takes a b) edition name given result → Checks (recipient_by takes a b) edition name wider result
   checks_by given wider a b (Ok taken) on (report, found, took) = (report, found_by edition given wider (reported report) on found, took)
   checks_by given wider a b (Err failure) on (found, same) = (found_by edition given wider (ended failure) on found, same)
 
   -- the exit of a `?` at which nothing was done
-  pub not_found : (given : Given) (a b : R) (result : Result (Result FontClass Lost) Failure) (failure : Failure)
+  pub not_found : (given : Given) (a b : R) (result : Result (Result T Lost) Failure) (failure : Failure)
       → IsErrAnd result (λ f. f ≡ failure) → b ≡ a → IsFound edition given (ended failure)
       → Checks (recipient_by takes a b) edition name given result
   not_found given a b (Ok taken) failure is same found = absurd is
@@ -73,9 +73,9 @@ module _ {R : Type 0} (takes : R → R → Entry → Result FontClass Lost → T
       (subst (λ (f : Failure). IsFound edition given (ended f)) (sym is) found, same)
 
   -- a report that was taken
-  pub text_taken : (font : FontValue) (text : List ℕ) (waivers : List Waiver) (of : Edition) (a b : R) (taken : Result FontClass Lost)
+  pub text_taken : (font : FontValue) (text : List ℕ) (waivers : List Waiver) (of : Edition) (a b : R) (taken : Result T Lost)
       → of ≡ edition → waivers_of edition text ≡ Some waivers → (faults : List FaultValue) × IsReport (checked font of) waivers faults
-      × takes a b (record { name = name; outcome = reported (record { font = font; edition = of; waivers = waivers; faults = faults }) }) taken
+      × takes a b (record { name = name; outcome = reported (record { font = font; edition = of; waivers = waivers; faults = faults }) }) (lost_of taken)
       → Checks (recipient_by takes a b) edition name (of_text edition font text) (Ok taken)
   text_taken font text waivers of a b taken same read (faults, is, took) = (
     record { font = font; edition = of; waivers = waivers; faults = faults },

@@ -1,8 +1,7 @@
 -- Reports of which the lines beyond known faults are handed on.
-use Rattle.std.proofs.Common.{◌≡◌, ℕ, Bool, true, nat_lt, List, [], ◌∷◌, ◌++◌, Option, Result, Ok, Err, cond, filter, map, inl, inr, refl, sym, ap, ap₂, subst, ◌∙◌}
+use Rattle.std.proofs.Common.{◌≡◌, ℕ, Bool, true, nat_lt, List, [], ◌∷◌, ◌++◌, Option, None, Some, cond, filter, map, inl, inr, refl, sym, ap, ap₂, subst, ◌∙◌}
 use Rattle.std.proofs.lemmas.Bool.{cases_Bool}
 use Rattle.std.specs.List.{AllByRecursion}
-use Rattle.std.specs.Result.{IfOk}
 use Rattle.std.specs.Str.{bytes_eq}
 use Rattle.t1_font.specs.Fonts.{FontValue}
 use Rattle.t1_many.proofs.FaultKinds.{unit_in}
@@ -11,7 +10,7 @@ use Rattle.t1_many.proofs.TextCounts.{or_true}
 use Rattle.t1_many.proofs.Texts.{itself}
 use Rattle.t1_many.specs.Beyond.{verdict_beyond, verdict_of}
 use Rattle.t1_many.specs.Counts.{text_counts}
-use Rattle.t1_many.specs.Handing.{Handed, HandsFont, HandsOn, HandsReport, done, found_by, found_with, is_told, line, lines_by, lost_of}
+use Rattle.t1_many.specs.Handing.{Handed, HandsFont, HandsOn, HandsReport, done, found_by, found_with, is_told, line, lines_by}
 use Rattle.t1_many.specs.Kinds.{KindValue, counted_in}
 use Rattle.t1_many.specs.Known.{kind_in, verdict_known}
 use Rattle.t1_many.specs.KnownFaults.{counts_of, is_among}
@@ -32,7 +31,6 @@ use Rattle.t1_report.specs.Waivers.{Waiver}
 use Rattle.t1_rules.specs.Book.{number_of}
 use Rattle.t1_rules.specs.Mask.{has}
 use Rattle.t1_rules.specs.declared.mask.Mask.{Mask}
-use Rattle.t1_summary.specs.declared.found.FontClass.{FontClass}
 
 -- ---- faults that are judged alike
 
@@ -125,21 +123,16 @@ module _ {F : Type 0} (takes : F → F → Handed → Option Lost → Type 0) (r
       record { name = name; outcome = reported (record { font = font.value; edition = font.edition; waivers = waivers; faults = faults }) }
 
   kept : (judges : Report → FaultValue → Verdict) (a b : F) (old new : List Reading) (reading : Reading) (font : CheckedFont)
-      (waivers : List Waiver) (faults : List FaultValue) (taken result : Result FontClass Lost)
-      → HandsFont (recipient_by takes a b) judges (entry font waivers faults) taken
-      → IsReading name font.value waivers (told_faults rules faults) reading → Keeps old new reading taken result
+      (waivers : List Waiver) (faults : List FaultValue) (before end : Option Lost)
+      → HandsFont (recipient_by takes a b) judges (entry font waivers faults) before
+      → IsReading name font.value waivers (told_faults rules faults) reading → Keeps old new reading before end
       → TakesOutcome (record { printer = recipient_by takes a b; old = old; new = new }) judges rules name
-      (reported (record { font = font.value; edition = font.edition; waivers = waivers; faults = faults })) result
-  kept judges a b old new reading font waivers faults (Ok found) (Ok other) hands is (same, keeps) = (
-    subst (λ (f : FontClass). HandsFont (recipient_by takes a b) judges (entry font waivers faults) (Ok f)) (sym same) hands,
-    reading,
-    is,
-    keeps,
-  )
-  kept judges a b old new reading font waivers faults (Ok found) (Err lost) hands is (memory, keeps) = (inr (memory, hands.0), keeps)
-  kept judges a b old new reading font waivers faults (Err before) (Ok other) hands is never = absurd never
-  kept judges a b old new reading font waivers faults (Err before) (Err lost) hands is (same, keeps) = (
-    inl (subst (λ (l : Lost). HandsFont (recipient_by takes a b) judges (entry font waivers faults) (Err l)) (sym same) hands),
+      (reported (record { font = font.value; edition = font.edition; waivers = waivers; faults = faults })) end
+  kept judges a b old new reading font waivers faults None None hands is keeps = (hands, reading, is, keeps)
+  kept judges a b old new reading font waivers faults None (Some lost) hands is (memory, keeps) = (inr (memory, hands), keeps)
+  kept judges a b old new reading font waivers faults (Some before) None hands is never = absurd never
+  kept judges a b old new reading font waivers faults (Some before) (Some lost) hands is (same, keeps) = (
+    inl (subst (λ (l : Lost). HandsFont (recipient_by takes a b) judges (entry font waivers faults) (Some l)) (sym same) hands),
     keeps,
   )
 
@@ -147,19 +140,18 @@ module _ {F : Type 0} (takes : F → F → Handed → Option Lost → Type 0) (r
   pub report_anew : HasNoOtherReport → (font : CheckedFont) (waivers : List Waiver) (found : List (KindValue × ℕ))
       → CountsReport rules font waivers found → (reading : Reading)
       → ((kinds : List (List ℕ)) → text_counts found ≡ counts_of kinds → IsReadingOf reading (record { font = name; kinds = kinds }))
-      → (a b : F) (taken : Result FontClass Lost)
+      → (a b : F) (before : Option Lost)
       → HandsReport (recipient_by takes a b) (as_known rules (record { font = font.value; edition = font.edition; waivers = waivers; faults = [] }))
-      name font waivers taken
-      → (old new : List Reading) (result : Result FontClass Lost) → Keeps old new reading taken result
+      name font waivers before
+      → (old new : List Reading) (end : Option Lost) → Keeps old new reading before end
       → (faults : List FaultValue) × IsReport font waivers faults
       × TakesOutcome (record { printer = recipient_by takes a b; old = old; new = new }) (as_known rules) rules name
-      (reported (record { font = font.value; edition = font.edition; waivers = waivers; faults = faults })) result
-  report_anew no_other font waivers found (counted, is, there, are) reading is_reading a b taken (faults, report, handed, found_is) old new result
-      keeps =
+      (reported (record { font = font.value; edition = font.edition; waivers = waivers; faults = faults })) end
+  report_anew no_other font waivers found (counted, is, there, are) reading is_reading a b before (faults, report, handed) old new end keeps =
       let one : counted ≡ faults = no_other font waivers counted faults is report in (
         faults,
         report,
-        kept (as_known rules) a b old new reading font waivers faults taken result (handed, found_is)
+        kept (as_known rules) a b old new reading font waivers faults before end handed
             (subst (λ (fs : List FaultValue). IsReading name font.value waivers (told_faults rules fs) reading) one (is_reading _ are.texts)) keeps,
       )
 
@@ -168,28 +160,24 @@ module _ {F : Type 0} (takes : F → F → Handed → Option Lost → Type 0) (r
   pub report_kept : HasNoOtherReport → (font : CheckedFont) (waivers : List Waiver) → IsRead font.value waivers
       → (found known : List (KindValue × ℕ)) → CountsReport rules font waivers found → AreKnown counts name found known → (reading : Reading)
       → ((kinds : List (List ℕ)) → text_counts found ≡ counts_of kinds → IsReadingOf reading (record { font = name; kinds = kinds }))
-      → (a b : F) (taken : Result FontClass Lost)
+      → (a b : F) (before : Option Lost)
       → HandsReport (recipient_by takes a b) (λ fault. verdict_beyond rules known found (counted_in font.value waivers fault)) name font waivers
-      taken
-      → (old new : List Reading) (result : Result FontClass Lost) → Keeps old new reading taken result
+      before
+      → (old new : List Reading) (end : Option Lost) → Keeps old new reading before end
       → (faults : List FaultValue) × IsReport font waivers faults
       × TakesOutcome (record { printer = recipient_by takes a b; old = old; new = new }) (by_known counts rules name) rules name
-      (reported (record { font = font.value; edition = font.edition; waivers = waivers; faults = faults })) result
-  report_kept no_other font waivers read found known (counted, is, there, are) are_known reading is_reading a b taken
-      (faults, report, handed, found_is) old new result keeps =
+      (reported (record { font = font.value; edition = font.edition; waivers = waivers; faults = faults })) end
+  report_kept no_other font waivers read found known (counted, is, there, are) are_known reading is_reading a b before
+      (faults, report, handed) old new end keeps =
       let one : faults ≡ counted = no_other font waivers faults counted report is in
       let same = same_verdicts font.value waivers rules read name counts known found counted there are are_known in
       let p : FaultValue → Verdict = λ fault. verdict_beyond rules known found (counted_in font.value waivers fault) in
       let q = verdict_known counts rules name font.value waivers counted in
-      let hands : HandsOn takes a b (lines_by q name font waivers counted ++ done name (found_by q counted) ∷ []) (lost_of taken) =
-      subst (λ hs. HandsOn takes a b hs (lost_of taken)) (handed_alike p q name font waivers counted same)
-      (subst (λ (fs : List FaultValue). HandsOn takes a b (lines_by p name font waivers fs ++ done name (found_by p fs) ∷ []) (lost_of taken)) one
-      handed) in
-      let finds : IfOk taken (λ f. f ≡ found_by q counted) =
-      subst (λ f. IfOk taken (λ t. t ≡ f)) (found_alike p q counted same)
-      (subst (λ (fs : List FaultValue). IfOk taken (λ t. t ≡ found_by p fs)) one found_is) in (
+      let hands : HandsOn takes a b (lines_by q name font waivers counted ++ done name (found_by q counted) ∷ []) before =
+      subst (λ hs. HandsOn takes a b hs before) (handed_alike p q name font waivers counted same)
+      (subst (λ (fs : List FaultValue). HandsOn takes a b (lines_by p name font waivers fs ++ done name (found_by p fs) ∷ []) before) one
+      handed) in (
         counted,
         is,
-        kept takes rules name (by_known counts rules name) a b old new reading font waivers counted taken result (hands, finds)
-            (is_reading _ are.texts) keeps,
+        kept takes rules name (by_known counts rules name) a b old new reading font waivers counted before end hands (is_reading _ are.texts) keeps,
       )

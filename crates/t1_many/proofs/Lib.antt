@@ -7,7 +7,6 @@ pub mod FaultKinds
 pub mod FoundKinds
 pub mod Handed
 pub mod HandedReports
-pub mod JoinedParts
 pub mod KindCounts
 pub mod KindMaps
 pub mod KnownCounts
@@ -25,8 +24,6 @@ pub mod ReportLines
 pub mod Rows
 pub mod RowsRead
 pub mod SameKinds
-pub mod TellsAll
 pub mod TextCounts
 pub mod Texts
 pub mod WaiversRead
-pub mod Worst

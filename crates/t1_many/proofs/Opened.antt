@@ -13,11 +13,10 @@ use Rattle.t1_many.specs.declared.policy.Lost.{Lost}
 use Rattle.t1_run.specs.declared.failure.Failure.{Failure}
 use Rattle.t1_many.specs.FontErrors.{error_of}
 use Rattle.t1_names.specs.declared.causes.Cause.{Cause}
-use Rattle.t1_summary.specs.declared.found.FontClass.{FontClass}
 
 -- by what was done to the files, however it ended
-pub named_by : {R F : Type 0} (takes : R → R → Entry → Result FontClass Lost → Type 0) (calls : Calls F) (beside : WaiverFiles) (edition : Edition)
-    (name : List ℕ) (given : Given) (files files' : F) (a b : R) (result : Result (Result FontClass Lost) Failure)
+pub named_by : {R F T : Type 0} (takes : R → R → Entry → Option Lost → Type 0) (calls : Calls F) (beside : WaiverFiles) (edition : Edition)
+    (name : List ℕ) (given : Given) (files files' : F) (a b : R) (result : Result (Result T Lost) Failure)
     → ((outcome : Outcome) → IsFound edition given outcome → ChecksIn (files_by calls beside files files') edition name outcome)
     → Checks (recipient_by takes a b) edition name given result
     → ChecksNamed (recipient_by takes a b) (files_by calls beside files files') edition name (or_error result)

@@ -1,5 +1,5 @@
 -- What is handed on of many fonts, and in which order.
-use Rattle.std.specs.Prelude.{◌≡◌, ◌⊎◌, ℕ, List, [], ◌∷◌, ◌++◌, filter, map, Bool, true, false, Option, None, Some, Result, Ok, Err, IfOk}
+use Rattle.std.specs.Prelude.{◌≡◌, ◌⊎◌, ℕ, List, [], ◌∷◌, ◌++◌, filter, map, Bool, true, false, Option, None, Some, Result, Ok, Err}
 use Rattle.t1_many.specs.Outcomes.{Entry, Outcome, Report, failed, found_of_error, reported}
 use Rattle.t1_many.specs.Recipients.{Recipient}
 use Rattle.t1_summary.specs.declared.found.FontClass.{FontClass}
@@ -69,25 +69,20 @@ abbrev pub found_of : (Report → FaultValue → Verdict) → Outcome → FontCl
 found_of judges (reported report) = found_by (judges report) report.faults
 found_of judges (failed reason) = found_of_error reason
 
--- All of a font was handed on, and it was found so; or it stopped there.
-abbrev pub HandsFont : Recipient Handed (Option Lost) → (Report → FaultValue → Verdict) → Entry → Result FontClass Lost → Type 0
-HandsFont printer judges entry taken =
-    HandsOn printer.takes printer.old printer.new (handed_of judges entry.name entry.outcome) (lost_of taken)
-    × IfOk taken (λ found. found ≡ found_of judges entry.outcome)
+-- All of a font was handed on, or it stopped there.
+abbrev pub HandsFont : Recipient Handed (Option Lost) → (Report → FaultValue → Verdict) → Entry → Option Lost → Type 0
+HandsFont printer judges entry lost = HandsOn printer.takes printer.old printer.new (handed_of judges entry.name entry.outcome) lost
 
 -- The lines of a report that aren't omitted were handed on, and then how the font was found; or it stopped there.
-abbrev pub HandsReport : Recipient Handed (Option Lost) → (FaultValue → Verdict) → List ℕ → CheckedFont → List Waiver → Result FontClass Lost
-    → Type 0
-HandsReport printer judges name font waivers taken =
+abbrev pub HandsReport : Recipient Handed (Option Lost) → (FaultValue → Verdict) → List ℕ → CheckedFont → List Waiver → Option Lost → Type 0
+HandsReport printer judges name font waivers lost =
     (faults : List FaultValue) × IsReport font waivers faults
-    × HandsOn printer.takes printer.old printer.new (lines_by judges name font waivers faults ++ done name (found_by judges faults) ∷ []) (lost_of taken)
-    × IfOk taken (λ found. found ≡ found_by judges faults)
+    × HandsOn printer.takes printer.old printer.new (lines_by judges name font waivers faults ++ done name (found_by judges faults) ∷ []) lost
 
 -- Why there is no report was handed on, and then how the font was found; or it stopped there.
-abbrev pub HandsFailure : Recipient Handed (Option Lost) → List ℕ → FontError → Result FontClass Lost → Type 0
-HandsFailure printer name reason taken =
-    HandsOn printer.takes printer.old printer.new (failure name reason ∷ done name (found_of_error reason) ∷ []) (lost_of taken)
-    × IfOk taken (λ found. found ≡ found_of_error reason)
+abbrev pub HandsFailure : Recipient Handed (Option Lost) → List ℕ → FontError → Option Lost → Type 0
+HandsFailure printer name reason lost =
+    HandsOn printer.takes printer.old printer.new (failure name reason ∷ done name (found_of_error reason) ∷ []) lost
 
 -- ---- fonts of which something is kept
 

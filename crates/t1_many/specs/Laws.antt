@@ -1,27 +1,19 @@
 -- The statements of laws.
-use Rattle.std.specs.Prelude.{◌≡◌, ◌<◌, ◌≤◌, ◌^◌, ℕ, Bool, true, List, [], ◌∷◌, ◌++◌, Option, None, Some, length, map}
+use Rattle.std.specs.Prelude.{◌≡◌, ◌<◌, ◌^◌, ℕ, Bool, true, List, [], ◌∷◌, ◌++◌, Option, None, Some, length, map}
 use Rattle.std.specs.List.{AllByRecursion, flat_map}
 use Rattle.t1_char.specs.declared.edition.Edition.{Edition}
 use Rattle.t1_lines.specs.Lines.{FaultLineValue, IsFaultLine, PlaceValue, at_key, at_step, at_waiver}
-use Rattle.t1_report.specs.Faults.{FaultValue}
 use Rattle.t1_report.specs.Waivers.{is_waivable, waivers_of}
 use Rattle.t1_rules.specs.Book.{code_of}
 use Rattle.t1_rules.specs.declared.rule.Rule.{Rule}
 use Rattle.t1_run.specs.Opening.{Sinks}
-use Rattle.t1_run.specs.Statuses.{exit_code_of}
-use Rattle.t1_run.specs.declared.status.Status.{Status}
 use Rattle.t1_many.specs.Handing.{Handed, HandsOn, done}
-use Rattle.t1_many.specs.Plain.{IsWritten, PlainTakes, tellings, texts}
-use Rattle.t1_many.specs.Ends.{status_of_all}
-use Rattle.t1_many.specs.Told.{all_handed}
-use Rattle.t1_many.specs.declared.verdict.Verdict.{Verdict}
+use Rattle.t1_many.specs.Plain.{IsWritten, PlainTakes}
 use Rattle.t1_summary.specs.declared.found.FontClass.{FontClass}
 use Rattle.t1_many.specs.declared.policy.Lost.{Lost}
-use Rattle.t1_many.specs.Outcomes.{Entry, Report}
 use Rattle.t1_many.specs.Choice.{Choice, is_told, letters_of, picks}
 use Rattle.t1_many.specs.KnownFaults.{IsKind, IsRow, Reading, RowValue, beyond, kind_of, kinds_in, row_text, rule_of, mismatch, updated}
-use Rattle.t1_many.specs.Shards.{first_parts, joined, of_parts}
-use Rattle.t1_many.specs.Statuses.{worse, worst_of}
+use Rattle.t1_many.specs.Shards.{first_parts}
 use Rattle.t1_many.specs.WrittenWaivers.{waivers_of_lines, waivers_text}
 
 -- A code picks its rule alone.
@@ -61,25 +53,6 @@ ATextIsOneRow = (a b : RowValue) → IsRow a → IsRow b → row_text a ≡ row_
 abbrev pub PartsAreTheWhole : Type 0
 PartsAreTheWhole = (parts : ℕ) → 0 < parts → (list : List (List ℕ)) → first_parts parts list parts ≡ list
 
--- What is handed on of the fonts of parts, joined, is what is handed on of all of them.
-abbrev pub PartsAreHandedOn : Type 0
-PartsAreHandedOn =
-    (judges : List ℕ → Report → FaultValue → Verdict) (entries_of : ℕ → List Entry) (parts : ℕ)
-    → all_handed judges (joined entries_of parts) ≡ joined (λ part. all_handed judges (entries_of part)) parts
-
--- So are its bytes in the plain form, and what is printed on standard error.
-abbrev pub PartsAreWritten : Type 0
-PartsAreWritten =
-    (reasons : Bool) (handed_of : ℕ → List Handed) (parts : ℕ)
-    → (texts reasons (joined handed_of parts) ≡ joined (λ part. texts reasons (handed_of part)) parts)
-    × (tellings (joined handed_of parts) ≡ joined (λ part. tellings (handed_of part)) parts)
-
--- The status of all fonts is the greatest of the parts'.
-abbrev pub PartsHaveTheStatus : Type 0
-PartsHaveTheStatus =
-    (founds_of : ℕ → List FontClass) (parts : ℕ)
-    → status_of_all (joined founds_of parts) ≡ worst_of (of_parts (λ part. status_of_all (founds_of part)) parts)
-
 -- The kinds that were found are of rules that are reported, and they are fewer than a number of 64 bits counts.
 pub record IsReading (choice : Choice) (kinds : List (List ℕ)) : Type 0 where
   pub told : AllByRecursion (λ kind. is_told choice (rule_of kind) ≡ true) kinds
@@ -112,11 +85,3 @@ abbrev pub WrittenWaiversAreRead : Type 0
 WrittenWaiversAreRead =
     (edition : Edition) (lines : List FaultLineValue) → AllByRecursion (λ l. IsFaultLine l × CanBeWaived edition l.place l.rule) lines
     → waivers_of edition (waivers_text (waivers_of_lines lines)) ≡ Some (waivers_of_lines lines)
-
--- No status of a list is greater than the greatest.
-abbrev pub NoneIsWorse : Type 0
-NoneIsWorse = (statuses : List Status) → AllByRecursion (λ status. exit_code_of status ≤ exit_code_of (worst_of statuses)) statuses
-
--- The greatest of two lists together is the greater of theirs.
-abbrev pub JoinedAreWorse : Type 0
-JoinedAreWorse = (statuses more : List Status) → worst_of (statuses ++ more) ≡ worse (worst_of statuses) (worst_of more)

@@ -20,7 +20,6 @@ pub mod Reasons
 pub mod Recipients
 pub mod RowValues
 pub mod Shards
-pub mod Statuses
 pub mod Told
 pub mod Unchecked
 pub mod Verdicts

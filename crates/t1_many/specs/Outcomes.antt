@@ -1,5 +1,5 @@
 -- How the check of one font of many ends, and how the font was found.
-use Rattle.std.specs.Prelude.{◌≡◌, ◌≤◌, ℕ, List, length, Some, Result, Ok, Err}
+use Rattle.std.specs.Prelude.{◌≡◌, ◌≤◌, ℕ, List, length, Some, Ok}
 use Rattle.t1_char.specs.declared.edition.Edition.{Edition}
 use Rattle.t1_font.specs.Bounds.{most_glyphs}
 use Rattle.t1_font.specs.FontFiles.{font_in}
@@ -8,14 +8,8 @@ use Rattle.t1_summary.specs.declared.found.FontClass.{FontClass}
 use Rattle.t1_summary.specs.declared.found.FontClass.TheVariants as founds
 use Rattle.t1_many.specs.declared.font_error.FontError.{FontError}
 use Rattle.t1_many.specs.declared.font_error.FontError.TheVariants.{Refused, Unchecked}
-use Rattle.t1_many.specs.Recipients.{Recipient}
-use Rattle.t1_many.specs.declared.policy.Lost.{Lost}
-use Rattle.t1_report.specs.Checked.{CheckedFont}
 use Rattle.t1_report.specs.Faults.{FaultValue}
-use Rattle.t1_report.specs.Reports.{IsReport}
 use Rattle.t1_report.specs.Waivers.{Waiver, largest_waivers, waivers_of}
-use Rattle.t1_run.specs.declared.status.Status.{Status}
-use Rattle.t1_run.specs.declared.status.Status.TheVariants as statuses
 
 -- A font that was read of a file's bytes, and waivers that were read of a text in an edition.
 pub record IsRead (font : FontValue) (waivers : List Waiver) : Type 0 where
@@ -44,24 +38,7 @@ pub record Entry : Type 0 where
   pub name : List ℕ
   pub outcome : Outcome
 
--- The status of a run over a font that was found so.
-abbrev pub status_of_found : FontClass → Status
-status_of_found founds.Clean = statuses.Clean
-status_of_found founds.Known = statuses.Clean
-status_of_found founds.Faulty = statuses.Faults
-status_of_found founds.Refused = statuses.Refused
-status_of_found founds.Unchecked = statuses.Failed
-
 -- How a font was found of which there is no report.
 abbrev pub found_of_error : FontError → FontClass
 found_of_error (Refused code) = founds.Refused
 found_of_error (Unchecked why) = founds.Unchecked
-
--- The report of a font with these waivers was taken; or memory ran out, and nothing was done.
-abbrev pub TakesReport : {E : Type 0} → Recipient Entry (Result FontClass Lost) → List ℕ → CheckedFont → List Waiver
-    → Result (Result FontClass Lost) E → Type 0
-TakesReport recipient name font waivers (Ok taken) =
-    (faults : List FaultValue) × IsReport font waivers faults
-    × recipient.takes recipient.old recipient.new
-    (record { name = name; outcome = reported (record { font = font.value; edition = font.edition; waivers = waivers; faults = faults }) }) taken
-TakesReport recipient name font waivers (Err error) = recipient.new ≡ recipient.old

@@ -1,9 +1,9 @@
 -- Fonts whose lines are reported by known faults, and what is found in them.
 use Rattle.std.specs.Global.{Global}
-use Rattle.std.specs.Prelude.{◌≡◌, ◌⊎◌, ℕ, List, [], ◌∷◌, ◌++◌, if◌then◌else◌, map, None, Result, Ok, Err, string_bytes}
+use Rattle.std.specs.Prelude.{◌≡◌, ◌⊎◌, ℕ, List, [], ◌∷◌, ◌++◌, if◌then◌else◌, map, Option, None, Some, string_bytes}
 use Rattle.std.specs.declared.vec.Vec.{Vec}
 use Rattle.t1_font.specs.Fonts.{FontValue}
-use Rattle.t1_many.specs.Handing.{HandsFont, HandsOn, Keeping, handed_of}
+use Rattle.t1_many.specs.Handing.{HandsFont, Keeping}
 use Rattle.t1_many.specs.Known.{kind_in, verdict_known}
 use Rattle.t1_many.specs.KnownFaults.{Reading as FoundIn, counts_of}
 use Rattle.t1_many.specs.Outcomes.{Entry, Outcome, Report, failed, reported}
@@ -18,7 +18,6 @@ use Rattle.t1_report.specs.Waivers.{Waiver}
 use Rattle.t1_rules.specs.Book.{number_of}
 use Rattle.t1_rules.specs.Mask.{has}
 use Rattle.t1_rules.specs.declared.mask.Mask.{Mask}
-use Rattle.t1_summary.specs.declared.found.FontClass.{FontClass}
 
 -- The faults of a report are judged by what is known of its font.
 abbrev pub by_known : (List ℕ → ℕ) → Mask → List ℕ → Report → FaultValue → Verdict
@@ -42,24 +41,24 @@ abbrev pub IsReading : List ℕ → FontValue → List Waiver → List FaultValu
 IsReading name font waivers faults reading = IsReadingOf reading (record { font = name; kinds = map (kind_in font waivers) faults })
 
 -- What was found is kept, unless it stopped before, or memory ran out.
-abbrev pub Keeps : List Reading → List Reading → Reading → Result FontClass Lost → Result FontClass Lost → Type 0
-Keeps old new reading (Ok found) (Ok kept) = (kept ≡ found) × (new ≡ old ++ reading ∷ [])
-Keeps old new reading (Ok found) (Err lost) = (lost ≡ Memory) × (new ≡ old)
-Keeps old new reading (Err before) (Ok kept) = ⊥
-Keeps old new reading (Err before) (Err lost) = (lost ≡ before) × (new ≡ old)
+abbrev pub Keeps : List Reading → List Reading → Reading → Option Lost → Option Lost → Type 0
+Keeps old new reading None None = new ≡ old ++ reading ∷ []
+Keeps old new reading None (Some lost) = (lost ≡ Memory) × (new ≡ old)
+Keeps old new reading (Some before) None = ⊥
+Keeps old new reading (Some before) (Some lost) = (lost ≡ before) × (new ≡ old)
 
 -- A font is taken: what is reported of it is handed on, and what was found in it is kept where its report was made.
-abbrev pub TakesOutcome : Keeping Reading → (Report → FaultValue → Verdict) → Mask → List ℕ → Outcome → Result FontClass Lost → Type 0
-TakesOutcome keeping judges rules name (reported report) (Ok found) =
-    HandsFont keeping.printer judges (record { name = name; outcome = reported report }) (Ok found)
+abbrev pub TakesOutcome : Keeping Reading → (Report → FaultValue → Verdict) → Mask → List ℕ → Outcome → Option Lost → Type 0
+TakesOutcome keeping judges rules name (reported report) None =
+    HandsFont keeping.printer judges (record { name = name; outcome = reported report }) None
     × (reading : Reading) × IsReading name report.font report.waivers (told_faults rules report.faults) reading
     × (keeping.new ≡ keeping.old ++ reading ∷ [])
-TakesOutcome keeping judges rules name (reported report) (Err lost) =
-    (HandsFont keeping.printer judges (record { name = name; outcome = reported report }) (Err lost)
-    ⊎ ((lost ≡ Memory) × HandsOn keeping.printer.takes keeping.printer.old keeping.printer.new (handed_of judges name (reported report)) None))
+TakesOutcome keeping judges rules name (reported report) (Some lost) =
+    (HandsFont keeping.printer judges (record { name = name; outcome = reported report }) (Some lost)
+    ⊎ ((lost ≡ Memory) × HandsFont keeping.printer judges (record { name = name; outcome = reported report }) None))
     × (keeping.new ≡ keeping.old)
-TakesOutcome keeping judges rules name (failed reason) taken =
-    HandsFont keeping.printer judges (record { name = name; outcome = failed reason }) taken × (keeping.new ≡ keeping.old)
+TakesOutcome keeping judges rules name (failed reason) lost =
+    HandsFont keeping.printer judges (record { name = name; outcome = failed reason }) lost × (keeping.new ≡ keeping.old)
 
-abbrev pub TakesKnown : Keeping Reading → (Report → FaultValue → Verdict) → Mask → Entry → Result FontClass Lost → Type 0
-TakesKnown keeping judges rules entry taken = TakesOutcome keeping judges rules entry.name entry.outcome taken
+abbrev pub TakesKnown : Keeping Reading → (Report → FaultValue → Verdict) → Mask → Entry → Option Lost → Type 0
+TakesKnown keeping judges rules entry lost = TakesOutcome keeping judges rules entry.name entry.outcome lost

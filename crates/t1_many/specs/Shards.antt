@@ -1,5 +1,5 @@
 -- Parts of a list.
-use Rattle.std.specs.Prelude.{ℕ, suc, zero, ◌*◌, ◌/◌, List, [], ◌∷◌, ◌++◌, drop, length, take}
+use Rattle.std.specs.Prelude.{ℕ, suc, zero, ◌*◌, ◌/◌, List, [], ◌++◌, drop, length, take}
 
 -- Where part I + 1 of N begins in a list of so many: the parts before it have I of N of them.
 abbrev pub start_of : ℕ → ℕ → ℕ → ℕ
@@ -13,11 +13,6 @@ part_of parts list part = drop (start_of parts (length list) part) (take (start_
 abbrev pub joined : {A : Type 0} → (ℕ → List A) → ℕ → List A
 joined list_of zero = []
 joined list_of (suc n) = joined list_of n ++ list_of n
-
--- One thing of each of the first parts.
-abbrev pub of_parts : {A : Type 0} → (ℕ → A) → ℕ → List A
-of_parts value_of zero = []
-of_parts value_of (suc n) = of_parts value_of n ++ value_of n ∷ []
 
 -- The first parts, one after the other.
 abbrev pub first_parts : {A : Type 0} → ℕ → List A → ℕ → List A

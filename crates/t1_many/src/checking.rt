@@ -5,25 +5,24 @@ ghost use Rattle.t1_many.specs.Calls.{opened_in};
 ghost use Rattle.t1_many.specs.Ends.{Ends};
 ghost use Rattle.t1_many.specs.Files.{files_by};
 ghost use Rattle.t1_many.specs.FontFiles.{asks};
+ghost use Rattle.t1_many.specs.Handing.{lost_of};
 ghost use Rattle.t1_many.specs.Private.Checking.{AsksWaivers, ChecksNamed, TakesOne, or_error};
 ghost use Rattle.t1_many.specs.Recipients.{recipient_by};
 
 use crate::font_error::{FontError, Obstacle};
 use crate::font_files::{FontFiles, WaiverFiles};
-use crate::found::status_of;
 use crate::one_font::check_opened;
-use crate::policy::{Lost, Policy, Taken};
-use crate::status::worse;
+use crate::policy::{Policy, Taken};
 use crate::unchecked::has_line_end;
 use std::alloc::Global;
 use std::io;
 use t1_char::Edition;
 use t1_io::In;
 use t1_names::Cause;
-use t1_run::{Failure, Status};
+use t1_run::Failure;
 
 /// Checks the fonts of these names in order, with their waivers where these are read and a font has some. The policy takes how each check
-/// ended. A font that can't be read stops no other one. The status is the greatest of the fonts'.
+/// ended. A font that can't be read stops no other one.
 pub fn check_all<F: FontFiles, T: Policy>(
     alloc: Global,
     names: &[String],
@@ -31,16 +30,14 @@ pub fn check_all<F: FontFiles, T: Policy>(
     files: &mut F,
     edition: Edition,
     policy: &mut T,
-) -> Result<Status, Lost>
+) -> Taken
     ensures { Ends (recipient_by T.takes policy.old policy.new) (files_by F.calls beside files.old files.new) edition
-        (map string_bytes names.now) result }
+        (map string_bytes names.now) (lost_of result) }
 {
-    let mut worst = Status::Clean;
     for name in names {
-        let found = check_one(alloc, name.as_str(), beside, files, edition, policy)?;
-        worst = worse(worst, status_of(found));
+        check_one(alloc, name.as_str(), beside, files, edition, policy)?;
     }
-    Ok(worst)
+    Ok(())
 }
 
 /// Checks the font of a name, and hands on how the check ended.
@@ -53,7 +50,7 @@ fn check_one<F: FontFiles, T: Policy>(
     policy: &mut T,
 ) -> Taken
     ensures { TakesOne (recipient_by T.takes policy.old policy.new) (files_by F.calls beside files.old files.new) edition name.now
-        result }
+        (lost_of result) }
 {
     match check_named(alloc, name, beside, files, edition, policy) {
         Ok(taken) => taken,

@@ -2,12 +2,13 @@
 
 ghost use Rattle.std.specs.Prelude.{◌≡◌, ◌≤◌, ◌++◌, length};
 ghost use Rattle.t1_many.specs.FontErrors.{error_of, reason_of};
-ghost use Rattle.t1_names.specs.Causes.{cause_text};
+ghost use Rattle.t1_many.specs.Outcomes.{found_of_error};
 
 use arrayvec::ArrayString;
 use t1_font::RefusalCode;
 use t1_names::Cause;
 use t1_run::Failure;
+use t1_summary::FontClass;
 
 /// Why there is no report of a font.
 #[derive(Clone, Copy, Debug, PartialEq, Eq)]
@@ -46,27 +47,40 @@ impl From<Failure> for FontError {
     }
 }
 
+impl FontError {
+    /// How a font is found of which there is no report for this reason.
+    pub(crate) fn found(self) -> FontClass
+        ensures { result ≡ found_of_error self }
+    {
+        match self {
+            FontError::Refused(_) => FontClass::Refused,
+            FontError::Unchecked(_) => FontClass::Unchecked,
+        }
+    }
+}
+
 impl Obstacle {
     /// Why the font isn't checked, as it is reported.
     pub fn text(self) -> ObstacleText
         ensures { result.bytes ≡ reason_of self }
     {
         match self {
-            Obstacle::LineEnd => with_cause("its name has a line end", Cause::Unknown),
-            Obstacle::Unread(cause) => with_cause("read failed", cause),
-            Obstacle::WaiversUnread(cause) => with_cause("read of waivers failed", cause),
-            Obstacle::Memory => with_cause("out of memory", Cause::Unknown),
+            Obstacle::LineEnd => joined("its name has a line end", ""),
+            Obstacle::Unread(cause) => joined("read failed", cause.text()),
+            Obstacle::WaiversUnread(cause) => joined("read of waivers failed", cause.text()),
+            Obstacle::Memory => joined("out of memory", ""),
         }
     }
 }
 
 /// A message, and what is said of its cause.
-fn with_cause(message: &str, cause: Cause) -> ObstacleText
-    requires { length message.now ≤ 24 }
-    ensures { result.bytes ≡ message.now ++ cause_text cause }
+fn joined(message: &str, cause: &str) -> ObstacleText
+    requires message { length message.now ≤ 24 }
+    requires cause { length cause.now ≤ 40 }
+    ensures { result.bytes ≡ message.now ++ cause.now }
 {
     let mut text = ArrayString::new();
     text.push_str(message);
-    text.push_str(cause.text());
+    text.push_str(cause);
     text
 }

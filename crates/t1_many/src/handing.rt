@@ -2,7 +2,7 @@
 
 ghost use Rattle.std.specs.Prelude.{◌≡◌, ◌≤◌, length};
 ghost use Rattle.t1_font.specs.Bounds.{most_glyphs};
-ghost use Rattle.t1_many.specs.Handing.{HandsFailure, HandsReport};
+ghost use Rattle.t1_many.specs.Handing.{HandsFailure, HandsReport, lost_of};
 ghost use Rattle.t1_many.specs.Private.Handing.{HandsLines};
 ghost use Rattle.t1_many.specs.Recipients.{recipient_by};
 ghost use Rattle.t1_report.specs.Checked.{checked};
@@ -10,8 +10,7 @@ ghost use Rattle.t1_report.specs.Waivers.{largest_waivers};
 ghost use Rattle.t1_rules.specs.Components.{AreOf};
 
 use crate::font_error::FontError;
-use crate::found::found_of;
-use crate::policy::Taken;
+use crate::policy::{Lost, Taken};
 use crate::printer::Printer;
 use crate::verdict::Judge;
 use t1_font::Font;
@@ -36,14 +35,13 @@ pub fn hand_report<'a, F: Printer, J: Judge>(
     requires few_waivers { length waivers.now ≤ largest_waivers }
     requires sidebearings { AreOf font.now sidebearings.now }
     ensures { HandsReport (recipient_by F.takes printer.old printer.new) (J.judges judge.now font.now waivers.now) name.now
-        (checked font.now sidebearings.now.edition) waivers.now result }
+        (checked font.now sidebearings.now.edition) waivers.now (lost_of result) }
 {
     let found = hand_lines(printer, name, font, sidebearings, waivers, judge)?;
-    printer.done(name, found)?;
-    Ok(found)
+    printer.done(name, found)
 }
 
-/// Hands on the lines of a font's report that aren't omitted.
+/// Hands on the lines of a font's report that aren't omitted. Returns how the font was found.
 fn hand_lines<'a, F: Printer, J: Judge>(
     printer: &mut F,
     name: &str,
@@ -51,7 +49,7 @@ fn hand_lines<'a, F: Printer, J: Judge>(
     sidebearings: &'a Sidebearings,
     waivers: &'a Waivers<'a>,
     judge: &J,
-) -> Taken
+) -> Result<FontClass, Lost>
     requires few { length font.now.glyphs ≤ most_glyphs }
     requires few_waivers { length waivers.now ≤ largest_waivers }
     requires sidebearings { AreOf font.now sidebearings.now }
@@ -80,10 +78,8 @@ fn hand_lines<'a, F: Printer, J: Judge>(
 
 /// Hands on why there is no report of a font.
 pub fn hand_failure<F: Printer>(printer: &mut F, name: &str, reason: FontError) -> Taken
-    ensures { HandsFailure (recipient_by F.takes printer.old printer.new) name.now reason result }
+    ensures { HandsFailure (recipient_by F.takes printer.old printer.new) name.now reason (lost_of result) }
 {
     printer.failure(name, reason)?;
-    let found = found_of(reason);
-    printer.done(name, found)?;
-    Ok(found)
+    printer.done(name, reason.found())
 }

@@ -1,6 +1,6 @@
 //! Laws above the definitions: each is the contract of a function that does nothing.
 
-ghost use Rattle.t1_many.specs.Laws.{ATextIsOneRow, CodesPickTheirRule, JoinedAreWorse, KindsNameTheirRules, LettersPickTheirRules, LinesHaveKinds, NoLineIsBeyond, NoRowDiffers, NoneIsWorse, PartsAreHandedOn, PartsAreTheWhole, PartsAreWritten, PartsHaveTheStatus, PlainIsFlushed, PlainIsWritten, WrittenWaiversAreRead};
+ghost use Rattle.t1_many.specs.Laws.{ATextIsOneRow, CodesPickTheirRule, KindsNameTheirRules, LettersPickTheirRules, LinesHaveKinds, NoLineIsBeyond, NoRowDiffers, PartsAreTheWhole, PlainIsFlushed, PlainIsWritten, WrittenWaiversAreRead};
 
 /// A code picks its rule alone, and the letters of a code pick the rules whose codes have these letters.
 pub fn codes_pick_their_rules()
@@ -28,22 +28,6 @@ pub fn plain_lines_are_written()
 #[tactic(auto, using(crate::proofs::Parts::whole))]
 pub fn parts_are_the_whole()
     ensures { PartsAreTheWhole }
-{}
-
-/// What is handed on of parts, joined, is what is handed on of the whole, and so are its bytes; the greatest status of
-/// the parts is the whole's.
-#[tactic(auto, using(crate::proofs::JoinedParts::handed, crate::proofs::JoinedParts::status))]
-pub fn parts_are_told_as_the_whole()
-    ensures handed { PartsAreHandedOn }
-    ensures written { PartsAreWritten }
-    ensures status { PartsHaveTheStatus }
-{}
-
-/// No status is greater than the greatest, and that of two lists together is the greater of theirs.
-#[tactic(auto, using(crate::proofs::Worst::none_is_worse, crate::proofs::Worst::joined_are_worse))]
-pub fn statuses_join()
-    ensures none { NoneIsWorse }
-    ensures joined { JoinedAreWorse }
 {}
 
 /// Once what was found was made the known faults, the same fonts have no line beyond them, and no row differs.

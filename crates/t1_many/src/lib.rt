@@ -13,7 +13,6 @@ mod counted;
 mod counts;
 mod font_error;
 mod font_files;
-mod found;
 mod handing;
 mod kinds;
 mod known;
@@ -25,7 +24,6 @@ mod printer;
 mod readings;
 mod reasons;
 mod row;
-mod status;
 mod telling;
 mod unchecked;
 mod verdict;
@@ -40,7 +38,7 @@ pub use handing::{hand_failure, hand_report};
 pub use known::Known;
 pub use laws::{
     a_text_is_one_row, an_update_is_quiet, codes_pick_their_rules, parts_are_the_whole,
-    parts_are_told_as_the_whole, plain_lines_are_written, statuses_join, written_waivers_are_read,
+    plain_lines_are_written, written_waivers_are_read,
 };
 pub use plain::Plain;
 pub use policy::{Lost, Policy, Taken};
@@ -48,6 +46,6 @@ pub use printer::Printer;
 pub use readings::{Reading, ReportNew, UpdateBaseline};
 pub use reasons::{told_reason, told_text};
 pub use row::{Row, read_row};
-pub use telling::{ReportAll, tell_all};
+pub use telling::ReportAll;
 pub use unchecked::{put_in_one_line, tell_unchecked};
 pub use verdict::{Judge, Verdict};

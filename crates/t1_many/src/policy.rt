@@ -1,7 +1,9 @@
 //! What is done with each font that was checked.
 
-ghost use Rattle.std.specs.Prelude.{◌≡◌, Result};
-ghost use Rattle.t1_many.specs.Outcomes.{Entry, IsRead, TakesReport, failed};
+ghost use Rattle.std.specs.Prelude.{◌≡◌, Option};
+ghost use Rattle.t1_many.specs.Ends.{TakesReport};
+ghost use Rattle.t1_many.specs.Handing.{lost_of};
+ghost use Rattle.t1_many.specs.Outcomes.{Entry, IsRead, failed};
 ghost use Rattle.t1_many.specs.Recipients.{recipient_by};
 ghost use Rattle.t1_many.specs.declared.policy.Lost.TheVariants.{Device};
 ghost use Rattle.t1_report.specs.Checked.{checked};
@@ -13,7 +15,6 @@ use t1_font::Font;
 use t1_io::Broken;
 use t1_report::Waivers;
 use t1_rules::Sidebearings;
-use t1_summary::FontClass;
 
 /// Why a run over many fonts stops.
 #[derive(Clone, Copy, Debug, PartialEq, Eq)]
@@ -32,16 +33,15 @@ impl From<Broken> for Lost {
     }
 }
 
-/// How a font was found, unless the run stops there.
-pub type Taken = Result<FontClass, Lost>;
+/// Whether a font was taken, or why the run stops there.
+pub type Taken = Result<(), Lost>;
 
 /// What takes how the checks of fonts ended, one after another.
 pub trait Policy {
-    ghost use Rattle.t1_summary.specs.declared.found.FontClass.{FontClass};
     ghost use Rattle.t1_many.specs.declared.policy.Lost.{Lost};
 
-    // It took how the check of a font ended, and found the font so; or it stopped there.
-    ghost takes: { Self → Self → Entry → Result FontClass Lost → Type 0 };
+    // It took how the check of a font ended, or stopped there for a reason.
+    ghost takes: { Self → Self → Entry → Option Lost → Type 0 };
 
     /// Takes the report of a font. Where memory ran out before a line was written nothing was done.
     fn report<'a>(
@@ -58,5 +58,5 @@ pub trait Policy {
 
     /// Takes why there is none.
     fn failure(&mut self, name: &str, error: FontError) -> Taken
-        ensures { takes self.old self.new (record { name = name.now; outcome = failed error }) result };
+        ensures { takes self.old self.new (record { name = name.now; outcome = failed error }) (lost_of result) };
 }

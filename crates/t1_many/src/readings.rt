@@ -3,6 +3,7 @@
 ghost use Rattle.std.specs.Prelude.{◌≡◌, ℕ, IfOk, List, false};
 ghost use Rattle.t1_many.specs.Beyond.{verdict_of};
 ghost use Rattle.t1_many.specs.Counts.{kind_counts, text_counts};
+ghost use Rattle.t1_many.specs.Handing.{lost_of};
 ghost use Rattle.t1_many.specs.KnownFaults.{counts_of};
 ghost use Rattle.t1_many.specs.Private.Counts.{AreKnown};
 ghost use Rattle.t1_many.specs.Readings.{IsReadingOf, Keeps, TakesKnown, as_known, by_known};
@@ -46,9 +47,9 @@ pub struct ReportNew<K: Known + Drop, F: Printer + Drop> {
 }
 
 impl<K: Known + Drop, F: Printer + Drop> Policy for ReportNew<K, F> {
-    ghost takes = { λ old new entry taken. (new.rules ≡ old.rules) × (new.known ≡ old.known)
+    ghost takes = { λ old new entry lost. (new.rules ≡ old.rules) × (new.known ≡ old.known)
         × TakesKnown (record { printer = recipient_by F.takes old.printer new.printer; old = old.readings.items; new = new.readings.items })
-        (by_known (K.counts old.known) old.rules entry.name) old.rules entry taken };
+        (by_known (K.counts old.known) old.rules entry.name) old.rules entry lost };
 
     fn report<'a>(
         &mut self,
@@ -88,9 +89,9 @@ pub struct UpdateBaseline<F: Printer + Drop> {
 }
 
 impl<F: Printer + Drop> Policy for UpdateBaseline<F> {
-    ghost takes = { λ old new entry taken. (new.rules ≡ old.rules)
+    ghost takes = { λ old new entry lost. (new.rules ≡ old.rules)
         × TakesKnown (record { printer = recipient_by F.takes old.printer new.printer; old = old.readings.items; new = new.readings.items })
-        (as_known old.rules) old.rules entry taken };
+        (as_known old.rules) old.rules entry lost };
 
     fn report<'a>(
         &mut self,
@@ -169,11 +170,11 @@ fn read_kinds(alloc: Global, name: &str, found: &Kinds<'_>) -> Result<Reading, A
 
 /// Keeps what was found in a font after what was found in others, unless the run stops there.
 fn keep(readings: &mut Vec<Reading>, reading: Reading, taken: Taken) -> Taken
-    ensures { Keeps readings.old.items readings.new.items reading taken result }
+    ensures { Keeps readings.old.items readings.new.items reading (lost_of taken) (lost_of result) }
 {
-    let found = taken?;
+    taken?;
     match readings.push(reading) {
-        Ok(()) => Ok(found),
+        Ok(()) => Ok(()),
         Err(_) => Err(Lost::Memory),
     }
 }

@@ -6,7 +6,7 @@ use std::alloc::{AllocError, Global};
 use std::test::Fail;
 use t1_char::Edition;
 use t1_io::Out;
-use t1_many::{Plain, ReportAll, WaiverFiles, tell_all};
+use t1_many::{Plain, ReportAll, WaiverFiles, check_all};
 use t1_rules::Rule;
 
 /// The names of fonts, and what comes of their check.
@@ -116,7 +116,7 @@ fn check(
             errors: Out::new(told),
         },
     };
-    let _ = tell_all(alloc, names, beside, files, Edition::One, &mut telling);
+    let _ = check_all(alloc, names, beside, files, Edition::One, &mut telling);
 }
 
 /// Whether that comes of the check of these fonts.

@@ -8,7 +8,7 @@ use std::io::{ErrorKind, Read};
 use std::test::Fail;
 use t1_char::Edition;
 use t1_io::{In, Out};
-use t1_many::{FontFiles, Plain, ReportAll, WaiverFiles, tell_all};
+use t1_many::{FontFiles, Plain, ReportAll, WaiverFiles, check_all};
 use t1_rules::all_rules;
 
 /// A reader that returns up to so many bytes a read, and counts both. After its last byte is the end.
@@ -126,7 +126,7 @@ fn is_read_so(alloc: Global, case: &Case<'_>) -> Result<bool, AllocError> {
             errors: Out::new(&mut told),
         },
     };
-    let _ = tell_all(
+    let _ = check_all(
         alloc,
         names.as_slice(),
         WaiverFiles::Read,

@@ -9,24 +9,24 @@ use crate::words::file_name;
 use std::alloc::{AllocError, Global};
 use std::str;
 
-/// The words of a list.
+/// Words that may name fonts and folders.
 #[derive(Drop)]
 pub struct Words {
-    /// The lines that aren't empty, in their order.
+    /// Those that are UTF-8, in their order.
     pub words: Vec<String>,
-    /// How many lines aren't UTF-8, and so aren't words.
-    pub passed_over: usize,
+    /// How many aren't; 2^64 - 1 where there are more.
+    pub undecoded: usize,
 }
 
 /// The words of a list, one per line. Empty lines are skipped; the last line may have no end. `-` is the name of a file here, `./-`.
 pub fn words_in(alloc: Global, text: &[u8]) -> Result<Words, AllocError>
     ensures words { IfOk result (λ read. map string_bytes read.words.items ≡ words_in text.now) }
-    ensures passed_over { IfOk result (λ read. read.passed_over ≡ unreadable_in text.now) }
+    ensures undecoded { IfOk result (λ read. read.undecoded ≡ unreadable_in text.now) }
 {
     let lines = lines_of(alloc, text)?;
-    let passed_over = unreadable(lines.as_slice());
+    let undecoded = unreadable(lines.as_slice());
     let words = words_of(alloc, lines)?;
-    Ok(Words { words, passed_over })
+    Ok(Words { words, undecoded })
 }
 
 /// The lines of a text.

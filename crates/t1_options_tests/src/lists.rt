@@ -16,23 +16,15 @@ const LISTS: &[(&[u8], &str, usize)] = &[
 ];
 
 /// Whether a list has these words.
-fn is_read(
-    alloc: Global,
-    bytes: &[u8],
-    words: &str,
-    passed_over: usize,
-) -> Result<bool, AllocError> {
+fn is_read(alloc: Global, bytes: &[u8], words: &str, undecoded: usize) -> Result<bool, AllocError> {
     let read = words_in(alloc, bytes)?;
-    Ok(are_lines(read.words.as_slice(), words) && read.passed_over == passed_over)
+    Ok(are_lines(read.words.as_slice(), words) && read.undecoded == undecoded)
 }
 
 #[test]
 fn reads_a_name_a_line(rt: HostRuntime) -> Result<(), Fail> {
-    for (bytes, words, passed_over) in LISTS {
-        assert!(rt;
-            is_read(rt.alloc(), bytes, words, *passed_over)?,
-            "{bytes:?}"
-        );
+    for (bytes, words, undecoded) in LISTS {
+        assert!(rt; is_read(rt.alloc(), bytes, words, *undecoded)?, "{bytes:?}");
     }
     Ok(())
 }

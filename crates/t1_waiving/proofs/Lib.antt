@@ -2,5 +2,4 @@ pub mod NoneLeft
 pub mod TextsRead
 pub mod TooManyTold
 pub mod WaivedReports
-pub mod WaivesAll
 pub mod WrittenOnce

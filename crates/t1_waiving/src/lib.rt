@@ -1,8 +1,8 @@
 //! Waivers that are written beside fonts: each line of a glyph is waived, and the lines of the font itself are
 //! reported.
 //!
-//! [`waivers_text`] writes the waivers of one font's report. [`waive_all`] checks fonts one after another by a
-//! [`WriteWaivers`], which reports the other lines in a form and keeps the waivers of each font; [`tell_too_many`] names the
+//! [`waivers_text`] writes the waivers of one font's report. By a [`WriteWaivers`],
+//! [`check_all`](t1_many::check_all) reports the other lines in a form and keeps the waivers of each font; [`tell_too_many`] names the
 //! fonts that have more than are read.
 //!
 //! What is promised:
@@ -14,7 +14,7 @@
 //!   glyph, and no waiver is unused.
 //!
 //! ```
-//! let status = waive_all(alloc, names, WaiverFiles::LeftAside, &mut files, Edition::One, &mut waiving)?;
+//! check_all(alloc, names, WaiverFiles::LeftAside, &mut files, Edition::One, &mut waiving)?;
 //! let too_many = tell_too_many(&mut errors, &waiving.kept)?;
 //! for font in waiving.kept.fonts() { .. }
 //! ```
@@ -31,5 +31,5 @@ pub use glyph_lines::OutsideGlyphs;
 pub use kept::{FontWaivers, Kept};
 pub use laws::{written_texts_are_read, written_waivers_leave_no_glyph_line};
 pub use too_many::tell_too_many;
-pub use waiving::{WriteWaivers, waive_all};
+pub use waiving::WriteWaivers;
 pub use writing::waivers_text;

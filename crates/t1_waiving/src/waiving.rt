@@ -1,24 +1,18 @@
 //! Fonts of which the lines of glyphs are waived, and the others reported.
 
-ghost use Rattle.std.specs.Prelude.{◌≡◌, map, string_bytes};
-ghost use Rattle.t1_many.specs.Files.{files_by};
+ghost use Rattle.std.specs.Prelude.{◌≡◌};
 ghost use Rattle.t1_many.specs.Recipients.{recipient_by};
-ghost use Rattle.t1_waiving.specs.Waived.{WaivesAll, WaivesFont};
+ghost use Rattle.t1_waiving.specs.Waived.{WaivesFont};
 
 use crate::glyph_lines::OutsideGlyphs;
 use crate::kept::Kept;
 use crate::writing::waivers_text;
 use std::alloc::{AllocError, Global};
-use t1_char::Edition;
 use t1_font::Font;
-use t1_many::{
-    FontError, FontFiles, Lost, Policy, Printer, Taken, WaiverFiles, check_all, hand_failure,
-    hand_report,
-};
+use t1_many::{FontError, Policy, Printer, Taken, hand_failure, hand_report};
 use t1_names::is_input;
 use t1_report::{Waivers, a_font_has_one_report, waivers_leave_out_what_they_say};
 use t1_rules::{Mask, Sidebearings};
-use t1_run::Status;
 
 /// Reports the lines of these rules, in a form, but those of glyphs: of these it keeps the waivers. Of standard input, beside which none are
 /// written, it reports all.
@@ -33,9 +27,9 @@ pub struct WriteWaivers<F: Printer> {
 }
 
 impl<F: Printer> Policy for WriteWaivers<F> {
-    ghost takes = { λ old new entry taken.
+    ghost takes = { λ old new entry lost.
         (new.rules ≡ old.rules) × WaivesFont (record { printer = recipient_by F.takes old.printer new.printer; old = old.kept; new = new.kept })
-        old.rules entry taken };
+        old.rules entry lost };
 
     fn report<'a>(
         &mut self,
@@ -74,22 +68,4 @@ impl<F: Printer> Policy for WriteWaivers<F> {
     fn failure(&mut self, name: &str, error: FontError) -> Taken {
         hand_failure(&mut self.printer, name, error)
     }
-}
-
-/// Checks the fonts of these names in order, as [`check_all`] does. It reports the lines of some rules but those of
-/// glyphs, why there is no report of a font, and how each font was found. It keeps the waivers of the lines of glyphs. Of standard input it
-/// reports these too.
-pub fn waive_all<S: FontFiles, F: Printer>(
-    alloc: Global,
-    names: &[String],
-    beside: WaiverFiles,
-    files: &mut S,
-    edition: Edition,
-    waiving: &mut WriteWaivers<F>,
-) -> Result<Status, Lost>
-    ensures { WaivesAll
-        (record { printer = recipient_by F.takes waiving.old.printer waiving.new.printer; old = waiving.old.kept; new = waiving.new.kept })
-        waiving.old.rules (files_by S.calls beside files.old files.new) edition (map string_bytes names.now) result }
-{
-    check_all(alloc, names, beside, files, edition, waiving)
 }

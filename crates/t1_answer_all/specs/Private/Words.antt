@@ -6,7 +6,7 @@ use Rattle.std.specs.declared.vec.Vec.{Vec}
 use Rattle.t1_answer_all.specs.Places.{Texts}
 use Rattle.t1_answer_all.specs.Usage.{unreadable_text}
 use Rattle.t1_answer_all.specs.Words.{undecoded_of, words_of}
-use Rattle.t1_answer_all.specs.declared.words.Words.{Words}
+use Rattle.t1_names.specs.declared.lists.Words.{Words}
 use Rattle.t1_names.specs.Lists.{unreadable_in, words_in}
 use Rattle.t1_names.specs.declared.causes.Cause.{Cause}
 

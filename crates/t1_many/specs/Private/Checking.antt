@@ -12,9 +12,9 @@ use Rattle.t1_many.specs.FontErrors.{error_of}
 use Rattle.t1_many.specs.declared.font_error.FontError.{FontError}
 use Rattle.t1_names.specs.declared.causes.Cause.{Cause}
 use Rattle.t1_many.specs.Files.{ChecksIn, Files, Given, IsFound}
+use Rattle.t1_many.specs.Handing.{lost_of}
 use Rattle.t1_many.specs.Outcomes.{Entry, Outcome, Report, failed, reported}
 use Rattle.t1_many.specs.Recipients.{Recipient}
-use Rattle.t1_summary.specs.declared.found.FontClass.{FontClass}
 use Rattle.t1_many.specs.declared.policy.Lost.{Lost}
 
 -- A font that was read of a file's bytes.
@@ -48,17 +48,17 @@ of_bytes edition bytes asked old new = record {
 }
 
 -- The report of a font was taken; or there is none, and nothing was done.
-abbrev pub Checks : Recipient Entry (Result FontClass Lost) → Edition → List ℕ → Given → Result (Result FontClass Lost) Failure → Type 0
+abbrev pub Checks : {T : Type 0} → Recipient Entry (Option Lost) → Edition → List ℕ → Given → Result (Result T Lost) Failure → Type 0
 Checks recipient edition name given (Ok taken) =
     (report : Report) × IsFound edition given (reported report)
-    × recipient.takes recipient.old recipient.new (record { name = name; outcome = reported report }) taken
+    × recipient.takes recipient.old recipient.new (record { name = name; outcome = reported report }) (lost_of taken)
 Checks recipient edition name given (Err failure) = IsFound edition given (failed (error_of failure)) × (recipient.new ≡ recipient.old)
 
 -- The same, with all that was done to the files.
-abbrev pub ChecksNamed : Recipient Entry (Result FontClass Lost) → Files → Edition → List ℕ → Result (Result FontClass Lost) FontError → Type 0
+abbrev pub ChecksNamed : {T : Type 0} → Recipient Entry (Option Lost) → Files → Edition → List ℕ → Result (Result T Lost) FontError → Type 0
 ChecksNamed recipient files edition name (Ok taken) =
     (report : Report) × ChecksIn files edition name (reported report)
-    × recipient.takes recipient.old recipient.new (record { name = name; outcome = reported report }) taken
+    × recipient.takes recipient.old recipient.new (record { name = name; outcome = reported report }) (lost_of taken)
 ChecksNamed recipient files edition name (Err error) = ChecksIn files edition name (failed error) × (recipient.new ≡ recipient.old)
 
 -- What a check gave, or why there is no report.
@@ -67,10 +67,10 @@ or_error (Ok taken) = Ok taken
 or_error (Err failure) = Err (error_of failure)
 
 -- How the check of a font ended was taken.
-abbrev pub TakesOne : Recipient Entry (Result FontClass Lost) → Files → Edition → List ℕ → Result FontClass Lost → Type 0
-TakesOne recipient files edition name taken =
+abbrev pub TakesOne : Recipient Entry (Option Lost) → Files → Edition → List ℕ → Option Lost → Type 0
+TakesOne recipient files edition name lost =
     (outcome : Outcome) × ChecksIn files edition name outcome
-    × recipient.takes recipient.old recipient.new (record { name = name; outcome = outcome }) taken
+    × recipient.takes recipient.old recipient.new (record { name = name; outcome = outcome }) lost
 
 -- A font's waivers were asked for, if they are to be: they have a file that could be opened or not, or none. The store of files takes the name.
 abbrev pub AsksWaivers : Recipient (List ℕ) (Option (Result SourceState Cause)) → Bool → List ℕ → Option (Result SourceState Cause) → Type 0

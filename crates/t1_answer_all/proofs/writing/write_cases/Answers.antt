@@ -11,4 +11,4 @@ returns-in-Ok g c = begun c.in-Ok.document _ c.in-Ok.ensures.text c.in-Ok.ensure
 pub returns-in-Err : goal.returns-in-Err
 returns-in-Err g c =
     not_begun (lost_by c.in-Err.error) (rw c.unwritten.ensures.out (not_put JUnit _ _ _ c.in-Err.error c.in-Err.ensures.text))
-    (ap g.E.Sink.state c.unwritten.ensures.errors) refl (c.unwritten.ensures.status ∙ ap Err c.lost_by.ensures)
+    (ap g.E.Sink.state c.unwritten.ensures.errors) refl (c.unwritten.ensures.found ∙ ap Err c.lost_by.ensures)

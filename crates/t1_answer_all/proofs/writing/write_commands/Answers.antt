@@ -6,7 +6,7 @@ use Rattle.t1_many.specs.declared.policy.Lost.TheVariants.{Device}
 pub returns-in-Err : goal.returns-in-Err
 returns-in-Err g c =
     unlistable _ c.give_unlisted.new.formatter c.in-Err.lost (rw c.unwritten.ensures.out c.in-Err.ensures) (ap g.E.Sink.state c.unwritten.ensures.errors)
-    refl c.unwritten.ensures.status
+    refl c.unwritten.ensures.found
 
 pub returns-in-Ok : goal.returns-in-Ok
 returns-in-Ok g c =
@@ -16,4 +16,4 @@ pub returns-in-Err-flush : goal.returns-in-Err-flush
 returns-in-Err-flush g c =
     unflushed _ _ c.in_default.ensures Device
     (rw c.unwritten-in-Err-flush.ensures.out c.in-Err-flush.ensures.flushes.0) (ap g.E.Sink.state c.unwritten-in-Err-flush.ensures.errors)
-    refl c.unwritten-in-Err-flush.ensures.status
+    refl c.unwritten-in-Err-flush.ensures.found

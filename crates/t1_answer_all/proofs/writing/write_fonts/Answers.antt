@@ -33,7 +33,7 @@ pub returns-in-Err : goal.returns-in-Err
 returns-in-Err g c =
     written_in _ (sarif (pages_value c.in-Sarif.pages) c.in-Sarif.reasons) _ _ _ (ap layout_value c.in-Sarif.is)
     (not_begun (lost_by c.in-Err.error) (rw c.unwritten.ensures.out (not_put Sarif _ _ _ c.in-Err.error c.in-Err.ensures.text))
-    (ap g.E.Sink.state c.unwritten.ensures.errors) refl (c.unwritten.ensures.status ∙ ap Err c.lost_by.ensures))
+    (ap g.E.Sink.state c.unwritten.ensures.errors) refl (c.unwritten.ensures.found ∙ ap Err c.lost_by.ensures))
 
 pub returns-in-JUnit : goal.returns-in-JUnit
 returns-in-JUnit g c =

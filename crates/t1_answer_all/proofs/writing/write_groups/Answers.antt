@@ -8,7 +8,7 @@ returns g c =
     let left = c.check_fonts-checked.result.printer in
     let room = (g.T.GroupForm.writing c.args.form).room in
     let seen = fonts-seen (λ f. f.form) g.T.GroupForm.writing
-    (λ w f. record { out = g.W.Sink.state f.out; errors = g.E.Sink.state f.errors; groups = values_of w.room f.groups }) _ grouped left _ _
+    (λ w f. record { out = g.W.Sink.state f.out; errors = g.E.Sink.state f.errors; groups = values_of w.room f.groups }) _ grouped left _
     c.check_fonts-checked.ensures in (
       values_of room left.groups,
       rw (c.into_parts-form.ensures.out, c.into_parts-form.ensures.errors)

@@ -5,4 +5,4 @@ use Rattle.t1_many.specs.Plain.{PlainTakes}
 pub returns : goal.returns
 returns g c =
     fonts-kept PlainTakes (λ form. form.reasons) (λ form. record { out = g.W.Sink.state form.out; errors = g.E.Sink.state form.errors })
-    _ _ _ _ _ c.check_fonts-checked.ensures
+    _ _ _ _ c.check_fonts-checked.ensures

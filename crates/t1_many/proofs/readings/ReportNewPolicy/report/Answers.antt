@@ -9,5 +9,5 @@ returns g c =
     let taken = report_kept g.F.Printer.takes c.args.self.now.rules c.args.name.now (g.K.Known.counts c.args.self.now.known)
     c.a_font_has_one_report.ensures (checked c.args.font.now c.args.sidebearings.now.edition) c.args.waivers.now c.requires.read
     (kind_counts c.in_ok-found.found.entries) (kind_counts c.in_ok-both.both.known.entries) c.in_ok-found.ensures c.in_ok-both.ensures.known
-    c.in_ok-both.both.reading c.in_ok-both.ensures.reading _ _ c.hand_report-taken.result c.hand_report-taken.ensures _ _ c.keep.result c.keep.ensures in
+    c.in_ok-both.both.reading c.in_ok-both.ensures.reading _ _ _ c.hand_report-taken.ensures _ _ _ c.keep.ensures in
     (taken.0, taken.1, (refl, refl, taken.2))

@@ -13,8 +13,7 @@ returns-then-is_input g c =
       handed.1,
       (
         refl,
-        input_told g.F.Printer.takes c.args.self.now.rules _ _ _ _ c.args.name.now _ c.hand_report.result (sym c.is_input.ensures ∙ c.if-is_input.true)
-            (handed.2, handed.3) refl,
+        input_told g.F.Printer.takes c.args.self.now.rules _ _ _ _ c.args.name.now _ _ (sym c.is_input.ensures ∙ c.if-is_input.true) handed.2 refl,
       ),
     )
 
@@ -28,8 +27,8 @@ returns g c =
       handed.1,
       (
         refl,
-        font_waived g.F.Printer.takes c.args.self.now.rules _ _ _ _ c.args.name.now _ c.hand_report-2.result
-            (sym c.is_input.ensures ∙ c.if-is_input.false) (handed.2, handed.3)
+        font_waived g.F.Printer.takes c.args.self.now.rules _ _ _ _ c.args.name.now _ _
+            (sym c.is_input.ensures ∙ c.if-is_input.false) handed.2
             (c.in_ok-push.ensures ∙ ap (λ text. c.args.self.now.kept ++ texts_of c.args.name.now text)
             (written.2 ∙ ap (λ (faults : List FaultValue). report_text c.args.self.now.rules c.args.font.now c.args.waivers.now faults) same)),
       ),
