@@ -2,14 +2,14 @@
 
 ghost use Rattle.std.specs.Prelude.{◌≡◌, ◌≤◌, ◌++◌, ◌∷◌, IfOk, OnOk, decimal, length, map, option_map, string_bytes, unwrap_or};
 ghost use Rattle.std.specs.List.{flat_map};
-ghost use Rattle.serde_json.specs.Data.{object, string};
+ghost use Rattle.serde_json.specs.Data.{string};
 ghost use Rattle.serde_json.specs.View.{members_view, view};
 ghost use Rattle.serde_json.specs.Written.{compact_text};
 ghost use Rattle.t1_lines.specs.Lines.{at_step, line_value, place_value};
 ghost use Rattle.t1_forms.specs.PageValues.{page_value, pages_value, place_among};
 ghost use Rattle.t1_forms.specs.Shown.{shown};
 ghost use Rattle.t1_forms.specs.Tellings.{reason_value};
-ghost use Rattle.t1_forms.specs.SarifObjects.{and_reason, behind_colon, fault_locations, fingerprint, font_locations, help_object, is_plain_in_uri, level_coded, line_code, level_object, line_id, line_level, line_locations, line_message, line_unit, logical_location, logical_locations, notification_object, one, page_members, page_object, physical_location, place_unit, result_object, sarif_level, text_object, tool_object, unit_of, uri_byte};
+ghost use Rattle.t1_forms.specs.SarifObjects.{and_reason, behind_colon, fault_locations, fingerprint, font_locations, help_object, is_plain_in_uri, level_coded, line_code, level_object, line_id, line_level, line_locations, line_message, line_unit, logical_location, logical_locations, notification_object, page_members, page_object, physical_location, place_unit, result_object, sarif_level, text_object, tool_object, unit_of, uri_byte};
 
 use crate::objects::refusal_code;
 use crate::{Page, Pages, ToldReason, VERSION, shown};
@@ -127,23 +127,7 @@ fn tool_object(alloc: Global, pages: Pages<'_>) -> Result<Value, AllocError>
     ensures { IfOk result (λ v. view v ≡ tool_object (pages_value pages.entry)) }
 {
     let rules = Value::Array(page_objects(alloc, pages.list, pages.docs)?);
-    let mut driver = Map::new(alloc);
-    put(
-        &mut driver,
-        alloc,
-        "name",
-        Value::try_from_str(alloc, "t1check")?,
-    )?;
-    put(&mut driver, alloc, "rules", rules)?;
-    put(
-        &mut driver,
-        alloc,
-        "version",
-        Value::try_from_str(alloc, VERSION)?,
-    )?;
-    let mut tool = Map::new(alloc);
-    put(&mut tool, alloc, "driver", Value::Object(driver))?;
-    Ok(Value::Object(tool))
+    json!(in alloc; {"driver": {"name": "t1check", "rules": rules, "version": VERSION}})
 }
 
 /// Its text.
@@ -269,15 +253,6 @@ fn logical_locations(alloc: Global, place: &Place<'_>) -> Result<Vec<Value>, All
     Ok(places)
 }
 
-/// A list of one place.
-fn one(alloc: Global, members: Map<String, Value>) -> Result<Value, AllocError>
-    ensures { IfOk result (λ v. view v ≡ one (object (members_view members.entries))) }
-{
-    let mut places = Vec::new(alloc);
-    places.push(Value::Object(members))?;
-    Ok(Value::Array(places))
-}
-
 /// A font, where one is named, as a list of one place at most.
 fn font_locations(alloc: Global, font: Option<&[u8]>) -> Result<Value, AllocError>
     ensures { IfOk result (λ v. view v ≡ font_locations (option_map (λ name. name.now) font.entry)) }
@@ -285,14 +260,7 @@ fn font_locations(alloc: Global, font: Option<&[u8]>) -> Result<Value, AllocErro
     let Some(font) = font else {
         return Ok(Value::Array(Vec::new(alloc)));
     };
-    let mut members = Map::new(alloc);
-    put(
-        &mut members,
-        alloc,
-        "physicalLocation",
-        physical_location(alloc, font)?,
-    )?;
-    one(alloc, members)
+    json!(in alloc; [{"physicalLocation": physical_location(alloc, font)?}])
 }
 
 /// The place of a fault, in the font where one is named, as a list.
@@ -304,17 +272,13 @@ fn fault_locations(
     ensures { IfOk result (λ v. view v ≡ fault_locations (option_map (λ name. name.now) font.entry) (place_value place.now)) }
 {
     let places = Value::Array(logical_locations(alloc, place)?);
-    let mut members = Map::new(alloc);
-    put(&mut members, alloc, "logicalLocations", places)?;
-    if let Some(font) = font {
-        put(
-            &mut members,
-            alloc,
-            "physicalLocation",
-            physical_location(alloc, font)?,
-        )?;
+    match font {
+        Some(font) => {
+            let font = physical_location(alloc, font)?;
+            json!(in alloc; [{"logicalLocations": places, "physicalLocation": font}])
+        }
+        None => json!(in alloc; [{"logicalLocations": places}]),
     }
-    one(alloc, members)
 }
 
 /// What a line speaks of, as a list of one place at most.
@@ -484,44 +448,14 @@ fn result_object(
         (option_map (λ reason. reason_value reason.now) reason.entry) print.now) }
 {
     let message = message(alloc, line, text, reason)?;
-    let mut members = Map::new(alloc);
-    put(
-        &mut members,
-        alloc,
-        "ruleId",
-        Value::String(line_id(alloc, line)?),
-    )?;
-    put(
-        &mut members,
-        alloc,
-        "ruleIndex",
-        Value::from(place_among(pages, line_code(line))),
-    )?;
-    put(
-        &mut members,
-        alloc,
-        "level",
-        Value::try_from_str(alloc, line_level(line))?,
-    )?;
-    put(
-        &mut members,
-        alloc,
-        "message",
-        text_object(alloc, message.as_str())?,
-    )?;
-    put(
-        &mut members,
-        alloc,
-        "locations",
-        line_locations(alloc, font, line)?,
-    )?;
-    put(
-        &mut members,
-        alloc,
-        "partialFingerprints",
-        json!(in alloc; {"t1check/v1": print})?,
-    )?;
-    Ok(Value::Object(members))
+    json!(in alloc; {
+        "ruleId": line_id(alloc, line)?,
+        "ruleIndex": place_among(pages, line_code(line)),
+        "level": line_level(line),
+        "message": {"text": message},
+        "locations": line_locations(alloc, font, line)?,
+        "partialFingerprints": {"t1check/v1": print},
+    })
 }
 
 /// Its text.
@@ -547,26 +481,8 @@ fn notification_object(alloc: Global, font: Option<&[u8]>, line: &[u8]) -> Resul
     ensures { IfOk result (λ v. view v ≡ notification_object (option_map (λ name. name.now) font.entry) line.now) }
 {
     let message = shown(alloc, line)?;
-    let mut members = Map::new(alloc);
-    put(
-        &mut members,
-        alloc,
-        "level",
-        Value::try_from_str(alloc, "error")?,
-    )?;
-    put(
-        &mut members,
-        alloc,
-        "message",
-        text_object(alloc, message.as_str())?,
-    )?;
-    put(
-        &mut members,
-        alloc,
-        "locations",
-        font_locations(alloc, font)?,
-    )?;
-    Ok(Value::Object(members))
+    let locations = font_locations(alloc, font)?;
+    json!(in alloc; {"level": "error", "message": {"text": message}, "locations": locations})
 }
 
 /// Its text.
