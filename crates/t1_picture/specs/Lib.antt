@@ -3,6 +3,7 @@ pub mod Bounds
 pub mod CauseTexts
 pub mod Causes
 pub mod Drawings
+pub mod Extents
 pub mod Frames
 pub mod Laws
 pub mod Layers

@@ -3,8 +3,8 @@
 //! each fault a numbered mark, with t1check's line in a legend, and in red what its reason names: stems, points, components. Adobe Type 1
 //! Font Format 1.1, chapters 5, 6 and 8.
 //!
-//! [`picture`] makes it: of a whole glyph, up to a step, or of one fault alone ([`Shown`]), which may be one of the font's zones. What is
-//! drawn, and the form of the text, is said in docs/REFERENCE.md.
+//! [`picture`] makes it: of a whole glyph, up to a step, or of one fault alone ([`Shown`]), which may be one of the font's zones.
+//! [`shown_by`] finds that fault by its number. What is drawn, and the form of the text, is said in docs/REFERENCE.md.
 //!
 //! What is promised, for all fonts:
 //!
@@ -31,6 +31,7 @@ mod causes;
 mod component_outlines;
 mod directions;
 mod drawing;
+mod extent;
 mod faults;
 mod frame;
 mod groups;
@@ -48,6 +49,7 @@ mod svg;
 mod texts;
 mod view;
 
+pub use extent::{Extent, NoFault, shown_by};
 pub use laws::{
     a_fault_is_drawn_up_to_its_step, a_subject_has_one_picture, outlines_are_drawn,
     texts_stay_in_their_elements,

@@ -4,10 +4,11 @@ ghost use Rattle.std.specs.Prelude.{◌≡◌, ◌++◌, ◌==◌, IfOk, OnOk, [
 ghost use Rattle.std.specs.Option.{option_to_list};
 ghost use Rattle.t1_picture.specs.Causes.{zone_at};
 ghost use Rattle.t1_picture.specs.Drawings.{own_part};
+ghost use Rattle.t1_picture.specs.Extents.{CanBeShown};
 ghost use Rattle.t1_picture.specs.Marks.{causes_of, direction_at, fault_alone, faults_view, mark_alone, pen_at, place_of_stems, reason_of};
 ghost use Rattle.t1_picture.specs.Parts.{start_of};
 ghost use Rattle.t1_picture.specs.Subjects.{subject_of};
-ghost use Rattle.t1_picture.specs.Views.{CanBeDrawn, CanBeShown};
+ghost use Rattle.t1_picture.specs.Views.{CanBeDrawn};
 ghost use Rattle.t1_report.specs.Faults.{fault_value};
 
 use crate::bands::Direction;
@@ -31,7 +32,7 @@ pub(crate) fn fault_alone(
     fault: &Fault,
 ) -> Result<Faults, AllocError>
     requires view { CanBeDrawn view.now }
-    requires fault { CanBeShown view.now (fault_value fault.now) }
+    requires fault { CanBeShown view.now.font.now view.now.waivers.now view.now.glyph (fault_value fault.now) }
     requires start { start ≡ start_of (own_part (subject_of view.now)) }
     ensures { IfOk result (λ faults. faults_view faults ≡ fault_alone (subject_of view.now) (fault_value fault.now)) }
 {
@@ -53,7 +54,7 @@ pub(crate) fn fault_alone(
 /// Why the fault is there.
 fn reason_of(view: &View<'_>, fault: &Fault) -> Option<Reason>
     requires view { CanBeDrawn view.now }
-    requires fault { CanBeShown view.now (fault_value fault.now) }
+    requires fault { CanBeShown view.now.font.now view.now.waivers.now view.now.glyph (fault_value fault.now) }
     ensures { result ≡ reason_of (subject_of view.now) (fault_value fault.now) }
 {
     ReportReasons::new(view.font, view.sidebearings).reason(view.waivers, fault)

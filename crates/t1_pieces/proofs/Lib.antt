@@ -1,11 +1,9 @@
 pub mod DocumentLaws
 pub mod DocumentPlaces
 pub mod DocumentResults
-pub mod DrawnTexts
-pub mod EntryTexts
 pub mod GivenLines
-pub mod Numbers
 pub mod Objects
 pub mod PieceLaws
 pub mod Readings
 pub mod T1checkLaws
+pub mod WholeTexts

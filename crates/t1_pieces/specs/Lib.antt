@@ -5,7 +5,7 @@ pub mod Drawings
 pub mod Entries
 pub mod Forms
 pub mod Laws
-pub mod Numbered
 pub mod Pieces
 pub mod Reading
 pub mod T1check
+pub mod Wholes

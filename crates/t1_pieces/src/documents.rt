@@ -10,23 +10,17 @@ use crate::filling_documents::fill_document;
 use crate::piece::Piece;
 use crate::reading::{open, read_waivers};
 use crate::refusal::refuse;
+use crate::request::Request;
 use crate::stage::Reached;
 use std::alloc::Global;
-use t1_char::Edition;
 use t1_font::Font;
 use t1_forms::Pages;
 use t1_rules::Sidebearings;
 use t1_run::Failure;
 
-/// A font whose report is a document.
+/// What a document says beside the report.
 #[derive(Clone, Copy, Debug)]
 pub struct DocumentRequest<'a> {
-    /// The bytes of the font's file.
-    pub font: &'a [u8],
-    /// The text of waivers; without waivers it is empty.
-    pub waivers: &'a [u8],
-    /// The edition of the rule book.
-    pub edition: Edition,
     /// The font's name, as results have it.
     pub name: &'a str,
     /// The pages of rules and refusals, as the document has them.
@@ -37,15 +31,16 @@ pub struct DocumentRequest<'a> {
 /// as many as the room holds. The place is moved to the last of them.
 pub fn document(
     alloc: Global,
-    request: &DocumentRequest<'_>,
+    request: &Request<'_>,
+    wanted: &DocumentRequest<'_>,
     reached: &mut Reached,
     room: &mut [u8],
 ) -> Piece
-    ensures piece { IsDocumentPiece (subject_read request.now.name.now (pages_value request.now.pages)
+    ensures piece { IsDocumentPiece (subject_read wanted.now.name.now (pages_value wanted.now.pages)
         (input_in request.now.edition request.now.font.now request.now.waivers.now)) reached.old reached.new room.new result }
     ensures length { length room.new ≡ length room.old }
 {
-    match document_of_file(alloc, request, reached, room) {
+    match document_of_file(alloc, request, wanted, reached, room) {
         Ok(piece) => piece,
         Err(Failure::Refused(code)) => refuse(code, room),
         Err(_) => Piece::Memory,
@@ -55,11 +50,12 @@ pub fn document(
 /// Reads the font, and hands over its document.
 fn document_of_file(
     alloc: Global,
-    request: &DocumentRequest<'_>,
+    request: &Request<'_>,
+    wanted: &DocumentRequest<'_>,
     reached: &mut Reached,
     room: &mut [u8],
 ) -> Result<Piece, Failure>
-    ensures piece { IfOk result (IsReadDocumentPiece (subject_read request.now.name.now (pages_value request.now.pages)
+    ensures piece { IfOk result (IsReadDocumentPiece (subject_read wanted.now.name.now (pages_value wanted.now.pages)
         (input_in request.now.edition request.now.font.now request.now.waivers.now)) reached.old reached.new room.new) }
     ensures failed { IfErr result (IsFailureOf (input_in request.now.edition request.now.font.now request.now.waivers.now)) }
     ensures reached { OnErr result (reached.new ≡ reached.old) }
@@ -67,7 +63,7 @@ fn document_of_file(
 {
     let mut file = open(alloc, request.font)?;
     let font = file.font(alloc)?;
-    let piece = document_of_font(alloc, &font, request, reached, room);
+    let piece = document_of_font(alloc, &font, request, wanted, reached, room);
     font.let_go();
     piece
 }
@@ -76,11 +72,12 @@ fn document_of_file(
 fn document_of_font(
     alloc: Global,
     font: &Font<'_>,
-    request: &DocumentRequest<'_>,
+    request: &Request<'_>,
+    wanted: &DocumentRequest<'_>,
     reached: &mut Reached,
     room: &mut [u8],
 ) -> Result<Piece, Failure>
-    ensures piece { IfOk result (IsReadDocumentPiece (subject_read request.now.name.now (pages_value request.now.pages)
+    ensures piece { IfOk result (IsReadDocumentPiece (subject_read wanted.now.name.now (pages_value wanted.now.pages)
         (input_of request.now.edition (Ok font.now) (waivers_in request.now.edition request.now.waivers.now))) reached.old reached.new room.new) }
     ensures failed { IfErr result (IsFailureOf (input_of request.now.edition (Ok font.now) (waivers_in request.now.edition request.now.waivers.now))) }
     ensures reached { OnErr result (reached.new ≡ reached.old) }
@@ -90,7 +87,7 @@ fn document_of_font(
     let sidebearings = Sidebearings::prepare(alloc, font, request.edition)?;
     Ok(fill_document(
         alloc,
-        request,
+        wanted,
         &*font,
         &sidebearings,
         &waivers,

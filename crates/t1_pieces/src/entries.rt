@@ -1,80 +1,51 @@
 //! From the bytes of a font to the numbers of an entry.
 
-ghost use Rattle.std.specs.Prelude.{◌≡◌, ◌++◌, IfErr, IfOk, OnOk, length, option_map, string_bytes};
+ghost use Rattle.std.specs.Prelude.{◌≡◌, ◌++◌, IfErr, IfOk, OnOk, length, string_bytes};
 ghost use Rattle.std.specs.List.{flat_map};
 ghost use Rattle.t1_font.specs.Entries.{entry_view};
-ghost use Rattle.t1_rules.specs.Keys.{value_at};
 ghost use Rattle.t1_run.specs.FontFiles.{font_of};
-ghost use Rattle.t1_pieces.specs.Entries.{IsEntryRefusedBy, IsNumbersPiece, IsNumbersTextIn, IsReadNumbers, entry_numbers, next_number, numbers_text};
+ghost use Rattle.t1_pieces.specs.Entries.{AreNumbersOf, IsNumbersPiece, entry_numbers, next_number, numbers_text};
 ghost use Rattle.t1_pieces.specs.Reading.{IsFailureOf};
+ghost use Rattle.t1_pieces.specs.Wholes.{IsMadeOf, made_value};
 
-use crate::entry_request::EntryRequest;
-use crate::entry_result::EntryResult;
 use crate::reading::open;
-use crate::room::put_after;
+use crate::whole::{Made, Missing, Whole, hand_over};
 use std::alloc::{AllocError, Global};
 use std::fmt::Write;
-use t1_font::{Entry, RefusalCode, refusal_text};
+use t1_font::{Entry, Key};
 use t1_reason_texts::value;
 use t1_run::Failure;
 
-/// Hands over the numbers of an entry that is a list: how many there are, and the first 16 of them, as decimals, each behind a blank.
-pub fn entry_numbers(alloc: Global, request: &EntryRequest<'_>, room: &mut [u8]) -> EntryResult
-    ensures numbers { IsNumbersPiece request.now.key (font_of request.now.font.now) room.new result }
+/// Hands over the numbers of the entry of a key that is a list: how many there are, and the first 16 of them, as decimals, each after a blank.
+pub fn entry_numbers(alloc: Global, font: &[u8], key: Key, room: &mut [u8]) -> Whole
+    ensures numbers { IsNumbersPiece key (font_of font.now) room.new result }
     ensures length { length room.new ≡ length room.old }
 {
-    match text_of_file(alloc, request) {
-        Ok(Some(text)) => put_numbers(text.as_bytes(), room),
-        Ok(None) => EntryResult::NoNumbers,
-        Err(Failure::Refused(code)) => put_refusal(code, room),
-        Err(_) => EntryResult::Memory,
-    }
+    hand_over(numbers_of_file(alloc, font, key), room)
 }
 
-/// Puts a text of numbers into a room.
-fn put_numbers(text: &[u8], room: &mut [u8]) -> EntryResult
-    ensures text { IsNumbersTextIn text.now room.new result }
-    ensures length { length room.new ≡ length room.old }
+/// Reads the font, and writes the numbers.
+fn numbers_of_file(alloc: Global, font: &[u8], key: Key) -> Result<Made, Failure>
+    ensures numbers { IfOk result (λ made. IsMadeOf (AreNumbersOf key) (font_of font.now) (made_value made)) }
+    ensures failed { IfErr result (IsFailureOf (font_of font.now)) }
 {
-    if text.len() > room.len() {
-        return EntryResult::NoRoom(text.len());
-    }
-    put_after(room, 0, text);
-    EntryResult::Numbers(text.len())
-}
-
-/// Puts the text of a refusal into a room.
-fn put_refusal(code: RefusalCode, room: &mut [u8]) -> EntryResult
-    ensures text { IsEntryRefusedBy code room.new result }
-    ensures length { length room.new ≡ length room.old }
-{
-    let text = refusal_text(code).as_bytes();
-    if text.len() > room.len() {
-        return EntryResult::NoRoom(text.len());
-    }
-    put_after(room, 0, text);
-    EntryResult::Refused(text.len())
-}
-
-/// Reads the font, and writes the numbers: None where the entry is no list of numbers.
-fn text_of_file(alloc: Global, request: &EntryRequest<'_>) -> Result<Option<String>, Failure>
-    ensures text { IfOk result (λ text. IsReadNumbers request.now.key (font_of request.now.font.now) (option_map string_bytes text)) }
-    ensures failed { IfErr result (IsFailureOf (font_of request.now.font.now)) }
-{
-    let mut file = open(alloc, request.font)?;
+    let mut file = open(alloc, font)?;
     let font = file.font(alloc)?;
-    let text = text_of_entry(alloc, font.value(request.key));
+    let numbers = numbers_of_entry(alloc, font.value(key));
     font.let_go();
-    Ok(text?)
+    Ok(numbers?)
 }
 
 /// Writes the numbers of an entry, if it is a list of numbers.
-fn text_of_entry(alloc: Global, entry: &Entry) -> Result<Option<String>, AllocError>
-    ensures { IfOk result (λ text. option_map string_bytes text ≡ entry_numbers (entry_view entry.now)) }
+fn numbers_of_entry(alloc: Global, entry: &Entry) -> Result<Made, AllocError>
+    ensures { IfOk result (λ made. made_value made ≡ entry_numbers (entry_view entry.now)) }
 {
     match entry {
-        Entry::Numbers { count, first } => Ok(Some(numbers_text(alloc, *count, first.as_slice())?)),
-        _ => Ok(None),
+        Entry::Numbers { count, first } => {
+            let text = numbers_text(alloc, *count, first.as_slice())?;
+            Ok(Made::Text(text))
+        }
+        _ => Ok(Made::Nothing(Missing::Numbers)),
     }
 }
 

@@ -7,6 +7,7 @@ ghost use Rattle.t1_pieces.specs.Pieces.{IsPiece, IsReadPiece};
 ghost use Rattle.t1_pieces.specs.Reading.{IsFailureOf, input_in, input_of};
 
 use crate::filling::fill;
+use crate::form::Form;
 use crate::piece::Piece;
 use crate::refusal::refuse;
 use crate::request::Request;
@@ -19,12 +20,18 @@ use t1_run::{Failure, LARGEST_FILE};
 
 /// Hands over the lines of a font's report after a mark, as many as the room holds, and moves the mark to the last of
 /// them. Of the mark of four zeros they are the first lines.
-pub fn lines(alloc: Global, request: &Request<'_>, mark: &mut Mark, room: &mut [u8]) -> Piece
-    ensures piece { IsPiece request.now.form (input_in request.now.edition request.now.font.now request.now.waivers.now)
+pub fn lines(
+    alloc: Global,
+    request: &Request<'_>,
+    form: Form<'_>,
+    mark: &mut Mark,
+    room: &mut [u8],
+) -> Piece
+    ensures piece { IsPiece form.entry (input_in request.now.edition request.now.font.now request.now.waivers.now)
         mark.old mark.new room.new result }
     ensures length { length room.new ≡ length room.old }
 {
-    match lines_of_file(alloc, request, mark, room) {
+    match lines_of_file(alloc, request, form, mark, room) {
         Ok(piece) => piece,
         Err(Failure::Refused(code)) => refuse(code, room),
         Err(_) => Piece::Memory,
@@ -35,10 +42,11 @@ pub fn lines(alloc: Global, request: &Request<'_>, mark: &mut Mark, room: &mut [
 fn lines_of_file(
     alloc: Global,
     request: &Request<'_>,
+    form: Form<'_>,
     mark: &mut Mark,
     room: &mut [u8],
 ) -> Result<Piece, Failure>
-    ensures piece { IfOk result (IsReadPiece request.now.form (input_in request.now.edition request.now.font.now request.now.waivers.now)
+    ensures piece { IfOk result (IsReadPiece form.entry (input_in request.now.edition request.now.font.now request.now.waivers.now)
         mark.old mark.new room.new) }
     ensures failed { IfErr result (IsFailureOf (input_in request.now.edition request.now.font.now request.now.waivers.now)) }
     ensures mark { OnErr result (mark.new ≡ mark.old) }
@@ -46,7 +54,7 @@ fn lines_of_file(
 {
     let mut file = open(alloc, request.font)?;
     let font = file.font(alloc)?;
-    let piece = lines_of_font(alloc, &font, request, mark, room);
+    let piece = lines_of_font(alloc, &font, request, form, mark, room);
     font.let_go();
     piece
 }
@@ -56,10 +64,11 @@ fn lines_of_font(
     alloc: Global,
     font: &Font<'_>,
     request: &Request<'_>,
+    form: Form<'_>,
     mark: &mut Mark,
     room: &mut [u8],
 ) -> Result<Piece, Failure>
-    ensures piece { IfOk result (IsReadPiece request.now.form (input_of request.now.edition (Ok font.now) (waivers_in request.now.edition request.now.waivers.now))
+    ensures piece { IfOk result (IsReadPiece form.entry (input_of request.now.edition (Ok font.now) (waivers_in request.now.edition request.now.waivers.now))
         mark.old mark.new room.new) }
     ensures failed { IfErr result (IsFailureOf (input_of request.now.edition (Ok font.now) (waivers_in request.now.edition request.now.waivers.now))) }
     ensures mark { OnErr result (mark.new ≡ mark.old) }
@@ -67,15 +76,7 @@ fn lines_of_font(
 {
     let waivers = read_waivers(alloc, request.waivers, request.edition)?;
     let sidebearings = Sidebearings::prepare(alloc, font, request.edition)?;
-    Ok(fill(
-        alloc,
-        request.form,
-        &*font,
-        &sidebearings,
-        &waivers,
-        mark,
-        room,
-    ))
+    Ok(fill(alloc, form, &*font, &sidebearings, &waivers, mark, room))
 }
 
 /// Joins the segments of a font's file. More than 16,777,216 bytes are refused, by E05.

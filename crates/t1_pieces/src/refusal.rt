@@ -4,7 +4,7 @@ ghost use Rattle.std.specs.Prelude.{◌≡◌, length};
 ghost use Rattle.t1_pieces.specs.Pieces.{IsRefusalBy};
 
 use crate::piece::Piece;
-use crate::room::put_after;
+use crate::room::put;
 use t1_font::{RefusalCode, refusal_text};
 
 /// Puts the text of a refusal at the beginning of a room.
@@ -12,10 +12,8 @@ pub(crate) fn refuse(code: RefusalCode, room: &mut [u8]) -> Piece
     ensures refusal { IsRefusalBy code room.new result }
     ensures length { length room.new ≡ length room.old }
 {
-    let text = refusal_text(code).as_bytes();
-    if text.len() > room.len() {
-        return Piece::NoRoom;
+    match put(room, refusal_text(code).as_bytes()) {
+        Some(count) => Piece::Refused(count),
+        None => Piece::NoRoom,
     }
-    put_after(room, 0, text);
-    Piece::Refused(text.len())
 }

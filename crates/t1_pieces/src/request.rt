@@ -1,9 +1,8 @@
-//! What is checked.
+//! What is read.
 
-use crate::form::Form;
 use t1_char::Edition;
 
-/// A font, and how it is checked.
+/// A font and waivers, as they are given.
 #[derive(Clone, Copy, Debug)]
 pub struct Request<'a> {
     /// The bytes of the font's file.
@@ -12,6 +11,4 @@ pub struct Request<'a> {
     pub waivers: &'a [u8],
     /// The edition of the rule book.
     pub edition: Edition,
-    /// The form of its lines.
-    pub form: Form<'a>,
 }

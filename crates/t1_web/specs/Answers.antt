@@ -11,13 +11,12 @@ use Rattle.t1_pieces.specs.Drawings.{IsDrawing}
 use Rattle.t1_pieces.specs.Entries.{IsNumbersPiece}
 use Rattle.t1_pieces.specs.Pieces.{IsPiece}
 use Rattle.t1_pieces.specs.Reading.{Input}
-use Rattle.t1_pieces.specs.declared.entry_result.EntryResult.{EntryResult}
-use Rattle.t1_pieces.specs.declared.extent.Extent.{Extent}
-use Rattle.t1_pieces.specs.declared.picture_result.PictureResult.{PictureResult}
+use Rattle.t1_picture.specs.declared.extent.Extent.{Extent}
 use Rattle.t1_pieces.specs.declared.form.Form.{Form}
 use Rattle.t1_pieces.specs.declared.piece.Piece.{Piece}
 use Rattle.t1_pieces.specs.declared.stage.Reached.{Reached}
-use Rattle.t1_web.specs.Numbers.{IsFormOf, bytes_of, drawn_bytes, drawn_status, entry_bytes, entry_status, status_of}
+use Rattle.t1_pieces.specs.declared.whole.Whole.{Whole}
+use Rattle.t1_web.specs.Numbers.{IsFormOf, bytes_of, status_of, whole_bytes, whole_status}
 
 -- A status, and so many bytes of a room.
 pub record Answer : Type 0 where
@@ -46,14 +45,14 @@ pub data IsDocumentHandedOver (pages : PagesValue) (name : List ℕ) (read : Res
 
 -- A picture of a glyph, or why there is none.
 pub record IsPictureHandedOver (name : List ℕ) (extent : Extent) (read : Result Input Refusal) (answer : Answer) : Type 0 where
-  pub drawn : PictureResult
+  pub drawn : Whole
   pub is_drawing : IsDrawing name extent read answer.room drawn
-  pub written_is : answer.written ≡ drawn_bytes drawn
-  pub status_is : answer.status ≡ drawn_status drawn
+  pub written_is : answer.written ≡ whole_bytes drawn
+  pub status_is : answer.status ≡ whole_status drawn
 
 -- The numbers of an entry, or why there are none: the entry isn't there or is no list of numbers, or no such entry has the number.
 pub data IsEntryHandedOver (key : Option Key) (read : Result FontValue Refusal) (answer : Answer) : Type 0 where
   handed_of :
-      (wanted : Key) → key ≡ Some wanted → (entry : EntryResult) → IsNumbersPiece wanted read answer.room entry
-      → answer.written ≡ entry_bytes entry → answer.status ≡ entry_status entry → IsEntryHandedOver key read answer
+      (wanted : Key) → key ≡ Some wanted → (numbers : Whole) → IsNumbersPiece wanted read answer.room numbers
+      → answer.written ≡ whole_bytes numbers → answer.status ≡ whole_status numbers → IsEntryHandedOver key read answer
   no_key : key ≡ None → answer.written ≡ 0 → answer.status ≡ 8 → IsEntryHandedOver key read answer

@@ -7,12 +7,8 @@ use Rattle.t1_char.specs.declared.edition.Edition.TheVariants.{One}
 use Rattle.t1_char.specs.Editions.{edition_numbered}
 use Rattle.t1_font.specs.declared.key.Key.{Key}
 use Rattle.t1_font.specs.declared.key.Key.TheVariants.{BlueValues, FamilyBlues, FamilyOtherBlues, FontBBox, FontMatrix, MinFeature, OtherBlues, StdHw, StdVw, StemSnapH, StemSnapV, Xuid}
-use Rattle.t1_pieces.specs.declared.entry_result.EntryResult.{EntryResult}
-use Rattle.t1_pieces.specs.declared.entry_result.EntryResult.TheVariants as entry
-use Rattle.t1_pieces.specs.declared.extent.Extent.{Extent}
-use Rattle.t1_pieces.specs.declared.extent.Extent.TheVariants.{All, Fault, UpTo}
-use Rattle.t1_pieces.specs.declared.picture_result.PictureResult.{PictureResult}
-use Rattle.t1_pieces.specs.declared.picture_result.PictureResult.TheVariants as drawn
+use Rattle.t1_picture.specs.declared.extent.Extent.{Extent}
+use Rattle.t1_picture.specs.declared.extent.Extent.TheVariants.{All, Fault, UpTo}
 use Rattle.t1_pieces.specs.declared.form.Form.{Form}
 use Rattle.t1_pieces.specs.declared.form.Form.TheVariants.{Object, Text}
 use Rattle.t1_pieces.specs.declared.piece.Piece.{Piece}
@@ -22,6 +18,9 @@ use Rattle.t1_rules.specs.Keys.{key_number}
 use Rattle.t1_pieces.specs.declared.stage.Reached.{Reached}
 use Rattle.t1_pieces.specs.declared.stage.Stage.{Stage}
 use Rattle.t1_pieces.specs.declared.stage.Stage.TheVariants.{Beginning, Nothing, Results}
+use Rattle.t1_pieces.specs.declared.whole.Missing.TheVariants as missing
+use Rattle.t1_pieces.specs.declared.whole.Whole.{Whole}
+use Rattle.t1_pieces.specs.declared.whole.Whole.TheVariants as whole
 use Rattle.t1_web.specs.declared.HostMark.{HostMark}
 use Rattle.t1_web.specs.declared.HostReached.{HostReached}
 
@@ -85,40 +84,26 @@ key_among n (key ∷ keys) = if n == key_number key then Some key else key_among
 abbrev pub list_key : ℕ → Option Key
 list_key n = key_among n list_keys
 
-abbrev pub entry_status : EntryResult → ℕ
-entry_status (entry.Numbers n) = 0
-entry_status (entry.NoRoom n) = 2
-entry_status (entry.Refused n) = 3
-entry_status entry.Memory = 4
-entry_status entry.NoNumbers = 8
-
--- How many bytes of the room were handed over; where it is too small, how many are to be.
-abbrev pub entry_bytes : EntryResult → ℕ
-entry_bytes (entry.Numbers n) = n
-entry_bytes (entry.NoRoom n) = n
-entry_bytes (entry.Refused n) = n
-entry_bytes entry.NoNumbers = 0
-entry_bytes entry.Memory = 0
-
--- ---- pictures
+-- ---- pictures and numbers
 
 -- 0 is all steps, 1 the steps up to the one of a number, any other kind the fault of a number.
 abbrev pub extent_of : ℕ → ℕ → Extent
 extent_of kind n = if kind == 0 then All else (if kind == 1 then UpTo n else Fault n)
 
-abbrev pub drawn_status : PictureResult → ℕ
-drawn_status (drawn.Picture n) = 0
-drawn_status (drawn.NoRoom n) = 2
-drawn_status (drawn.Refused n) = 3
-drawn_status drawn.Memory = 4
-drawn_status drawn.NoGlyph = 5
-drawn_status drawn.NoFault = 7
+-- The status of what was handed over as a whole.
+abbrev pub whole_status : Whole → ℕ
+whole_status (whole.Text n) = 0
+whole_status (whole.NoRoom n) = 2
+whole_status (whole.Refused n) = 3
+whole_status whole.Memory = 4
+whole_status (whole.Missing missing.Glyph) = 5
+whole_status (whole.Missing missing.Fault) = 7
+whole_status (whole.Missing missing.Numbers) = 8
 
 -- How many bytes of the room were handed over; where it is too small, how many are to be.
-abbrev pub drawn_bytes : PictureResult → ℕ
-drawn_bytes (drawn.Picture n) = n
-drawn_bytes (drawn.NoRoom n) = n
-drawn_bytes (drawn.Refused n) = n
-drawn_bytes drawn.NoGlyph = 0
-drawn_bytes drawn.NoFault = 0
-drawn_bytes drawn.Memory = 0
+abbrev pub whole_bytes : Whole → ℕ
+whole_bytes (whole.Text n) = n
+whole_bytes (whole.NoRoom n) = n
+whole_bytes (whole.Refused n) = n
+whole_bytes (whole.Missing why) = 0
+whole_bytes whole.Memory = 0

@@ -18,15 +18,14 @@ ghost use Rattle.t1_web.specs.Answers.{AreHandedOver, IsDocumentHandedOver, IsEn
 ghost use Rattle.t1_web.specs.Numbers.{edition_of, extent_of, list_key, mark_of, reached_of};
 
 use crate::numbers::{
-    bytes_of, drawn_bytes, drawn_status, edition_of, entry_bytes, entry_status, extent_of, form_of,
-    list_key, stage_number, stage_of, status_of,
+    bytes_of, edition_of, extent_of, form_of, list_key, stage_number, stage_of, status_of,
+    whole_bytes, whole_status,
 };
 use std::alloc::Global;
 use t1_forms::{Page, Pages, RESULT_COUNTS};
 use t1_pages::pages;
 use t1_pieces::{
-    DocumentRequest, EntryRequest, PictureRequest, Piece, Reached, Request, document,
-    entry_numbers, lines, picture,
+    DocumentRequest, Piece, Reached, Request, document, entry_numbers, lines, picture,
 };
 use t1_report::Mark;
 
@@ -85,7 +84,6 @@ pub extern "C" fn t1_web_lines(
         font,
         waivers,
         edition: edition_of(edition),
-        form,
     };
     let mut reached = Mark {
         number: mark.number,
@@ -93,7 +91,7 @@ pub extern "C" fn t1_web_lines(
         step: mark.step,
         rule: mark.rule,
     };
-    let piece = lines(alloc, &request, &mut reached, room);
+    let piece = lines(alloc, &request, form, &mut reached, room);
     mark.number = reached.number;
     mark.unit = reached.unit;
     mark.step = reached.step;
@@ -159,14 +157,16 @@ fn document_with<'a>(
     ensures { IsDocumentPiece (subject_read name.now (record { list = map page_value list.now; docs = None })
         (input_in (edition_of edition) font.now waivers.now)) place.old place.new room.new result }
 {
-    let request = DocumentRequest {
+    let request = Request {
         font,
         waivers,
         edition: edition_of(edition),
+    };
+    let wanted = DocumentRequest {
         name,
         pages: Pages { list, docs: None },
     };
-    document(alloc, &request, place, room)
+    document(alloc, &request, &wanted, place, room)
 }
 
 /// Hands over the picture of the glyph of a name: with the kind 0 as a whole, with 1 up to the step of a number, with any other that of
@@ -186,16 +186,14 @@ pub extern "C" fn t1_web_picture(
     ensures { IsPictureHandedOver glyph.now (extent_of kind number) (input_in (edition_of edition) font.now waivers.now)
         (record { room = room.new; written = written.new; status = result }) }
 {
-    let request = PictureRequest {
+    let request = Request {
         font,
         waivers,
         edition: edition_of(edition),
-        glyph,
-        extent: extent_of(kind, number),
     };
-    let drawn = picture(alloc, &request, room);
-    *written = drawn_bytes(drawn);
-    drawn_status(drawn)
+    let drawn = picture(alloc, &request, glyph, extent_of(kind, number), room);
+    *written = whole_bytes(drawn);
+    whole_status(drawn)
 }
 
 /// Hands over the numbers of the entry of a key, by the key's number: how many there are, and the first 16 of them, each after a blank.
@@ -215,8 +213,7 @@ pub extern "C" fn t1_web_entry(
         *written = 0;
         return NO_ENTRY;
     };
-    let request = EntryRequest { font, key };
-    let entry = entry_numbers(alloc, &request, room);
-    *written = entry_bytes(entry);
-    entry_status(entry)
+    let numbers = entry_numbers(alloc, font, key, room);
+    *written = whole_bytes(numbers);
+    whole_status(numbers)
 }

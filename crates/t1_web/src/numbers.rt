@@ -1,11 +1,12 @@
 //! What the numbers of a host mean.
 
 ghost use Rattle.std.specs.Prelude.{◌≡◌};
-ghost use Rattle.t1_web.specs.Numbers.{IsFormOf, bytes_of, drawn_bytes, drawn_status, edition_of, entry_bytes, entry_status, extent_of, list_key, stage_number, stage_of, status_of};
+ghost use Rattle.t1_web.specs.Numbers.{IsFormOf, bytes_of, edition_of, extent_of, list_key, stage_number, stage_of, status_of, whole_bytes, whole_status};
 
 use t1_char::Edition;
 use t1_font::Key;
-use t1_pieces::{EntryResult, Extent, Form, PictureResult, Piece, Stage};
+use t1_picture::Extent;
+use t1_pieces::{Form, Missing, Piece, Stage, Whole};
 
 /// The edition that a host names by its number: the first where there is none of that number.
 pub(crate) fn edition_of(number: u32) -> Edition
@@ -106,53 +107,27 @@ pub(crate) fn list_key(number: u32) -> Option<Key>
     }
 }
 
-/// The status of what was handed over of an entry.
-pub(crate) fn entry_status(entry: EntryResult) -> u32
-    ensures { result ≡ entry_status entry }
+/// The status of what was handed over as a whole.
+pub(crate) fn whole_status(whole: Whole) -> u32
+    ensures { result ≡ whole_status whole }
 {
-    match entry {
-        EntryResult::Numbers(_) => 0,
-        EntryResult::NoRoom(_) => 2,
-        EntryResult::Refused(_) => 3,
-        EntryResult::Memory => 4,
-        EntryResult::NoNumbers => 8,
+    match whole {
+        Whole::Text(_) => 0,
+        Whole::NoRoom(_) => 2,
+        Whole::Refused(_) => 3,
+        Whole::Memory => 4,
+        Whole::Missing(Missing::Glyph) => 5,
+        Whole::Missing(Missing::Fault) => 7,
+        Whole::Missing(Missing::Numbers) => 8,
     }
 }
 
-/// How many bytes were handed over of an entry, or are to be.
-pub(crate) fn entry_bytes(entry: EntryResult) -> usize
-    ensures { result ≡ entry_bytes entry }
+/// How many bytes were handed over as a whole, or are to be.
+pub(crate) fn whole_bytes(whole: Whole) -> usize
+    ensures { result ≡ whole_bytes whole }
 {
-    match entry {
-        EntryResult::Numbers(count) | EntryResult::NoRoom(count) | EntryResult::Refused(count) => {
-            count
-        }
-        EntryResult::NoNumbers | EntryResult::Memory => 0,
-    }
-}
-
-/// The status of what was handed over of a picture.
-pub(crate) fn drawn_status(drawn: PictureResult) -> u32
-    ensures { result ≡ drawn_status drawn }
-{
-    match drawn {
-        PictureResult::Picture(_) => 0,
-        PictureResult::NoRoom(_) => 2,
-        PictureResult::Refused(_) => 3,
-        PictureResult::Memory => 4,
-        PictureResult::NoGlyph => 5,
-        PictureResult::NoFault => 7,
-    }
-}
-
-/// How many bytes were handed over of a picture, or are to be.
-pub(crate) fn drawn_bytes(drawn: PictureResult) -> usize
-    ensures { result ≡ drawn_bytes drawn }
-{
-    match drawn {
-        PictureResult::Picture(count)
-        | PictureResult::NoRoom(count)
-        | PictureResult::Refused(count) => count,
-        PictureResult::NoGlyph | PictureResult::NoFault | PictureResult::Memory => 0,
+    match whole {
+        Whole::Text(count) | Whole::NoRoom(count) | Whole::Refused(count) => count,
+        Whole::Missing(_) | Whole::Memory => 0,
     }
 }

@@ -6,7 +6,7 @@ use std::test::Fail;
 use t1_char::Edition;
 use t1_forms::{Page, Pages, RESULT_COUNTS, Sarif};
 use t1_io::Out;
-use t1_pieces::{DocumentRequest, Piece, Reached, Stage, document};
+use t1_pieces::{DocumentRequest, Piece, Reached, Request, Stage, document};
 use t1_report::Mark;
 
 /// The glyph of 0, 500, hsbw, closepath, closepath, endchar.
@@ -75,12 +75,18 @@ fn pages<'a>() -> Pages<'a> {
     }
 }
 
-/// A request for the document of f.pfb.
-fn request<'a>(font: &'a [u8], waivers: &'a [u8]) -> DocumentRequest<'a> {
-    DocumentRequest {
+/// A font by the first edition.
+fn request<'a>(font: &'a [u8]) -> Request<'a> {
+    Request {
         font,
-        waivers,
+        waivers: b"",
         edition: Edition::One,
+    }
+}
+
+/// What the document of f.pfb says beside the report.
+fn wanted<'a>() -> DocumentRequest<'a> {
+    DocumentRequest {
         name: "f.pfb",
         pages: pages(),
     }
@@ -89,23 +95,23 @@ fn request<'a>(font: &'a [u8], waivers: &'a [u8]) -> DocumentRequest<'a> {
 /// Whether a room of a byte less than a text gets nothing, and a room of its size gets it.
 fn is_next(
     alloc: Global,
-    request: &DocumentRequest<'_>,
+    request: &Request<'_>,
     reached: &mut Reached,
     text: &[u8],
-    wanted: Piece,
+    piece: Piece,
 ) -> Result<bool, AllocError> {
     let mut less = Vec::from_elem(alloc, 0u8, text.len().saturating_sub(1))?;
-    let none = document(alloc, request, reached, less.as_mut_slice());
+    let none = document(alloc, request, &wanted(), reached, less.as_mut_slice());
     let mut room = Vec::from_elem(alloc, 0u8, text.len())?;
-    let piece = document(alloc, request, reached, room.as_mut_slice());
-    Ok(none == Piece::NoRoom && piece == wanted && room.as_slice() == text)
+    let handed = document(alloc, request, &wanted(), reached, room.as_mut_slice());
+    Ok(none == Piece::NoRoom && handed == piece && room.as_slice() == text)
 }
 
 /// Each part comes as soon as a room holds it, and none in a room of a byte less.
 #[test]
 fn a_document_goes_on_where_it_was_left(rt: HostRuntime) -> Result<(), Fail> {
     let font = with_glyph(rt.alloc(), TWO_FAULTS)?;
-    let request = request(font.as_slice(), b"");
+    let request = request(font.as_slice());
     let opening = opening(rt.alloc())?;
     let mut reached = FIRST;
     let piece = Piece::More(opening.len());
@@ -137,19 +143,20 @@ fn a_document_goes_on_where_it_was_left(rt: HostRuntime) -> Result<(), Fail> {
 #[test]
 fn a_large_room_gets_a_whole_document(rt: HostRuntime) -> Result<(), Fail> {
     let font = with_glyph(rt.alloc(), TWO_FAULTS)?;
-    let mut wanted = opening(rt.alloc())?;
+    let mut whole = opening(rt.alloc())?;
     for part in [RESULTS[0], RESULTS[1], END] {
-        wanted.extend_from_slice(part.as_bytes())?;
+        whole.extend_from_slice(part.as_bytes())?;
     }
-    let mut room = Vec::from_elem(rt.alloc(), 0u8, wanted.len())?;
+    let mut room = Vec::from_elem(rt.alloc(), 0u8, whole.len())?;
     let piece = document(
         rt.alloc(),
-        &request(font.as_slice(), b""),
+        &request(font.as_slice()),
+        &wanted(),
         &mut { FIRST },
         room.as_mut_slice(),
     );
-    assert!(rt; piece == Piece::Last(wanted.len()), "{piece:?}");
-    assert!(rt; room.as_slice() == wanted.as_slice(), "{room:?}");
+    assert!(rt; piece == Piece::Last(whole.len()), "{piece:?}");
+    assert!(rt; room.as_slice() == whole.as_slice(), "{room:?}");
     Ok(())
 }
 
@@ -158,7 +165,8 @@ fn what_is_refused_has_no_document(rt: HostRuntime) -> Result<(), Fail> {
     let mut room = Vec::from_elem(rt.alloc(), 0u8, 64)?;
     let piece = document(
         rt.alloc(),
-        &request(b"%!\n/FontType 1 def\n", b""),
+        &request(b"%!\n/FontType 1 def\n"),
+        &wanted(),
         &mut { FIRST },
         room.as_mut_slice(),
     );

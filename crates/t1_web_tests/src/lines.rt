@@ -23,13 +23,12 @@ pub(super) fn with_glyph(alloc: Global, glyph: &[u8]) -> Result<Vec<u8>, AllocEr
     Sample::new(alloc)?.glyph(b"A", glyph)?.pfb()
 }
 
-/// A request for t1check's lines by the first edition.
+/// A font and waivers by the first edition.
 fn request<'a>(font: &'a [u8], waivers: &'a [u8]) -> Request<'a> {
     Request {
         font,
         waivers,
         edition: Edition::One,
-        form: Form::Text,
     }
 }
 
@@ -41,10 +40,20 @@ pub(super) fn front(room: &[u8], count: usize) -> &[u8] {
     }
 }
 
-/// What calls with a room of so many bytes hand over, joined, and what the last of them returns.
+/// What calls for t1check's lines, with a room of so many bytes, hand over, joined, and what the last of them returns.
 fn joined(
     alloc: Global,
     request: &Request<'_>,
+    size: usize,
+) -> Result<(Vec<u8>, Piece), AllocError> {
+    joined_as(alloc, request, Form::Text, size)
+}
+
+/// The same for lines of a form.
+fn joined_as(
+    alloc: Global,
+    request: &Request<'_>,
+    form: Form<'_>,
     size: usize,
 ) -> Result<(Vec<u8>, Piece), AllocError> {
     let mut text = Vec::new(alloc);
@@ -52,7 +61,7 @@ fn joined(
     let mut room = Vec::from_elem(alloc, 0u8, size)?;
     let mut last = Piece::Memory;
     for _call in 0..9 {
-        last = lines(alloc, request, &mut mark, room.as_mut_slice());
+        last = lines(alloc, request, form, &mut mark, room.as_mut_slice());
         match last {
             Piece::More(count) => text.extend_from_slice(front(room.as_slice(), count))?,
             Piece::Last(count) | Piece::Refused(count) => {
@@ -106,14 +115,9 @@ const OBJECTS: &str = "\
 #[test]
 fn lines_are_objects_too(rt: HostRuntime) -> Result<(), Fail> {
     let font = with_glyph(rt.alloc(), FOUR_FAULTS)?;
-    let request = Request {
-        font: font.as_slice(),
-        waivers: b"A C07\nA W01\n",
-        edition: Edition::One,
-        form: Form::Object("f.pfb"),
-    };
+    let request = request(font.as_slice(), b"A C07\nA W01\n");
     for size in [300, 1_000] {
-        let (text, last) = joined(rt.alloc(), &request, size)?;
+        let (text, last) = joined_as(rt.alloc(), &request, Form::Object("f.pfb"), size)?;
         assert!(rt; text.as_slice() == OBJECTS.as_bytes(), "{text:?}");
         assert!(rt; matches!(last, Piece::Last(_)), "{last:?}");
     }

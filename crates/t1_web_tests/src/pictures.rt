@@ -3,37 +3,42 @@
 use crate::lines::{FOUR_FAULTS, front, with_glyph};
 use std::test::Fail;
 use t1_char::Edition;
-use t1_pieces::{Extent, PictureRequest, PictureResult, picture};
+use t1_picture::Extent;
+use t1_pieces::{Missing, Request, Whole, picture};
 
 /// `0 500 hsbw`, `50 hmoveto`, `100 hlineto`, `closepath`, `endchar`.
 const LINE: &[u8] = b"\x8b\xf8\x88\x0d\xbd\x16\xef\x06\x09\x0e";
 
-/// A glyph of a font, as a whole, by the first edition.
-fn request_for<'a>(font: &'a [u8], glyph: &'a [u8]) -> PictureRequest<'a> {
-    PictureRequest {
+/// A font by the first edition.
+fn request_for<'a>(font: &'a [u8]) -> Request<'a> {
+    Request {
         font,
         waivers: b"",
         edition: Edition::One,
-        glyph,
-        extent: Extent::All,
     }
 }
 
 #[test]
 fn pictures_are_handed_over(rt: HostRuntime) -> Result<(), Fail> {
     let font = with_glyph(rt.alloc(), LINE)?;
-    let request = request_for(font.as_slice(), b"A");
+    let request = request_for(font.as_slice());
     let mut room = Vec::from_elem(rt.alloc(), 0u8, 10_000)?;
-    let drawn = picture(rt.alloc(), &request, room.as_mut_slice());
-    let PictureResult::Picture(count) = drawn else {
+    let drawn = picture(rt.alloc(), &request, b"A", Extent::All, room.as_mut_slice());
+    let Whole::Text(count) = drawn else {
         return Err(Fail::from("a picture"));
     };
     let text = front(room.as_slice(), count);
     assert!(rt; text.starts_with(b"<?xml version=\"1.0\" encoding=\"UTF-8\"?>\n<svg "));
     assert!(rt; text.ends_with(b"</svg>\n"));
     let mut short = Vec::from_elem(rt.alloc(), 0u8, 100)?;
-    let drawn = picture(rt.alloc(), &request, short.as_mut_slice());
-    assert_eq!(rt; drawn, PictureResult::NoRoom(count));
+    let drawn = picture(
+        rt.alloc(),
+        &request,
+        b"A",
+        Extent::All,
+        short.as_mut_slice(),
+    );
+    assert_eq!(rt; drawn, Whole::NoRoom(count));
     Ok(())
 }
 
@@ -43,13 +48,21 @@ fn no_picture_is_told_apart_from_a_refusal(rt: HostRuntime) -> Result<(), Fail> 
     let mut room = Vec::from_elem(rt.alloc(), 0u8, 64)?;
     let drawn = picture(
         rt.alloc(),
-        &request_for(font.as_slice(), b"B"),
+        &request_for(font.as_slice()),
+        b"B",
+        Extent::All,
         room.as_mut_slice(),
     );
-    assert_eq!(rt; drawn, PictureResult::NoGlyph);
+    assert_eq!(rt; drawn, Whole::Missing(Missing::Glyph));
     let refusal = b"E01 not a PFA or PFB";
-    let drawn = picture(rt.alloc(), &request_for(b"", b"A"), room.as_mut_slice());
-    assert_eq!(rt; drawn, PictureResult::Refused(refusal.len()));
+    let drawn = picture(
+        rt.alloc(),
+        &request_for(b""),
+        b"A",
+        Extent::All,
+        room.as_mut_slice(),
+    );
+    assert_eq!(rt; drawn, Whole::Refused(refusal.len()));
     assert!(rt; front(room.as_slice(), refusal.len()) == refusal.as_slice());
     Ok(())
 }
@@ -57,21 +70,25 @@ fn no_picture_is_told_apart_from_a_refusal(rt: HostRuntime) -> Result<(), Fail> 
 #[test]
 fn a_fault_is_drawn_by_its_number(rt: HostRuntime) -> Result<(), Fail> {
     let font = with_glyph(rt.alloc(), FOUR_FAULTS)?;
-    let mut request = request_for(font.as_slice(), b"A");
-    request.extent = Extent::Fault(4);
+    let request = request_for(font.as_slice());
     let mut room = Vec::from_elem(rt.alloc(), 0u8, 10_000)?;
-    let drawn = picture(rt.alloc(), &request, room.as_mut_slice());
-    let PictureResult::Picture(count) = drawn else {
+    let drawn = picture(
+        rt.alloc(),
+        &request,
+        b"A",
+        Extent::Fault(4),
+        room.as_mut_slice(),
+    );
+    let Whole::Text(count) = drawn else {
         return Err(Fail::from("a picture"));
     };
     let text = str::from_utf8(front(room.as_slice(), count)).unwrap_or("");
     assert!(rt; text.contains(">4: glyph A - 4 P03 closepath without a path</text>"));
     assert!(rt; !text.contains(">3: glyph A - 3 "));
-    request.extent = Extent::Fault(5);
-    let drawn = picture(rt.alloc(), &request, room.as_mut_slice());
-    assert_eq!(rt; drawn, PictureResult::NoFault);
-    request.extent = Extent::Fault(0);
-    let drawn = picture(rt.alloc(), &request, room.as_mut_slice());
-    assert_eq!(rt; drawn, PictureResult::NoFault);
+    for number in [5, 0] {
+        let fault = Extent::Fault(number);
+        let drawn = picture(rt.alloc(), &request, b"A", fault, room.as_mut_slice());
+        assert_eq!(rt; drawn, Whole::Missing(Missing::Fault));
+    }
     Ok(())
 }

@@ -5,10 +5,12 @@ use Rattle.t1_font.specs.Fonts.{FontValue}
 use Rattle.t1_font.specs.Laws.Limits.{FontsWithinLimits}
 use Rattle.t1_report.specs.Refusals.{Refusal}
 use Rattle.t1_picture.specs.Laws.{HasPicture}
-use Rattle.t1_picture.specs.Subjects.{ShownValue}
-use Rattle.t1_picture.specs.Subjects.ShownValue.{everything, one_fault, up_to}
-use Rattle.t1_report.specs.Checked.{checked}
-use Rattle.t1_report.specs.Faults.{FaultValue}
+use Rattle.t1_picture.specs.Extents.{IsShown, shown_with}
+use Rattle.t1_picture.specs.Subjects.{ShownValue, everything, up_to}
+use Rattle.t1_picture.specs.declared.extent.Extent.{Extent}
+use Rattle.t1_picture.specs.declared.extent.Extent.TheVariants as extent
+use Rattle.t1_report.specs.Checked.{CheckedFont, checked}
+use Rattle.t1_report.specs.Numbered.{numbered}
 use Rattle.t1_report.specs.Waivers.{Waiver}
 use Rattle.t1_report.proofs.HasReport.{has_report}
 use Rattle.t1_rules.specs.Components.{glyph_named}
@@ -17,12 +19,10 @@ use Rattle.t1_run.specs.FontFiles.{font_of}
 use Rattle.t1_run.specs.Programs.{asks_waivers}
 use Rattle.t1draw.specs.Answers.{drawing}
 use Rattle.t1draw.specs.CommandLine.{AskedValue, all_faulty, one_glyph}
-use Rattle.t1draw.specs.Draws.{AreFiles, ArePictures, fault_for, subject}
+use Rattle.t1draw.specs.Draws.{AreFiles, ArePictures, subject}
 use Rattle.t1draw.specs.Folders.{FolderFile, faulty_glyphs, index_file, picture_name_of}
-use Rattle.t1draw.specs.Laws.{Answer, HasAnAnswer, IsAnswerAt, IsAnswerTo, IsAnswerToAsked, IsAnswerToExtent, IsAnswerToFault, IsPictureAs, Sheet, Wish, waived_by, wish_of}
+use Rattle.t1draw.specs.Laws.{Answer, HasAnAnswer, IsAnswerAt, IsAnswerTo, IsAnswerToAsked, IsAnswerToShown, IsPictureAs, Sheet, Wish, waived_by, wish_of}
 use Rattle.t1draw.specs.Laws.Answer.{Files, NoFault, NoGlyph, Picture, Unread as NotRead}
-use Rattle.t1draw.specs.declared.options.Extent.{Extent}
-use Rattle.t1draw.specs.declared.options.Extent.TheVariants as extent
 
 of_asked : (edition : Edition) (asked : Bool) (text : List ℕ) → IfOk (waived_by edition asked text) AreFew
 of_asked edition true text = of_text edition text
@@ -34,24 +34,26 @@ has_picture has sheet glyph visible few are =
     let it = has (subject sheet.font sheet.edition sheet.waivers glyph visible) few are in
     (Picture it.0, (it.0, (it.1, refl)))
 
-has_fault : HasPicture → (sheet : Sheet) (glyph : ℕ) (fault : Option FaultValue) → HasFew sheet.font → AreFew sheet.waivers
-    → (answer : Answer) × IsAnswerToFault sheet glyph fault answer
-has_fault has sheet glyph None few are = (NoFault, refl)
-has_fault has sheet glyph (Some fault) few are = has_picture has sheet glyph (one_fault fault) few are
+has_shown : (font : CheckedFont) (waivers : List Waiver) (glyph : ℕ) (wanted : Extent) → (shown : Option ShownValue) × IsShown wanted font waivers glyph shown
+has_shown font waivers glyph extent.All = (Some everything, refl)
+has_shown font waivers glyph (extent.UpTo step) = (Some (up_to step), refl)
+has_shown font waivers glyph (extent.Fault number) =
+    let report = has_report font waivers in
+    let found = numbered report.0 number in
+    (shown_with glyph found, (found, record { faults = report.0; reported = report.1; is = refl }, refl))
 
-has_extent : HasPicture → (sheet : Sheet) (glyph : ℕ) (wanted : Extent) → HasFew sheet.font → AreFew sheet.waivers
-    → (answer : Answer) × IsAnswerToExtent sheet glyph wanted answer
-has_extent has sheet glyph extent.All few are = has_picture has sheet glyph everything few are
-has_extent has sheet glyph (extent.UpTo step) few are = has_picture has sheet glyph (up_to step) few are
-has_extent has sheet glyph (extent.Fault number) few are =
-    let report = has_report (checked sheet.font sheet.edition) sheet.waivers in
-    let it = has_fault has sheet glyph (fault_for glyph number report.0) few are in
-    (it.0, (report.0, (report.1, it.1)))
+has_of_shown : HasPicture → (sheet : Sheet) (glyph : ℕ) (shown : Option ShownValue) → HasFew sheet.font → AreFew sheet.waivers
+    → (answer : Answer) × IsAnswerToShown sheet glyph shown answer
+has_of_shown has sheet glyph None few are = (NoFault, refl)
+has_of_shown has sheet glyph (Some visible) few are = has_picture has sheet glyph visible few are
 
 has_at : HasPicture → (sheet : Sheet) (wanted : Extent) (glyph : Option ℕ) → HasFew sheet.font → AreFew sheet.waivers
     → (answer : Answer) × IsAnswerAt sheet wanted glyph answer
 has_at has sheet wanted None few are = (NoGlyph, refl)
-has_at has sheet wanted (Some glyph) few are = has_extent has sheet glyph wanted few are
+has_at has sheet wanted (Some glyph) few are =
+    let shown = has_shown (checked sheet.font sheet.edition) sheet.waivers glyph wanted in
+    let it = has_of_shown has sheet glyph shown.0 few are in
+    (it.0, (shown.0, (shown.1, it.1)))
 
 has_pictures : HasPicture → (sheet : Sheet) (glyphs : List ℕ) → HasFew sheet.font → AreFew sheet.waivers
     → (files : List FolderFile) × ArePictures sheet.font sheet.edition sheet.waivers glyphs files

@@ -7,10 +7,13 @@ use Rattle.t1_char.proofs.EditionLemmas.{one_edition}
 use Rattle.t1_font.specs.Fonts.{FontValue}
 use Rattle.t1_report.specs.Refusals.{Refusal}
 use Rattle.t1_picture.specs.Laws.{HasNoOtherPicture}
+use Rattle.t1_picture.specs.Extents.{IsShown, shown_with}
 use Rattle.t1_picture.specs.Subjects.{ShownValue}
-use Rattle.t1_picture.specs.Subjects.ShownValue.{everything, one_fault, up_to}
+use Rattle.t1_picture.specs.declared.extent.Extent.{Extent}
+use Rattle.t1_picture.specs.declared.extent.Extent.TheVariants as extent
 use Rattle.t1_report.specs.Checked.{checked}
 use Rattle.t1_report.specs.Faults.{FaultValue}
+use Rattle.t1_report.specs.Numbered.{IsNumbered, numbered}
 use Rattle.t1_report.specs.Reports.{IsReport, IsTold, path_at}
 use Rattle.t1_report.specs.Waivers.{Waiver}
 use Rattle.t1_report.proofs.OneReport.{one_report}
@@ -20,12 +23,10 @@ use Rattle.t1_run.specs.Programs.{asks_waivers}
 use Rattle.t1_run.specs.Words.{IsEditionOrFirst}
 use Rattle.t1draw.specs.Answers.{drawing}
 use Rattle.t1draw.specs.CommandLine.{AreGiven, AskedValue, all_faulty, asked_in, asked_value, given_by, one_glyph}
-use Rattle.t1draw.specs.Draws.{AreFiles, ArePictures, fault_for}
+use Rattle.t1draw.specs.Draws.{AreFiles, ArePictures}
 use Rattle.t1draw.specs.Folders.{FolderFile, faulty_glyphs, index_file}
-use Rattle.t1draw.specs.Laws.{Answer, HasNoOtherAnswer, IsAnswerAt, IsAnswerTo, IsAnswerToAsked, IsAnswerToExtent, IsAnswerToFault, IsPictureAs, Sheet, Wish, waived_by, wish_of}
+use Rattle.t1draw.specs.Laws.{Answer, HasNoOtherAnswer, IsAnswerAt, IsAnswerTo, IsAnswerToAsked, IsAnswerToShown, IsPictureAs, Sheet, Wish, waived_by, wish_of}
 use Rattle.t1draw.specs.Laws.Answer.{Files, Picture}
-use Rattle.t1draw.specs.declared.options.Extent.{Extent}
-use Rattle.t1draw.specs.declared.options.Extent.TheVariants as extent
 use Rattle.t1draw.specs.declared.options.DrawOptions.{DrawOptions}
 
 -- ---- the answer
@@ -39,23 +40,29 @@ one_of_report : (sheet : Sheet) (faults faults' : List FaultValue) → IsReport 
 one_of_report sheet faults faults' is is' =
     one_report (IsTold (checked sheet.font sheet.edition) sheet.waivers) (path_at (checked sheet.font sheet.edition)) faults faults' is is'
 
-same_fault : HasNoOtherPicture → (sheet : Sheet) (glyph : ℕ) (fault : Option FaultValue) (a b : Answer)
-    → IsAnswerToFault sheet glyph fault a → IsAnswerToFault sheet glyph fault b → a ≡ b
-same_fault no_other sheet glyph None a b is is' = is ∙ sym is'
-same_fault no_other sheet glyph (Some fault) a b is is' = one_picture no_other sheet glyph (one_fault fault) a b is is'
+one_found : (sheet : Sheet) (number : ℕ) (a b : Option FaultValue) → IsNumbered (checked sheet.font sheet.edition) sheet.waivers number a
+    → IsNumbered (checked sheet.font sheet.edition) sheet.waivers number b → a ≡ b
+one_found sheet number a b is is' =
+    is.is ∙ ap (λ (fs : List FaultValue). numbered fs number) (one_of_report sheet is.faults is'.faults is.reported is'.reported) ∙ sym is'.is
 
-one_extent : HasNoOtherPicture → (sheet : Sheet) (glyph : ℕ) (wanted : Extent) (a b : Answer)
-    → IsAnswerToExtent sheet glyph wanted a → IsAnswerToExtent sheet glyph wanted b → a ≡ b
-one_extent no_other sheet glyph extent.All a b is is' = one_picture no_other sheet glyph everything a b is is'
-one_extent no_other sheet glyph (extent.UpTo step) a b is is' = one_picture no_other sheet glyph (up_to step) a b is is'
-one_extent no_other sheet glyph (extent.Fault number) a b (faults, (reported, is)) (faults', (reported', is')) =
-    same_fault no_other sheet glyph (fault_for glyph number faults) a b is
-    (subst (λ (fs : List FaultValue). IsAnswerToFault sheet glyph (fault_for glyph number fs) b) (one_of_report sheet faults' faults reported' reported) is')
+one_shown : (sheet : Sheet) (glyph : ℕ) (wanted : Extent) (a b : Option ShownValue) → IsShown wanted (checked sheet.font sheet.edition) sheet.waivers glyph a
+    → IsShown wanted (checked sheet.font sheet.edition) sheet.waivers glyph b → a ≡ b
+one_shown sheet glyph extent.All a b is is' = is ∙ sym is'
+one_shown sheet glyph (extent.UpTo step) a b is is' = is ∙ sym is'
+one_shown sheet glyph (extent.Fault number) a b (found, (has, is)) (found', (has', is')) =
+    is ∙ ap (shown_with glyph) (one_found sheet number found found' has has') ∙ sym is'
+
+one_of_shown : HasNoOtherPicture → (sheet : Sheet) (glyph : ℕ) (shown : Option ShownValue) (a b : Answer)
+    → IsAnswerToShown sheet glyph shown a → IsAnswerToShown sheet glyph shown b → a ≡ b
+one_of_shown no_other sheet glyph None a b is is' = is ∙ sym is'
+one_of_shown no_other sheet glyph (Some visible) a b is is' = one_picture no_other sheet glyph visible a b is is'
 
 one_at : HasNoOtherPicture → (sheet : Sheet) (wanted : Extent) (glyph : Option ℕ) (a b : Answer)
     → IsAnswerAt sheet wanted glyph a → IsAnswerAt sheet wanted glyph b → a ≡ b
 one_at no_other sheet wanted None a b is is' = is ∙ sym is'
-one_at no_other sheet wanted (Some glyph) a b is is' = one_extent no_other sheet glyph wanted a b is is'
+one_at no_other sheet wanted (Some glyph) a b (shown, (has, is)) (shown', (has', is')) =
+    one_of_shown no_other sheet glyph shown a b is
+    (subst (λ (s : Option ShownValue). IsAnswerToShown sheet glyph s b) (one_shown sheet glyph wanted shown' shown has' has) is')
 
 file_of : List ℕ → List ℕ → FolderFile
 file_of name text = record { name = name; text = text }

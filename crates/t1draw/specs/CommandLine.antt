@@ -9,12 +9,12 @@ use Rattle.t1_run.specs.Words.{AreRefused, IsEditionOrFirst, edition_rule, waive
 use Rattle.t1_run.specs.declared.usage.UsageError.{UsageError}
 use Rattle.t1_run.specs.declared.usage.UsageError.TheVariants.{Usage}
 use Rattle.t1_forms.specs.NameWords.{name_of_word}
+use Rattle.t1_picture.specs.declared.extent.Extent.{Extent}
+use Rattle.t1_picture.specs.declared.extent.Extent.TheVariants.{All, Fault, UpTo}
 use Rattle.t1draw.specs.declared.complaint.Complaint.{Complaint}
 use Rattle.t1draw.specs.declared.complaint.Complaint.TheVariants as complaint
 use Rattle.t1draw.specs.declared.options.Asked.{Asked}
 use Rattle.t1draw.specs.declared.options.Asked.TheVariants as asked
-use Rattle.t1draw.specs.declared.options.Extent.{Extent}
-use Rattle.t1draw.specs.declared.options.Extent.TheVariants.{All, Fault, UpTo}
 use Rattle.t1draw.specs.declared.options.DrawOptions.{DrawOptions}
 
 -- ---- the arguments

@@ -1,13 +1,15 @@
 -- What is printed of a font that was read, by waivers, and the status.
-use Rattle.std.specs.Prelude.{◌≡◌, ℕ, ◌+◌, ◌-◌, ◌==◌, ◌||◌, Bool, List, [], ◌∷◌, ◌++◌, None, Some, Option, codes, if◌then◌else◌, slice_get}
+use Rattle.std.specs.Prelude.{◌≡◌, ℕ, List, [], ◌∷◌, ◌++◌, None, Some, codes}
 use Rattle.std.specs.Fmt.{decimal}
 use Rattle.std.specs.List.{concat}
 use Rattle.t1_char.specs.declared.edition.Edition.{Edition}
 use Rattle.t1_font.specs.Fonts.{FontValue}
 use Rattle.t1_forms.specs.Shown.{shown}
+use Rattle.t1_picture.specs.Extents.{IsShown}
 use Rattle.t1_picture.specs.Pictures.{IsPictureOf}
-use Rattle.t1_picture.specs.Subjects.{ShownValue, Subject}
-use Rattle.t1_picture.specs.Subjects.ShownValue.{everything, one_fault, up_to}
+use Rattle.t1_picture.specs.Subjects.{ShownValue, Subject, everything}
+use Rattle.t1_picture.specs.declared.extent.Extent.{Extent}
+use Rattle.t1_picture.specs.declared.extent.Extent.TheVariants.{Fault}
 use Rattle.t1_report.specs.Checked.{checked}
 use Rattle.t1_report.specs.Faults.{FaultValue}
 use Rattle.t1_report.specs.Reports.{IsReport}
@@ -20,8 +22,6 @@ use Rattle.t1_run.specs.declared.status.Status.{Status}
 use Rattle.t1_run.specs.declared.status.Status.TheVariants.{Clean, Failed}
 use Rattle.t1draw.specs.CommandLine.{AskedValue, all_faulty, asked_value, one_glyph}
 use Rattle.t1draw.specs.Folders.{FolderFile, faulty_glyphs, folder_text, index_file, picture_name_of}
-use Rattle.t1draw.specs.declared.options.Extent.{Extent}
-use Rattle.t1draw.specs.declared.options.Extent.TheVariants as extent
 use Rattle.t1draw.specs.declared.options.DrawOptions.{DrawOptions}
 
 -- The program's name, before what it prints.
@@ -29,32 +29,6 @@ abbrev pub program : List ℕ
 program = codes "t1draw"
 
 -- ---- one picture
-
--- A fault that a glyph's picture can show: one of the glyph, or of the font.
-abbrev pub is_for : ℕ → FaultValue → Bool
-is_for glyph fault = fault.unit == 0 || fault.unit == glyph + 1
-
-abbrev pub if_for : ℕ → Option FaultValue → Option FaultValue
-if_for glyph None = None
-if_for glyph (Some fault) = if is_for glyph fault then Some fault else None
-
--- The fault of this number among those of a report, which are numbered from 1.
-abbrev pub fault_at : ℕ → List FaultValue → Option FaultValue
-fault_at number faults = if number == 0 then None else slice_get faults (number - 1)
-
--- The same, if a glyph's picture can show it.
-abbrev pub fault_for : ℕ → ℕ → List FaultValue → Option FaultValue
-fault_for glyph number faults = if_for glyph (fault_at number faults)
-
--- How much of a glyph is shown, as it is requested.
-pub data IsShown (font : FontValue) (edition : Edition) (waivers : List Waiver) (glyph : ℕ) : Extent → ShownValue → Type 0 where
-  all : IsShown font edition waivers glyph extent.All everything
-  steps : (step : ℕ) → IsShown font edition waivers glyph (extent.UpTo step) (up_to step)
-  -- The fault is that of the number in the report.
-  fault :
-      (number : ℕ) (faults : List FaultValue) (fault : FaultValue) → IsReport (checked font edition) waivers faults
-      → fault_for glyph number faults ≡ Some fault
-      → IsShown font edition waivers glyph (extent.Fault number) (one_fault fault)
 
 -- `PROGRAM: no fault N of glyph NAME or of the font`
 abbrev pub no_fault_line : List ℕ → ℕ → List ℕ
@@ -70,7 +44,8 @@ pub data DrawsGlyph (font : FontValue) (edition : Edition) (waivers : List Waive
   -- A picture was written whole, and flushed once, and nothing was reported: status 0. Or a put or the flush failed, a beginning
   -- of it went out, and that was reported: status 3.
   drawn :
-      (glyph : ℕ) (visible : ShownValue) (picture : List ℕ) → glyph_named font name ≡ Some glyph → IsShown font edition waivers glyph wanted visible
+      (glyph : ℕ) (visible : ShownValue) (picture : List ℕ) → glyph_named font name ≡ Some glyph
+      → IsShown wanted (checked font edition) waivers glyph (Some visible)
       → IsPictureOf (subject font edition waivers glyph visible) picture → Gives program picture Clean sinks sinks' status
       → DrawsGlyph font edition waivers name wanted sinks sinks' status
   -- The font has no glyph of the name, and nothing was put on the output: status 3.
@@ -80,8 +55,8 @@ pub data DrawsGlyph (font : FontValue) (edition : Edition) (waivers : List Waive
       → DrawsGlyph font edition waivers name wanted sinks sinks' status
   -- The report has no such fault of the glyph or of the font, and nothing was put on the output: status 3.
   no_fault :
-      (glyph number : ℕ) (faults : List FaultValue) → glyph_named font name ≡ Some glyph → wanted ≡ extent.Fault number
-      → IsReport (checked font edition) waivers faults → fault_for glyph number faults ≡ None → sinks'.out ≡ sinks.out
+      (glyph number : ℕ) → glyph_named font name ≡ Some glyph → wanted ≡ Fault number
+      → IsShown wanted (checked font edition) waivers glyph None → sinks'.out ≡ sinks.out
       → Tells (no_fault_line name number) Failed sinks.errors sinks'.errors status
       → DrawsGlyph font edition waivers name wanted sinks sinks' status
   -- Memory ran out, and nothing was put on the output: status 3.

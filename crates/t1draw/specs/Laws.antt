@@ -5,12 +5,11 @@ use Rattle.clap.specs.Words.{Text}
 use Rattle.t1_char.specs.declared.edition.Edition.{Edition}
 use Rattle.t1_font.specs.Fonts.{FontValue}
 use Rattle.t1_report.specs.Refusals.{Refusal}
+use Rattle.t1_picture.specs.Extents.{IsShown}
 use Rattle.t1_picture.specs.Pictures.{IsPictureOf}
 use Rattle.t1_picture.specs.Subjects.{ShownValue}
-use Rattle.t1_picture.specs.Subjects.ShownValue.{everything, one_fault, up_to}
+use Rattle.t1_picture.specs.declared.extent.Extent.{Extent}
 use Rattle.t1_report.specs.Checked.{checked}
-use Rattle.t1_report.specs.Faults.{FaultValue}
-use Rattle.t1_report.specs.Reports.{IsReport}
 use Rattle.t1_report.specs.Waivers.{Waiver}
 use Rattle.t1_rules.specs.Components.{glyph_named}
 use Rattle.t1_run.specs.FontFiles.{font_of}
@@ -18,10 +17,8 @@ use Rattle.t1_run.specs.Programs.{asks_waivers}
 use Rattle.t1_run.specs.WaiverFiles.{waivers_in}
 use Rattle.t1draw.specs.Answers.{drawing}
 use Rattle.t1draw.specs.CommandLine.{AreGiven, AskedValue, all_faulty, asked_value, one_glyph}
-use Rattle.t1draw.specs.Draws.{AreFiles, fault_for, subject}
+use Rattle.t1draw.specs.Draws.{AreFiles, subject}
 use Rattle.t1draw.specs.Folders.{FolderFile, is_small, spelled}
-use Rattle.t1draw.specs.declared.options.Extent.{Extent}
-use Rattle.t1draw.specs.declared.options.Extent.TheVariants as extent
 use Rattle.t1draw.specs.declared.options.DrawOptions.{DrawOptions}
 
 -- What is answered where memory is there and no device fails: a picture, the files of a folder, why the font or the waivers aren't read,
@@ -53,23 +50,17 @@ IsPictureAs sheet glyph visible answer =
     (picture : List ℕ)
     × (IsPictureOf (subject sheet.font sheet.edition sheet.waivers glyph visible) picture × (answer ≡ Picture picture))
 
--- Of a fault, or of none.
-abbrev pub IsAnswerToFault : Sheet → ℕ → Option FaultValue → Answer → Type 0
-IsAnswerToFault sheet glyph None answer = answer ≡ NoFault
-IsAnswerToFault sheet glyph (Some fault) answer = IsPictureAs sheet glyph (one_fault fault) answer
-
--- Of a glyph, as much as is requested.
-abbrev pub IsAnswerToExtent : Sheet → ℕ → Extent → Answer → Type 0
-IsAnswerToExtent sheet glyph extent.All answer = IsPictureAs sheet glyph everything answer
-IsAnswerToExtent sheet glyph (extent.UpTo step) answer = IsPictureAs sheet glyph (up_to step) answer
-IsAnswerToExtent sheet glyph (extent.Fault number) answer =
-    (faults : List FaultValue)
-    × (IsReport (checked sheet.font sheet.edition) sheet.waivers faults × IsAnswerToFault sheet glyph (fault_for glyph number faults) answer)
+-- Of a glyph, as much as is shown of it; or the report has no such fault.
+abbrev pub IsAnswerToShown : Sheet → ℕ → Option ShownValue → Answer → Type 0
+IsAnswerToShown sheet glyph None answer = answer ≡ NoFault
+IsAnswerToShown sheet glyph (Some visible) answer = IsPictureAs sheet glyph visible answer
 
 -- Of a glyph of a font, or of none.
 abbrev pub IsAnswerAt : Sheet → Extent → Option ℕ → Answer → Type 0
 IsAnswerAt sheet wanted None answer = answer ≡ NoGlyph
-IsAnswerAt sheet wanted (Some glyph) answer = IsAnswerToExtent sheet glyph wanted answer
+IsAnswerAt sheet wanted (Some glyph) answer =
+    (shown : Option ShownValue)
+    × (IsShown wanted (checked sheet.font sheet.edition) sheet.waivers glyph shown × IsAnswerToShown sheet glyph shown answer)
 
 abbrev pub IsAnswerToAsked : Sheet → AskedValue → Answer → Type 0
 IsAnswerToAsked sheet (one_glyph name wanted) answer = IsAnswerAt sheet wanted (glyph_named sheet.font name) answer

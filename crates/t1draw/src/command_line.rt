@@ -10,7 +10,7 @@ ghost use Rattle.t1draw.specs.Given.{IsUsageOf, given_value};
 use crate::PROGRAM;
 use crate::complaint::{Complaint, complaint_text};
 use crate::glyph_word::name_in;
-use crate::options::{Asked, DrawOptions, Extent};
+use crate::options::{Asked, DrawOptions};
 use crate::running::show;
 use clap::{Arg, ArgAction, ArgMatches, Command};
 use std::alloc::{AllocError, Global};
@@ -18,6 +18,7 @@ use std::convert::AsStr;
 use t1_char::Edition;
 use t1_font::Font;
 use t1_io::Sink;
+use t1_picture::Extent;
 use t1_report::Waivers;
 use t1_run::{
     Argument, ArgumentKind, Program, Status, UsageError, borrowed, edition, number, owned, parse,

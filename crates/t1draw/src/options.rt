@@ -1,6 +1,7 @@
 //! What the words of the command line request.
 
 use t1_char::Edition;
+use t1_picture::Extent;
 
 /// What is to be drawn.
 #[derive(Drop)]
@@ -22,15 +23,4 @@ pub enum Asked {
     Glyph { name: Vec<u8>, extent: Extent },
     /// One of each glyph that has faults, in the folder of this name.
     Faulty { folder: String },
-}
-
-/// How much of a glyph is drawn, and which faults.
-#[derive(Clone, Copy, Debug, PartialEq, Eq, Drop)]
-pub enum Extent {
-    /// All.
-    All,
-    /// The steps up to this one.
-    UpTo(u64),
-    /// The fault of this number in the report.
-    Fault(u64),
 }

@@ -1,22 +1,22 @@
 //! Draws what the options ask for of a font that was read.
 
-ghost use Rattle.std.specs.Prelude.{◌≡◌, ◌<◌, IfSome, Some, length};
+ghost use Rattle.std.specs.Prelude.{◌<◌, IfSome, length};
+ghost use Rattle.t1_picture.specs.Extents.{CanBeShown};
 ghost use Rattle.t1_picture.specs.Subjects.{fault_in, shown_value};
-ghost use Rattle.t1_rules.specs.Components.{glyph_named};
 ghost use Rattle.t1draw.specs.Draws.{Draws, DrawsFolder, DrawsGlyph};
-ghost use Rattle.t1draw.specs.Private.Sheets.{CanShow, DrawsAs, IsSound, TellsNoFault, edition_of, font_of, waivers_of};
+ghost use Rattle.t1draw.specs.Private.Sheets.{DrawsAs, IsSound, TellsNoFault, edition_of, font_of, waivers_of};
 
 use crate::PROGRAM;
-use crate::drawing::{drawn, fault_for};
+use crate::drawing::drawn;
 use crate::folder::folder_text;
-use crate::options::{Asked, DrawOptions, Extent};
+use crate::options::{Asked, DrawOptions};
 use crate::sheet::Sheet;
 use itoa::Buffer;
 use std::alloc::Global;
 use t1_font::Font;
 use t1_forms::shown;
 use t1_io::Sink;
-use t1_picture::Shown;
+use t1_picture::{Extent, Shown, shown_by};
 use t1_report::Waivers;
 use t1_rules::{Sidebearings, glyph_named};
 use t1_run::{Failure, Status, give, tell_failure, tell_no_glyph, tell_parts};
@@ -71,34 +71,9 @@ fn show_glyph<W: Sink, E: Sink>(
             Err(_) => tell_failure(PROGRAM, Failure::Memory, errors),
         };
     };
-    match extent {
-        Extent::All => give_picture(alloc, sheet, glyph, Shown::All, out, errors),
-        Extent::UpTo(step) => give_picture(alloc, sheet, glyph, Shown::UpTo(step), out, errors),
-        Extent::Fault(number) => show_fault(alloc, sheet, glyph, name, number, out, errors),
-    }
-}
-
-/// Draws a fault by its number in the report, if it is one of the glyph or of the font.
-fn show_fault<W: Sink, E: Sink>(
-    alloc: Global,
-    sheet: &Sheet<'_>,
-    glyph: usize,
-    name: &[u8],
-    number: u64,
-    out: &mut W,
-    errors: &mut E,
-) -> Status
-    requires sound { IsSound sheet.now }
-    requires glyph { glyph < length sheet.now.font.now.glyphs }
-    requires named { glyph_named (font_of sheet.now) name.now ≡ Some glyph }
-    ensures { DrawsGlyph (font_of sheet.now) (edition_of sheet.now) (waivers_of sheet.now) name.now (Extent.Fault number)
-        (record { out = W.state out.old; errors = E.state errors.old })
-        (record { out = W.state out.new; errors = E.state errors.new }) result }
-{
-    match fault_for(alloc, sheet, glyph, number) {
-        Ok(Some(fault)) => give_picture(alloc, sheet, glyph, Shown::Fault(fault), out, errors),
-        Ok(None) => tell_no_fault(alloc, name, number, errors),
-        Err(_) => tell_failure(PROGRAM, Failure::Memory, errors),
+    match shown_by(sheet.font, sheet.sidebearings, sheet.waivers, glyph, extent) {
+        Ok(shown) => give_picture(alloc, sheet, glyph, shown, out, errors),
+        Err(none) => tell_no_fault(alloc, name, none.number, errors),
     }
 }
 
@@ -134,7 +109,7 @@ fn give_picture<W: Sink, E: Sink>(
 ) -> Status
     requires sound { IsSound sheet.now }
     requires glyph { glyph < length sheet.now.font.now.glyphs }
-    requires fault { IfSome (fault_in (shown_value shown)) (CanShow sheet.now glyph) }
+    requires fault { IfSome (fault_in (shown_value shown)) (CanBeShown (font_of sheet.now) (waivers_of sheet.now) glyph) }
     ensures { DrawsAs sheet.now glyph (shown_value shown)
         (record { out = W.state out.old; errors = E.state errors.old })
         (record { out = W.state out.new; errors = E.state errors.new }) result }

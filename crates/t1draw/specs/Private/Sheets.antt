@@ -1,11 +1,12 @@
 -- What is drawn and found of a sheet.
-use Rattle.std.specs.Prelude.{◌≡◌, ◌⊎◌, ◌++◌, ℕ, List, Option, Some, true}
+use Rattle.std.specs.Prelude.{◌≡◌, ◌⊎◌, ◌++◌, ℕ, List, Some}
 use Rattle.t1_char.specs.declared.edition.Edition.{Edition}
 use Rattle.t1_font.specs.Fonts.{FontValue}
 use Rattle.t1_report.specs.Checked.{checked}
+use Rattle.t1_picture.specs.Extents.{IsShown}
 use Rattle.t1_picture.specs.Subjects.{ShownValue}
+use Rattle.t1_picture.specs.declared.extent.Extent.{Extent}
 use Rattle.t1_report.specs.Faults.{FaultValue}
-use Rattle.t1_report.specs.Lines.{IsInFont}
 use Rattle.t1_report.specs.Reports.{IsReport}
 use Rattle.t1_report.specs.Waivers.{Waiver}
 use Rattle.t1_rules.specs.Components.{AreOf, glyph_named}
@@ -15,9 +16,8 @@ use Rattle.t1_run.specs.Opening.{Sinks}
 use Rattle.t1_run.specs.Telling.{Tells}
 use Rattle.t1_run.specs.declared.status.Status.{Status}
 use Rattle.t1_run.specs.declared.status.Status.TheVariants.{Failed}
-use Rattle.t1draw.specs.Draws.{ArePictures, DrawsGlyph, IsShown, fault_for, is_for, no_fault_line, program}
+use Rattle.t1draw.specs.Draws.{ArePictures, DrawsGlyph, no_fault_line, program}
 use Rattle.t1draw.specs.Folders.{FolderFile, folder_text}
-use Rattle.t1draw.specs.declared.options.Extent.{Extent}
 use Rattle.t1draw.specs.declared.sheet.Sheet.{Sheet}
 
 -- Its font, edition and waivers.
@@ -38,21 +38,12 @@ IsSound sheet = AreOf (font_of sheet) sheet.sidebearings.now
 abbrev pub AreReported : Sheet → List FaultValue → Type 0
 AreReported sheet faults = IsReport (checked (font_of sheet) (edition_of sheet)) (waivers_of sheet) faults
 
--- A fault that a glyph's picture can show.
-pub record CanShow (sheet : Sheet) (glyph : ℕ) (fault : FaultValue) : Type 0 where
-  pub in_font : IsInFont (font_of sheet) (waivers_of sheet) fault
-  pub unit : is_for glyph fault ≡ true
-
 -- So much of a glyph is drawn: as each request says that means this.
 abbrev pub DrawsAs : Sheet → ℕ → ShownValue → Sinks → Sinks → Status → Type 0
 DrawsAs sheet glyph visible sinks sinks' status =
     (name : List ℕ) (wanted : Extent) → glyph_named (font_of sheet) name ≡ Some glyph
-    → IsShown (font_of sheet) (edition_of sheet) (waivers_of sheet) glyph wanted visible
+    → IsShown wanted (checked (font_of sheet) (edition_of sheet)) (waivers_of sheet) glyph (Some visible)
     → DrawsGlyph (font_of sheet) (edition_of sheet) (waivers_of sheet) name wanted sinks sinks' status
-
--- The fault of a number in the report that a glyph's picture can show, if there is one.
-abbrev pub IsFaultFor : Sheet → ℕ → ℕ → Option FaultValue → Type 0
-IsFaultFor sheet glyph number found = (faults : List FaultValue) × (AreReported sheet faults × (fault_for glyph number faults ≡ found))
 
 -- That there is no such fault is printed, or that memory ran out.
 abbrev pub TellsNoFault : List ℕ → ℕ → SinkState → SinkState → Status → Type 0

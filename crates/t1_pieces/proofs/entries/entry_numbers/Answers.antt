@@ -1,14 +1,9 @@
-use Rattle.std.proofs.Common.{string_bytes}
-use Rattle.t1_pieces.proofs.EntryTexts.{entry_refused, numbers_given}
+use Rattle.t1_pieces.proofs.WholeTexts.{is_whole}
 use Rattle.t1_pieces.proofs.entries.entry_numbers.Goals as goal
+use Rattle.t1_pieces.specs.Entries.{AreNumbersOf}
 use Rattle.t1_run.specs.FontFiles.{font_of}
 
-pub returns-in-Ok-Some-clause-numbers : goal.returns-in-Ok-Some-clause-numbers
-returns-in-Ok-Some-clause-numbers c =
-    numbers_given c.args.request.now.key (font_of c.args.request.now.font.now) (string_bytes c.in-Ok-Some.text) c.put_numbers.new.room
-    c.put_numbers.result (rw c.in-Ok-Some.field-0-is at c.in-Ok-Some.ensures.text) (rw c.as_bytes.ensures.value at c.put_numbers.ensures.text)
-
-pub returns-in-Err-Refused-clause-numbers : goal.returns-in-Err-Refused-clause-numbers
-returns-in-Err-Refused-clause-numbers c =
-    entry_refused c.args.request.now.key (font_of c.args.request.now.font.now) c.put_refusal.new.room c.put_refusal.result
-    c.in-Err-Refused.field-0 c.in-Err-Refused.code c.in-Err-Refused.ensures.failed c.in-Err-Refused.field-0-is c.put_refusal.ensures.text
+pub returns-clause-numbers : goal.returns-clause-numbers
+returns-clause-numbers c =
+    is_whole (AreNumbersOf c.args.key) (font_of c.args.font.now) c.numbers_of_file.result c.hand_over.new.room c.hand_over.result
+    c.numbers_of_file.ensures.numbers c.numbers_of_file.ensures.failed c.hand_over.ensures.made c.hand_over.ensures.failed

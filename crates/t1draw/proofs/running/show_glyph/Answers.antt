@@ -1,18 +1,20 @@
-use Rattle.std.proofs.Common.{refl, sym, ◌∙◌}
-use Rattle.t1draw.specs.Draws.DrawsGlyph.{no_glyph}
-use Rattle.t1draw.specs.Draws.IsShown.{all, steps}
-use Rattle.t1draw.specs.declared.options.Extent.TheVariants as extent
+use Rattle.std.proofs.Common.{inl, inr, refl, sym, ◌∙◌}
+use Rattle.t1draw.specs.Draws.DrawsGlyph.{no_fault, no_glyph, no_memory}
 use Rattle.t1draw.proofs.running.show_glyph.Goals as goal
 
 pub returns-in-Ok : goal.returns-in-Ok
 returns-in-Ok g c =
     no_glyph (sym c.glyph_named.ensures.place ∙ c.in_default.is) refl (rw (c.as_str.ensures.value, c.in-Ok.ensures) at c.tell_no_glyph.ensures)
 
-pub returns-in-All : goal.returns-in-All
-returns-in-All g c =
-    rw c.in-All.is (c.give_picture.ensures c.args.name.now extent.All (sym c.glyph_named.ensures.place ∙ c.in-Some.is) all)
+pub returns-in-Ok-2 : goal.returns-in-Ok-2
+returns-in-Ok-2 g c =
+    c.give_picture.ensures c.args.name.now c.args.extent (sym c.glyph_named.ensures.place ∙ c.in-Some.is) c.in-Ok-2.ensures.shown
 
-pub returns-in-UpTo : goal.returns-in-UpTo
-returns-in-UpTo g c =
-    rw c.in-UpTo.is (c.give_picture-in-UpTo.ensures c.args.name.now (extent.UpTo c.in-UpTo.step) (sym c.glyph_named.ensures.place ∙ c.in-Some.is)
-    (steps c.in-UpTo.step))
+pub returns-in-Err-2 : goal.returns-in-Err-2
+returns-in-Err-2 g c =
+    let named = sym c.glyph_named.ensures.place ∙ c.in-Some.is in
+    let none = c.in-Err-2.ensures.none in
+    elim c.tell_no_fault.ensures [
+      | inl said ↦ no_fault c.in-Some.glyph c.in-Err-2.none.number named none.0 none.1 refl said
+      | inr said ↦ no_memory refl said
+    ]
