@@ -10,6 +10,7 @@ use Rattle.t1_report.specs.Checked.{CheckedFont}
 use Rattle.t1_report.specs.Faults.{FaultValue}
 use Rattle.t1_report.specs.Laws.Walks.{LeadTo}
 use Rattle.t1_report.specs.Lines.{place_text, rule_part}
+use Rattle.t1_report.specs.Places.{fault_place}
 use Rattle.t1_report.specs.Waivers.{Waiver}
 use Rattle.t1_report.specs.Walks.{IsNext, mark_of}
 use Rattle.t1_report.specs.declared.marks.Mark.{Mark}
@@ -31,8 +32,8 @@ at_walk P font font' waivers waivers' mark mark' f w m p =
 -- A line is never empty.
 pub line_length : (form : Form) (font : CheckedFont) (waivers : List Waiver) (fault : FaultValue) → 0 < length (line_as form font waivers fault)
 line_length Text font waivers fault =
-    let whole = length-append (concat (decimal fault.number ∷ codes ": " ∷ [])) (place_text font.value waivers fault ++ rule_part fault) in
-    let rest = length-append (place_text font.value waivers fault) (rule_part fault) in
+    let whole = length-append (concat (decimal fault.number ∷ codes ": " ∷ [])) (place_text font.value waivers fault (fault_place font.value fault) ++ rule_part fault) in
+    let rest = length-append (place_text font.value waivers fault (fault_place font.value fault)) (rule_part fault) in
     let some : length (rule_part fault) ≡ suc (length (concat (code_of fault.rule ∷ codes " " ∷ text_of fault.rule ∷ codes "\n" ∷ []))) = refl in
     omega (arith, whole, rest, some)
 line_length (Object name) font waivers fault =
