@@ -129,10 +129,10 @@ module _ {T S : Type 0} (stream : Stream S) (state : T → S) (writes : Output T
       → new.errors ≡ old.errors
       → IsStep old new (stream.ending (state old.formatter) name found) (stream.after_font (state old.formatter) name found) [] lost
   ended-one old new name found lost (ended behind wrote flushed) same =
-      flushed-one old new behind _ _ lost (ending (output_of old) (record { formatter = new.formatter; out = behind }) name found None wrote) flushed same
+      flushed-one old new behind (stream.ending (state old.formatter) name found) (stream.after_font (state old.formatter) name found) lost (ending (output_of old) (record { formatter = new.formatter; out = behind }) name found None wrote) flushed same
   ended-one old new name found lost (unended reason wrote is) same =
       subst (IsStep old new (stream.ending (state old.formatter) name found) (stream.after_font (state old.formatter) name found) []) (sym is)
-      (moved old new _ _ [] (Some reason) (ending (output_of old) (output_of new) name found (Some reason) wrote) (none-same old.errors new.errors same))
+      (moved old new (stream.ending (state old.formatter) name found) (stream.after_font (state old.formatter) name found) [] (Some reason) (ending (output_of old) (output_of new) name found (Some reason) wrote) (none-same old.errors new.errors same))
 
   one : (old new : Formatting T) (handed : Handed) (lost : Option Lost) → FormattedTakes form old new handed lost
       → IsStep old new (text_of_one stream (state old.formatter) handed) (after_one stream (state old.formatter) handed) (told_of handed) lost

@@ -56,13 +56,20 @@ found_written old new name lost =
     IsLinePut old.out new.out (found_text (junit_state old.formatter) name) lost
     × IsKept (junit_state new.formatter) (begun old.formatter.failing) lost
 
--- That of a font that has none yet.
+-- A font that was checked has no case before it is done.
+abbrev pub is_checked : FontClass → Bool
+is_checked Clean = true
+is_checked Known = true
+is_checked Faulty = true
+is_checked Refused = false
+is_checked Unchecked = false
+
+abbrev pub ends_case : Bool → Output JUnit → Output JUnit → List ℕ → Option Lost → Type 0
+ends_case true old new name lost = found_written old new name lost
+ends_case false old new name lost = (new ≡ old) × (lost ≡ None)
+
 abbrev pub case_written : Output JUnit → Output JUnit → List ℕ → FontClass → Option Lost → Type 0
-case_written old new name Clean lost = found_written old new name lost
-case_written old new name Known lost = found_written old new name lost
-case_written old new name Faulty lost = found_written old new name lost
-case_written old new name Refused lost = (new ≡ old) × (lost ≡ None)
-case_written old new name Unchecked lost = (new ≡ old) × (lost ≡ None)
+case_written old new name found lost = ends_case (is_checked found) old new name lost
 
 -- What ends it was put.
 abbrev pub cases_ended : JUnit → SinkState → SinkState → Option Lost → Type 0
@@ -94,13 +101,6 @@ font_lines reasons font waivers faults =
 abbrev pub first_failing : Mask → CheckedFont → List Waiver → List FaultValue → Option (List ℕ)
 first_failing failing font waivers faults =
     option_map (λ fault. xml_text (spelled_line font waivers fault)) (find (λ (fault : FaultValue). has failing (number_of fault.rule)) faults)
-
-abbrev pub is_checked : FontClass → Bool
-is_checked Clean = true
-is_checked Known = true
-is_checked Faulty = true
-is_checked Refused = false
-is_checked Unchecked = false
 
 -- A font that was checked has one case, after the cases before it: a failure exactly where one of its lines fails, by the first such line, with all
 -- lines of the font.

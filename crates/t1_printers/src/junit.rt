@@ -1,7 +1,8 @@
 //! A document of JUnit's form.
 
 ghost use Rattle.std.specs.Prelude.{◌≡◌, true};
-ghost use Rattle.t1_printers.specs.Cases.{case_telling_written, case_written, cases_ended};
+ghost use Rattle.t1_many.specs.Handing.{lost_of};
+ghost use Rattle.t1_printers.specs.Cases.{case_telling_written, case_written, cases_ended, found_written, is_checked};
 
 use crate::formatter::{Formatter, written};
 use std::alloc::Global;
@@ -37,15 +38,37 @@ impl Formatter for JUnit {
         name: &str,
         found: FontClass,
     ) -> Result<(), Lost> {
-        match found {
-            FontClass::Clean | FontClass::Known | FontClass::Faulty => {
-                written(self.put_case(alloc, sink, name.as_bytes()))
-            }
-            FontClass::Refused | FontClass::Unchecked => Ok(()),
+        if is_checked(found) {
+            put_case(self, alloc, sink, name)
+        } else {
+            Ok(())
         }
     }
 
     fn finish<W: Sink>(self, _alloc: Global, sink: &mut W) -> Result<(), Lost> {
         written(self.end(sink))
     }
+}
+
+/// Whether a font was checked, and so has no case before it is done.
+fn is_checked(found: FontClass) -> bool
+    ensures { result ≡ is_checked found }
+{
+    match found {
+        FontClass::Clean | FontClass::Known | FontClass::Faulty => true,
+        FontClass::Refused | FontClass::Unchecked => false,
+    }
+}
+
+/// Writes the case of a font that was checked.
+fn put_case<W: Sink>(
+    document: &mut JUnit,
+    alloc: Global,
+    sink: &mut W,
+    name: &str,
+) -> Result<(), Lost>
+    ensures { found_written (record { formatter = document.old; out = W.state sink.old })
+        (record { formatter = document.new; out = W.state sink.new }) name.now (lost_of result) }
+{
+    written(document.put_case(alloc, sink, name.as_bytes()))
 }
