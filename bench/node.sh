@@ -56,7 +56,7 @@ for edition in 1 2 3; do
     both --edition "$edition" "$shelf"
     fonts=$(sed -n 's/ fonts\{0,1\}: .*//p' "$scratch/node.err")
 done
-echo "$fonts fonts, 24 answers, $([ "$differs" -eq 0 ] && echo all equal || echo not all equal)"
+echo "$fonts fonts, 27 answers, $([ "$differs" -eq 0 ] && echo all equal || echo not all equal)"
 for by in program node; do
     [ ! -f "$scratch/$by.times" ] || awk -v by="$by" '
         { seconds = $1 + $2; if (seconds > worst) worst = seconds; if ($3 > most) most = $3 }
