@@ -49,7 +49,7 @@ one_shown : (sheet : Sheet) (glyph : ℕ) (wanted : Extent) (a b : Option ShownV
     → IsShown wanted (checked sheet.font sheet.edition) sheet.waivers glyph b → a ≡ b
 one_shown sheet glyph extent.All a b is is' = is ∙ sym is'
 one_shown sheet glyph (extent.UpTo step) a b is is' = is ∙ sym is'
-one_shown sheet glyph (extent.Fault number) a b (found, (has, is)) (found', (has', is')) =
+one_shown sheet glyph (extent.Fault number) a b (found, has, is) (found', has', is') =
     is ∙ ap (shown_with glyph) (one_found sheet number found found' has has') ∙ sym is'
 
 one_of_shown : HasNoOtherPicture → (sheet : Sheet) (glyph : ℕ) (shown : Option ShownValue) (a b : Answer)
