@@ -77,7 +77,13 @@ cases <<'END'
 END
 try 'nothing' 0 "$all" -q --format junit --only L01 glyphs.pfb
 judge 'nothing'
+cases <<'END'
+<testcase classname="t1check-all" name="glyphs.pfb" file="glyphs.pfb"></testcase>
+END
 try 'known faults are written' 0 "$all" -q --format junit --baseline now --update-baseline glyphs.pfb
+cases <<'END'
+<testcase classname="t1check-all" name="glyphs.pfb" file="glyphs.pfb"></testcase>
+END
 try 'known faults alone' 0 "$all" -q --format junit --baseline now glyphs.pfb
 cases </dev/null
 try 'an empty shard' 0 "$all" --format junit --shard 1/2 glyphs.pfb
