@@ -4,7 +4,7 @@ ghost use Rattle.t1_rules.specs.Laws.Book.{CodesAreOfTheirRules, EachRuleStands,
 ghost use Rattle.t1_rules.specs.Laws.Levels.{LevelsHaveTheirWords};
 ghost use Rattle.t1_rules.specs.Laws.Arguments.{KeptIsNotPast, NoneAreTooManyAtTheTop, NumbersOverflowAt24, OthersHaveNoArguments, TooFewAreFewerThanWanted, TooManyAreMoreThanArguments};
 ghost use Rattle.t1_rules.specs.Laws.Calls.{SoundCallsGoIn};
-ghost use Rattle.t1_rules.specs.Laws.FontRules.{AbsentEntriesBreakNothing, BrokenIsInTheBook, EarlierEditionsKnowNoLaterRule, LaterRulesChangeNoOther, NothingIsBrokenPastLast, NothingIsBrokenPastPlaces, RuleNumbersAreInOrder};
+ghost use Rattle.t1_rules.specs.Laws.FontRules.{AbsentEntriesBreakNothing, AbsentEntriesBreakTheirRules, BrokenIsInTheBook, EarlierEditionsKnowNoLaterRule, LaterRulesChangeNoOther, NothingIsBrokenPastLast, NothingIsBrokenPastPlaces, RuleNumbersAreInOrder};
 ghost use Rattle.t1_rules.specs.Laws.Later.{EarlierEditionsBreakNoLaterRule, OneStemStandsBeside, ReplacementsHaveNoSay, ThirdAgreesWithSecond};
 ghost use Rattle.t1_rules.specs.Laws.Components.{CapitalsNameThemselves, CodesAreCounted, NamesAreCounted, NoNameStandsTwice, OwnEncodingHasNoSay, PlacesHaveNoSay, SmallLettersNameThemselves};
 ghost use Rattle.t1_rules.specs.Laws.Editions.{EditionsAgreeOnOtherRules, EditionsAgreeOnShortComponents, EditionsAgreeOnUsualSteps, EditionsAgreeWithoutOneEdge, OneEdgeOverlapsNothing, OtherStemsOverlapAsBefore, OverlapByIsMutual, SecondTellsNoMore, SecondTellsNoMoreInFonts, StemsAreKept};
@@ -37,10 +37,11 @@ pub fn rules_have_their_places()
     ensures last { NothingIsBrokenPastLast }
 {}
 
-/// The rules on hint entries say nothing of an entry that isn't there.
-#[tactic(auto, using(crate::proofs::Lemmas::AbsentEntries::absent_is_fine))]
+/// An entry that isn't there breaks no rule but F03, F04, F07, F08, F15, F16 and Z12. Where it is the entry of one of
+/// these, it does.
 pub fn absent_entries_are_fine()
-    ensures { AbsentEntriesBreakNothing }
+    ensures nothing { AbsentEntriesBreakNothing }
+    ensures these { AbsentEntriesBreakTheirRules }
 {}
 
 /// A list's zones are its pairs of numbers.

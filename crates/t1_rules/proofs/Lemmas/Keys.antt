@@ -50,7 +50,7 @@ pub zones_past : (font : FontValue) (v : List ℤ) (index : ℕ) → length v �
 zones_past font v index past =
     (falls_past v index past, near_past (distance font) v index past, high_past (scale font) v index past)
 
-fraction_past : (v : List ℤ) (index : ℕ) → length v ≤ index → has_fraction_at v index ≡ false
+pub fraction_past : (v : List ℤ) (index : ℕ) → length v ≤ index → has_fraction_at v index ≡ false
 fraction_past v index past = rw (le-ltb index (length v) past) refl
 
 exchanged_past : (v : List ℤ) (index : ℕ) → 2 ≤ index → are_exchanged v index ≡ false
@@ -61,7 +61,7 @@ exchanged_past (a ∷ (b ∷ (c ∷ []))) index past = refl
 exchanged_past (a ∷ (b ∷ (c ∷ (d ∷ [])))) index past = rw (differs index 0 (omega arith), differs index 1 (omega arith)) refl
 exchanged_past (a ∷ (b ∷ (c ∷ (d ∷ (e ∷ v))))) index past = refl
 
-repeats_past : (v : List ℤ) (index : ℕ) → length v ≤ index → repeats_at v index ≡ false
+pub repeats_past : (v : List ℤ) (index : ℕ) → length v ≤ index → repeats_at v index ≡ false
 repeats_past v index past = rw (le-ltb index (length v) past, and-false (nat_lt 0 index)) refl
 
 lookup_past : (subrs : List (ℕ × List ℕ)) (index : ℕ) → index < 65536 → subr_places subrs ≤ index → lookup (nat_eq index) subrs ≡ None

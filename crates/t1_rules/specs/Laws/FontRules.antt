@@ -1,12 +1,15 @@
 -- Laws of the table of font rules.
-use Rattle.std.specs.Prelude.{◌≡◌, ℕ, ◌≤◌, ◌⊎◌, true, false, map}
-use Rattle.std.specs.List.{range_with_len}
+use Rattle.std.specs.Prelude.{◌≡◌, ◌==◌, ℕ, ◌≤◌, ◌⊎◌, Bool, true, false, List, [], ◌∷◌, map}
+use Rattle.std.specs.List.{list_any, range_with_len}
 use Rattle.t1_char.specs.Editions.{has_later_rules}
 use Rattle.t1_char.specs.declared.edition.Edition.{Edition}
+use Rattle.t1_char.specs.declared.edition.Edition.TheVariants.{Three}
 use Rattle.t1_font.specs.Fonts.{FontValue}
 use Rattle.t1_font.specs.Values.{absent}
 use Rattle.t1_font.specs.declared.key.Key.{Key}
-use Rattle.t1_rules.specs.declared.rule.Rule.TheVariants.{Z01}
+use Rattle.t1_font.specs.declared.key.Key.TheVariants.{FontType, PaintType, Password, MinFeature, BlueValues, FontMatrix, FontBBox}
+use Rattle.t1_rules.specs.declared.rule.Rule.{Rule}
+use Rattle.t1_rules.specs.declared.rule.Rule.TheVariants.{F03, F04, F07, F08, F15, F16, Z12}
 use Rattle.t1_rules.specs.Keys.{key_number, places_of, value_at, key_count, index_count}
 use Rattle.t1_rules.specs.Book.{last_number, last_number_before, number_of}
 use Rattle.t1_rules.specs.FontRules.{first_font_rules, font_rules, later_font_rules, violated}
@@ -46,8 +49,27 @@ NothingIsBrokenPastLast =
     (edition : Edition) (font : FontValue) (key index : ℕ) → (key_count ≤ key) ⊎ (index_count ≤ index) → (n : ℕ) →
     violated (font_rules edition) n font key index ≡ false
 
--- Up to number 70 a rule on hint entries isn't broken at an entry that isn't there.
+-- The rules that an entry breaks which isn't there: of those after number 70 just F15, F16 and Z12.
+abbrev pub rules_on_absence : List Rule
+rules_on_absence = F03 ∷ F04 ∷ F07 ∷ F08 ∷ F15 ∷ F16 ∷ Z12 ∷ []
+
+-- It breaks no other rule of any edition.
 abbrev pub AbsentEntriesBreakNothing : Type 0
 AbsentEntriesBreakNothing =
-    (font : FontValue) (k : Key) (index n : ℕ) → value_at font k ≡ absent → number_of Z01 ≤ n →
-    violated first_font_rules n font (key_number k) index ≡ false
+    (edition : Edition) (font : FontValue) (k : Key) (index n : ℕ) → value_at font k ≡ absent →
+    list_any (λ r. number_of r == n) rules_on_absence ≡ false → violated (font_rules edition) n font (key_number k) index ≡ false
+
+-- And in the third edition it does break its rule.
+pub data AsksFor : Rule → Key → Type 0 where
+  font_type : AsksFor F03 FontType
+  paint_type : AsksFor F04 PaintType
+  password : AsksFor F07 Password
+  min_feature : AsksFor F08 MinFeature
+  font_matrix : AsksFor F15 FontMatrix
+  font_bbox : AsksFor F16 FontBBox
+  blue_values : AsksFor Z12 BlueValues
+
+abbrev pub AbsentEntriesBreakTheirRules : Type 0
+AbsentEntriesBreakTheirRules =
+    (font : FontValue) (rule : Rule) (k : Key) → AsksFor rule k → value_at font k ≡ absent →
+    violated (font_rules Three) (number_of rule) font (key_number k) 0 ≡ true
