@@ -170,13 +170,13 @@ told_same font usual waivers (suc glyph) step n = go (glyph == length font.glyph
     go false = ap (λ b. b && told) (broken_same font usual (suc glyph) step n)
 
 -- What is reported alike makes the same reports.
-pub reported_alike : (font other : CheckedFont) (waivers others : List Waiver) (faults : List FaultValue) → font.value ≡ other.value
+pub reported_alike : (font other : CheckedFont) (waivers others : List Waiver) (faults : List FaultValue) → ((p : Place) → path_at font p ≡ path_at other p)
     → ((unit step n : ℕ) → is_told font waivers unit step n ≡ is_told other others unit step n) → IsReport font waivers faults → IsReport other others faults
-reported_alike font other waivers others faults value same r = record {
+reported_alike font other waivers others faults paths same r = record {
   rising = r.rising;
   violations = λ i d less. record {
     violated = sym (same _ _ _) ∙ (r.violations i d less).violated;
-    path = (r.violations i d less).path ∙ ap (λ v. path_at (checked v font.edition) (place_of (slice_index_or faults i d))) value;
+    path = (r.violations i d less).path ∙ paths (place_of (slice_index_or faults i d));
   };
   complete = λ p told. r.complete p (same p.unit p.step (number_of p.rule) ∙ told);
   numbered = r.numbered;
@@ -184,8 +184,8 @@ reported_alike font other waivers others faults value same r = record {
 
 pub usual_fonts_have_one_report : UsualFontsHaveOneReport
 usual_fonts_have_one_report font usual waivers faults = (
-  reported_alike (checked font One) (checked font Two) waivers waivers faults refl (λ unit step n. sym (told_same font usual waivers unit step n)),
-  reported_alike (checked font Two) (checked font One) waivers waivers faults refl (told_same font usual waivers),
+  reported_alike (checked font One) (checked font Two) waivers waivers faults (λ p. refl) (λ unit step n. sym (told_same font usual waivers unit step n)),
+  reported_alike (checked font Two) (checked font One) waivers waivers faults (λ p. refl) (told_same font usual waivers),
 )
 
 -- ---- a font without a fault

@@ -12,6 +12,7 @@ pub mod JoinedLines
 pub mod LaterFaults
 pub mod LaterRules
 pub mod NamesOnce
+pub mod NotedKeys
 pub mod Numbered
 pub mod OneReport
 pub mod PassedLines

@@ -1,7 +1,7 @@
 //! Laws above the definitions: each is the contract of a function without a body.
 
 ghost use Rattle.t1_report.specs.Laws.Editions.{CleanFontsStayClean, UsualFontsHaveOneReport};
-ghost use Rattle.t1_report.specs.Laws.LaterRules.{EarlierReportsHaveNoLaterRule, ThirdReportsAsTheSecond};
+ghost use Rattle.t1_report.specs.Laws.LaterRules.{EarlierReportsHaveNoLaterRule, EarlierReportsKnowNoNotes, ThirdReportsAsTheSecond};
 ghost use Rattle.t1_char.specs.declared.edition.Edition.TheVariants.{One, Three, Two};
 ghost use Rattle.t1_report.specs.Laws.Limits.{AreCheckedTo};
 ghost use Rattle.t1_report.specs.Laws.PassedLines.{PassedLinesBreakNoRule, WatchersMoveOnByLines};
@@ -92,10 +92,11 @@ pub fn clean_fonts_stay_clean()
     ensures { CleanFontsStayClean }
 {}
 
-/// The first two editions report no rule after number 70. The third reports the others as the second does, where waivers
-/// are of these alone.
+/// The first two editions report no rule after number 70, and noted keys change nothing of what they report. The third
+/// reports the other rules as the second does, where waivers are of these alone.
 pub fn later_rules_stand_beside()
     ensures earlier { EarlierReportsHaveNoLaterRule }
+    ensures notes { EarlierReportsKnowNoNotes }
     ensures others { ThirdReportsAsTheSecond }
 {}
 

@@ -23,6 +23,7 @@ pub mod Levels
 pub mod Lines
 pub mod KnownCalls
 pub mod Mask
+pub mod NotedKeys
 pub mod OthersubrCalls
 pub mod Othersubrs
 pub mod Overlaps

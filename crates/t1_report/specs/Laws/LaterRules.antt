@@ -1,9 +1,10 @@
 -- What the rules after number 70 change of a report.
-use Rattle.std.specs.Prelude.{◌≡◌, ℕ, ◌≤◌, nat_le, Bool, false, Some, List, slice_get}
+use Rattle.std.specs.Prelude.{◌≡◌, ◌↔◌, ℕ, ◌≤◌, nat_le, Bool, false, Some, List, slice_get}
 use Rattle.std.specs.List.{All}
 use Rattle.t1_char.specs.declared.edition.Edition.TheVariants.{Three, Two}
 use Rattle.t1_char.specs.Editions.{has_later_rules}
 use Rattle.t1_font.specs.Fonts.{FontValue}
+use Rattle.t1_font.specs.Laws.Notes.{unnoted}
 use Rattle.t1_rules.specs.Book.{last_number_before, number_of}
 use Rattle.t1_report.specs.Checked.{CheckedFont, checked}
 use Rattle.t1_report.specs.Faults.{FaultValue}
@@ -16,6 +17,12 @@ abbrev pub EarlierReportsHaveNoLaterRule : Type 0
 EarlierReportsHaveNoLaterRule =
     (font : CheckedFont) (waivers : List Waiver) (faults : List FaultValue) → has_later_rules font.edition ≡ false →
     IsReport font waivers faults → All (λ fault. number_of fault.rule ≤ last_number_before) faults
+
+-- And it reports of a font just what it reports of the font without its noted keys.
+abbrev pub EarlierReportsKnowNoNotes : Type 0
+EarlierReportsKnowNoNotes =
+    (font : CheckedFont) (waivers : List Waiver) (faults : List FaultValue) → has_later_rules font.edition ≡ false →
+    IsReport font waivers faults ↔ IsReport (checked (unnoted font.value) font.edition) waivers faults
 
 -- Each waiver is of a rule up to number 70.
 abbrev pub AreEarlier : List Waiver → Type 0

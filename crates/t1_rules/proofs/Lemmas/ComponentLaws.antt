@@ -1,13 +1,15 @@
 -- StandardEncoding's names, and what components depend on.
 use Rattle.std.proofs.Common.{◌≡◌, ℕ, zero, suc, ◌<◌, ◌==◌, ◌&&◌, ◌||◌, not, nat_lt, if◌then◌else◌, Bool, true, false, Option, Some, None, List, [], ◌∷◌, ◌++◌, length, map, take, slice_get, slice_index_or, refl, sym, ap, ◌∙◌, arith}
 use Rattle.std.specs.List.{AllPass, list_any, position_or_len, range_with_len}
-use Rattle.t1_char.specs.Charstrings.{code_at, code_or_empty, tokens_in}
+use Rattle.t1_char.specs.Charstrings.{code_at, code_or_empty, len_iv_in, tokens_in}
 use Rattle.t1_char.specs.declared.token.CharToken.{CharToken}
 use Rattle.t1_char.specs.Effects.{Action, State, calls, finishes, goes, most_calls, returns}
 use Rattle.t1_char.specs.Steps.{Run, StepView, after, and_then, at_start, effect_at, expansion, first, led_to, step_at, steps_of}
+use Rattle.t1_char.specs.Tokens.{charstring_tokens}
 use Rattle.t1_font.specs.declared.encoding.Encoding.{Encoding}
 use Rattle.t1_font.specs.Fonts.{FontValue}
 use Rattle.t1_font.specs.Keys.{same_name}
+use Rattle.t1_font.specs.Values.{Value}
 use Rattle.t1_rules.specs.Components.{component_at, component_in, component_named, component_of_glyph, components_of, glyph_named}
 use Rattle.t1_rules.specs.Laws.Components.{CodesAreCounted, NamesAreCounted, NoNameStandsTwice, OwnEncodingHasNoSay, PlacesHaveNoSay, encoded_anew}
 use Rattle.t1_rules.specs.StandardEncoding.{standard_encoding, standard_name}
@@ -70,10 +72,6 @@ no_name_stands_twice one other same letters = one_place standard_encoding encodi
 
 -- ---- what steps depend on
 
--- The font with other glyphs and another Encoding.
-abbrev changed : FontValue → Encoding → List (ℕ × List ℕ) → Bool → List (List ℕ × List ℕ) → FontValue
-changed font encoding codes bad_code glyphs = record font { encoding = encoding; codes = codes; bad_code = bad_code; glyphs = glyphs }
-
 led_same : (step : StepView) (s : State) (action : Action) (behind other_behind : State → Run) (called other_called : ℕ → List ℕ → State → Run)
     → ((x : State) → behind x ≡ other_behind x) → ((number : ℕ) (code : List ℕ) (x : State) → called number code x ≡ other_called number code x)
     → led_to step s action behind called ≡ led_to step s action other_behind other_called
@@ -89,25 +87,32 @@ then_same run next other_next same = go run.finished
     go true = refl
     go false = ap (after run.steps) (same run.state)
 
-same_run : (font : FontValue) (encoding : Encoding) (codes : List (ℕ × List ℕ)) (bad_code : Bool) (glyphs : List (List ℕ × List ℕ)) (n : ℕ) (path : List ℕ)
-    (ts : List CharToken) (s : State)
-    → expansion (changed font encoding codes bad_code glyphs) n path ts s ≡ expansion font n path ts s
-unfolding expansion
-same_run font encoding codes bad_code glyphs n path [] s = refl
-same_run font encoding codes bad_code glyphs zero path (t ∷ ts) s =
-    led_same (step_at font path t ts s) (effect_at font path t s).state (effect_at font path t s).action _ _ _ _
-    (λ x. same_run font encoding codes bad_code glyphs zero path ts x)
-    (λ number code x. same_run font encoding codes bad_code glyphs zero path ts x)
-same_run font encoding codes bad_code glyphs (suc n) path (t ∷ ts) s =
-    let other = changed font encoding codes bad_code glyphs in
-    led_same (step_at font path t ts s) (effect_at font path t s).state (effect_at font path t s).action _ _ _ _
-    (λ x. same_run font encoding codes bad_code glyphs (suc n) path ts x)
-    (λ number code x.
-    ap (λ run. and_then run (λ y. expansion other (suc n) path ts y))
-    (same_run font encoding codes bad_code glyphs n (path ++ number ∷ []) (tokens_in font code) x)
-    ∙ then_same (expansion font n (path ++ number ∷ []) (tokens_in font code) x) (λ y. expansion other (suc n) path ts y)
-    (λ y. expansion font (suc n) path ts y)
-    (λ y. same_run font encoding codes bad_code glyphs (suc n) path ts y))
+-- The font with other entries, the same lenIV, other glyphs and another Encoding.
+module _ (font : FontValue) (plain : List Value) (encoding : Encoding) (codes : List (ℕ × List ℕ)) (bad_code : Bool) (glyphs : List (List ℕ × List ℕ))
+    (same_len_iv : len_iv_in (record font { plain = plain }) ≡ len_iv_in font) where
+  abbrev changed : FontValue
+  changed = record font { plain = plain; encoding = encoding; codes = codes; bad_code = bad_code; glyphs = glyphs }
+
+  pub same_tokens : (code : List ℕ) → tokens_in changed code ≡ tokens_in font code
+  same_tokens code = ap (λ len_iv. charstring_tokens len_iv code) same_len_iv
+
+  pub same_run : (n : ℕ) (path : List ℕ) (ts : List CharToken) (s : State) → expansion changed n path ts s ≡ expansion font n path ts s
+  unfolding expansion
+  same_run n path [] s = refl
+  same_run zero path (t ∷ ts) s =
+      led_same (step_at font path t ts s) (effect_at font path t s).state (effect_at font path t s).action _ _ _ _
+      (λ x. same_run zero path ts x)
+      (λ number code x. same_run zero path ts x)
+  same_run (suc n) path (t ∷ ts) s =
+      led_same (step_at font path t ts s) (effect_at font path t s).state (effect_at font path t s).action _ _ _ _
+      (λ x. same_run (suc n) path ts x)
+      (λ number code x.
+      ap (λ run. and_then run (λ y. expansion changed (suc n) path ts y))
+      (ap (λ tokens. expansion changed n (path ++ number ∷ []) tokens x) (same_tokens code)
+      ∙ same_run n (path ++ number ∷ []) (tokens_in font code) x)
+      ∙ then_same (expansion font n (path ++ number ∷ []) (tokens_in font code) x) (λ y. expansion changed (suc n) path ts y)
+      (λ y. expansion font (suc n) path ts y)
+      (λ y. same_run (suc n) path ts y))
 
 same_component : (limit : ℕ) (font : FontValue) (encoding : Encoding) (codes : List (ℕ × List ℕ)) (bad_code : Bool) (code : ℕ)
     → component_at limit (encoded_anew font encoding codes bad_code) code ≡ component_at limit font code
@@ -117,7 +122,7 @@ same_component limit font encoding codes bad_code code = by_name (standard_name 
     by_glyph : (found : Option ℕ) → component_of_glyph limit (encoded_anew font encoding codes bad_code) found ≡ component_of_glyph limit font found
     by_glyph None = refl
     by_glyph (Some glyph) = ap (λ (run : Run). component_in (take limit run.steps))
-        (same_run font encoding codes bad_code font.glyphs most_calls [] (tokens_in font (code_at font glyph)) at_start)
+        (same_run font font.plain encoding codes bad_code font.glyphs refl most_calls [] (tokens_in font (code_at font glyph)) at_start)
 
     by_name : (name : List ℕ) → component_named limit (encoded_anew font encoding codes bad_code) name ≡ component_named limit font name
     by_name [] = refl
@@ -168,4 +173,4 @@ places_have_no_say limit font front rest name code letters others =
     ∙ ap (λ found. component_in (take limit (expansion (record font { glyphs = glyphs }) most_calls [] (tokens_in font (code_or_empty found)) at_start).steps))
     (get_behind front rest (name, code))
     ∙ ap (λ (run : Run). component_in (take limit run.steps))
-    (same_run font font.encoding font.codes font.bad_code glyphs most_calls [] (tokens_in font code) at_start)
+    (same_run font font.plain font.encoding font.codes font.bad_code glyphs refl most_calls [] (tokens_in font code) at_start)
