@@ -9,6 +9,7 @@ use Rattle.std.proofs.lemmas.Bool.{leb-true}
 use Rattle.std.proofs.lemmas.Int.{ints}
 use Rattle.std.proofs.Math.Nat.{le-div_iff_mul-le, mul_comm}
 use Rattle.t1_char.specs.declared.edition.Edition.{Edition}
+use Rattle.t1_char.specs.declared.edition.Edition.TheVariants.{One, Three, Two}
 use Rattle.t1_char.specs.Editions.{has_later_rules}
 use Rattle.t1_font.specs.declared.key.Key.{Key}
 use Rattle.t1_font.specs.declared.key.Key.TheVariants.{FontType, PaintType, UniqueId, PrivateUniqueId, Password, MinFeature, BlueValues, BlueScale, BlueShift, BlueFuzz, FontMatrix, FontBBox, Xuid, LanguageGroup}
@@ -16,7 +17,7 @@ use Rattle.t1_font.specs.Fonts.{FontValue, is_subr_twice}
 use Rattle.t1_font.specs.Values.{Value, absent, number as one_number, numbers as several_numbers, other as another}
 use Rattle.t1_scan.specs.Numbers.{billion}
 use Rattle.t1_rules.specs.declared.rule.Rule.{Rule}
-use Rattle.t1_rules.specs.declared.rule.Rule.TheVariants.{F03, F04, F05, F06, F07, F08, F11, F14, F15, F16, F17, F18, F19, F20, Z01, Z02, Z03, Z04, Z05, Z06, Z07, Z08, Z09, Z10, Z11, Z12, Z13, Z14, Z15, Z16, Z17, Z18, Z19}
+use Rattle.t1_rules.specs.declared.rule.Rule.TheVariants.{F01, F02, F03, F04, F05, F06, F07, F08, F09, F10, F11, F12, F13, F14, F15, F16, F17, F18, F19, F20, F21, Z01, Z02, Z03, Z04, Z05, Z06, Z07, Z08, Z09, Z10, Z11, Z12, Z13, Z14, Z15, Z16, Z17, Z18, Z19}
 use Rattle.t1_rules.specs.Book.{last_number_before, number_of}
 use Rattle.t1_rules.specs.FontRules.{FontRule, each, each_of, first_font_rules, font_rules, later_font_rules, later_rules_in, says, violated}
 use Rattle.t1_rules.specs.FontRules.Dictionaries.{are_exchanged as corners_exchanged, has_corners_exchanged, has_number_past_range, is_malformed, is_no_group}
@@ -34,8 +35,8 @@ use Rattle.t1_rules.specs.declared.font_rules.zones.Edges.{Edges}
 use Rattle.t1_reasons.specs.declared.reason.EntryKind.TheVariants.{Number as OneNumber, Numbers as ManyNumbers}
 use Rattle.t1_reasons.specs.declared.reason.Reason.{Reason}
 use Rattle.t1_reasons.specs.declared.reason.Reason.TheVariants.{Corners, Entry, Following, Form, Gap, Ids, Kind, Number, Numbers, SubrEntry, TooMany, Width, Zone, Zones}
-use Rattle.t1_reasons.specs.FontReasons.{FontReasonRow, are_exchanged, are_so_many, corners_at, corners_of, first_of, first_widths_at, is_found_so, is_wrong_entry, is_wrong_found, is_wrong_listed, is_wrong_number, later_font_row, listed_in, repeats, unsnapped_at, are_near, are_two_ids, at_key, at_keys, counts_at, excess_at, fits, forms_at, is_excess, is_misfit, is_nothing, is_odd, is_unknown_form, is_wrong_subr, kinds_at, kinds_of, subrs_in, wanted_at, beside_zones, entries_at, falls, falls_in, features_at, features_in, first_in_font_row, font_row_of, found_in, gap_in, ids_at, ids_of, is_apart, is_found_number, is_near, is_unusual_feature, meetings_at, meetings_in, nearer, nearest, of_key, reaches_one, scale_for, told_font_row, told_in_font, widths_at, widths_in, zone_from, zone_in, zones_in}
-use Rattle.t1_reasons.specs.Laws.{FontReasonsAreAgainstTheirRules, FontsBreakWhereThereIsAReason, ScalesDo}
+use Rattle.t1_reasons.specs.FontReasons.{FontReasonRow, are_exchanged, are_so_many, corners_at, corners_of, first_of, first_widths_at, is_found_so, is_wrong_entry, is_wrong_found, is_wrong_listed, is_wrong_number, later_font_row, listed_in, repeats, unsnapped_at, are_near, are_two_ids, at_key, at_keys, counts_at, excess_at, fits, forms_at, is_excess, is_misfit, is_nothing, is_odd, is_unknown_form, is_wrong_subr, kinds_at, kinds_of, subrs_in, wanted_at, beside_zones, entries_at, falls, falls_in, features_at, features_in, first_in_font_row, font_row_of, found_in, gap_in, ids_at, ids_of, is_apart, is_found_number, is_near, is_unusual_feature, meetings_at, meetings_in, nearer, nearest, no_font_row, of_key, reaches_one, scale_for, told_font_row, told_in_font, widths_at, widths_in, zone_from, zone_in, zones_in}
+use Rattle.t1_reasons.specs.Laws.{FontReasonsAreAgainstTheirRules, FontsBreakWhereThereIsAReason, OthersCompareNumbersInFonts, ScalesDo}
 use Rattle.t1_reasons.specs.StepReasons.{is_any, only_where}
 use Rattle.t1_reasons.proofs.LawProofs.{found_such, found_there, one_such, such_in_both, such_where, where_so}
 
@@ -345,7 +346,7 @@ unsnapped font k index = go (index == 0) (first_in 1 (value_at font (width_of k)
     go true widths false same = same
     go false widths c same = refl
 
--- A rule that compares no numbers.
+-- A rule that only tells.
 told_decides : (edition : Edition) (font : FontValue) (rule : Rule) (key index : ℕ)
     → violated (font_rules edition) (number_of rule) font key index ≡ is_some (first_in_font_row (told_font_row edition rule) font key index)
 told_decides edition font rule key index = and_true is_broken ∙ sym (such_where is_broken is_any (told_in_font rule font index))
@@ -353,31 +354,35 @@ told_decides edition font rule key index = and_true is_broken ∙ sym (such_wher
     is_broken : Bool
     is_broken = violated (font_rules edition) (number_of rule) font key index
 
-either_decides : (b : Bool) (edition : Edition) (font : FontValue) (rule : Rule) (key index : ℕ)
-    → violated (font_rules edition) (number_of rule) font key index
-    ≡ is_some (first_in_font_row (if b then told_font_row edition rule else told_font_row edition rule) font key index)
-either_decides true edition font rule key index = told_decides edition font rule key index
-either_decides false edition font rule key index = told_decides edition font rule key index
-
 -- A rule that the first part of the book hasn't says what the later part does, where the edition has that.
+later_says : (edition : Edition) (n : ℕ) → without_number n first_font_rules ≡ true → (font : FontValue) (key index : ℕ)
+    → violated (font_rules edition) n font key index ≡ (has_later_rules edition && violated later_font_rules n font key index)
+later_says edition n other font key index =
+    in_parts edition n font key index
+    ∙ ap (λ b. b || violated (later_rules_in edition) n font key index) (none_says n first_font_rules other font key index)
+    ∙ in_later edition n font key index
+
 later_decides : (edition : Edition) (rule : Rule) → without_number (number_of rule) first_font_rules ≡ true → (font : FontValue) (key index : ℕ) (row : FontReasonRow)
     → violated later_font_rules (number_of rule) font key index ≡ is_some (first_in_font_row row font key index)
     → violated (font_rules edition) (number_of rule) font key index
-    ≡ is_some (first_in_font_row (if has_later_rules edition then row else told_font_row edition rule) font key index)
-later_decides edition rule other font key index row same = go (has_later_rules edition) refl
+    ≡ is_some (first_in_font_row (if has_later_rules edition then row else no_font_row) font key index)
+later_decides edition rule other font key index row same = later_says edition (number_of rule) other font key index ∙ go (has_later_rules edition)
   where
-    n : ℕ
-    n = number_of rule
+    go : (b : Bool) → (b && violated later_font_rules (number_of rule) font key index) ≡ is_some (first_in_font_row (if b then row else no_font_row) font key index)
+    go true = same
+    go false = refl
 
-    go : (b : Bool) → has_later_rules edition ≡ b
-        → violated (font_rules edition) n font key index ≡ is_some (first_in_font_row (if b then row else told_font_row edition rule) font key index)
-    go true has =
-        in_parts edition n font key index
-        ∙ ap (λ b. b || violated (later_rules_in edition) n font key index) (none_says n first_font_rules other font key index)
-        ∙ in_later edition n font key index
-        ∙ ap (λ b. b && violated later_font_rules n font key index) has
-        ∙ same
-    go false has = told_decides edition font rule key index
+-- One of them that only tells.
+told_later : (edition : Edition) (rule : Rule) → without_number (number_of rule) first_font_rules ≡ true → (font : FontValue) (key index : ℕ)
+    → violated (font_rules edition) (number_of rule) font key index
+    ≡ is_some (first_in_font_row (if has_later_rules edition then told_font_row edition rule else no_font_row) font key index)
+told_later edition rule other font key index = go (has_later_rules edition) refl
+  where
+    go : (b : Bool) → has_later_rules edition ≡ b → violated (font_rules edition) (number_of rule) font key index
+        ≡ is_some (first_in_font_row (if b then told_font_row edition rule else no_font_row) font key index)
+    go true has = told_decides edition font rule key index
+    go false has =
+        later_says edition (number_of rule) other font key index ∙ ap (λ b. b && violated later_font_rules (number_of rule) font key index) has
 
 -- The row of a rule up to number 70 decides, in the first part of the book.
 first_decides : (edition : Edition) (n place : ℕ) (r : FontRule) → nat_le n last_number_before ≡ true → slice_get first_font_rules place ≡ Some r
@@ -489,7 +494,23 @@ fonts_broken_where_reason edition font Z18 key index = later_decides edition Z18
 fonts_broken_where_reason edition font Z19 key index = later_decides edition Z19 refl font key index (later_font_row edition Z19)
     (font_row_decides 85 later_font_rules 14 _ refl refl refl refl font key index
     ∙ keys_agree (is_wrong_entry Z19) (λ font k index. index == 0 && (is_number_so is_past_fuzzes) (value_at font k)) entries_at (entry_agrees Z19 (is_number_so is_past_fuzzes) (number_so is_past_fuzzes)) (BlueFuzz ∷ []) font key index)
-fonts_broken_where_reason edition font rule key index = either_decides (has_later_rules edition) edition font rule key index
+fonts_broken_where_reason edition font F01 key index = told_decides edition font F01 key index
+fonts_broken_where_reason edition font F02 key index = told_decides edition font F02 key index
+fonts_broken_where_reason edition font F09 key index = told_decides edition font F09 key index
+fonts_broken_where_reason edition font F10 key index = told_decides edition font F10 key index
+fonts_broken_where_reason edition font F12 key index = told_decides edition font F12 key index
+fonts_broken_where_reason edition font F13 key index = told_decides edition font F13 key index
+fonts_broken_where_reason edition font F21 key index = told_later edition F21 refl font key index
+fonts_broken_where_reason edition font rule key index =
+    later_decides edition rule refl font key index no_font_row (none_says (number_of rule) later_font_rules refl font key index)
+
+-- The rules that compare nothing.
+pub others_compare : OthersCompareNumbersInFonts
+others_compare _ F21 is = refl
+others_compare _ Z16 is = refl
+others_compare One _ is = is
+others_compare Two _ is = is
+others_compare Three _ is = is
 
 pub reasons_are_against : FontReasonsAreAgainstTheirRules
 reasons_are_against edition font rule key index reason e = record {

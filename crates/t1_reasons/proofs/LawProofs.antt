@@ -1,9 +1,9 @@
 -- Laws of reasons.
-use Rattle.std.proofs.Common.{◌≡◌, ℕ, suc, arith, ◌&&◌, ◌||◌, Bool, true, false, Option, Some, None, is_some, List, [], ◌∷◌, ◌++◌, length, refl, sym, ap, ◌∙◌, ℤ, map, take, ◌-◌, ◌*◌, ◌≤◌, ◌==◌, nat_le, not, pos}
+use Rattle.std.proofs.Common.{◌≡◌, ◌⊎◌, inl, inr, ℕ, suc, arith, ◌&&◌, ◌||◌, Bool, true, false, Option, Some, None, is_some, List, [], ◌∷◌, ◌++◌, length, refl, sym, ap, ◌∙◌, ℤ, map, take, ◌-◌, ◌*◌, ◌≤◌, ◌==◌, nat_le, not, pos}
 use Rattle.std.specs.Prelude.{if◌then◌else◌, ◌+◌, option_map}
 use Rattle.std.specs.Option.{option_or}
 use Rattle.std.specs.List.{find, flat_map, list_any, Contains}
-use Rattle.std.proofs.lemmas.Bool.{leb-true}
+use Rattle.std.proofs.lemmas.Bool.{le-leb, leb-true}
 use Rattle.std.proofs.lemmas.Int.{ints}
 use Rattle.std.proofs.lemmas.List.Folds.{find-append}
 use Rattle.std.proofs.Math.Bool.{and-false, and-true}
@@ -17,10 +17,11 @@ use Rattle.t1_char.specs.Numbers.{natural, unit}
 use Rattle.t1_char.specs.Stacks.{from_top}
 use Rattle.t1_char.specs.Commands.{arguments_of}
 use Rattle.t1_char.specs.Editions.{has_later_rules}
-use Rattle.t1_char.specs.Steps.{StepView, is_return}
+use Rattle.t1_char.specs.Since.{any_so_far}
+use Rattle.t1_char.specs.Steps.{StepView, is_callsubr, is_return}
 use Rattle.t1_char.specs.Seacs.{is_seac}
 use Rattle.t1_rules.specs.declared.rule.Rule.{Rule}
-use Rattle.t1_rules.specs.declared.rule.Rule.TheVariants.{C03, C04, C05, C06, C07, C08, C09, S01, S02, S03, H02, H03, H04, H05, H07, X04, X05, O01, O02, O03, O07, K01, K02, K05}
+use Rattle.t1_rules.specs.declared.rule.Rule.TheVariants.{C01, C02, C03, C04, C05, C06, C07, C08, C09, S01, S02, S03, S04, GE01, GE02, W01, W02, W03, P01, P02, P03, H01, H02, H03, H04, H05, H06, H07, R01, R02, X01, X02, X03, X04, X05, X06, O01, O02, O03, O04, O05, O06, O07, O08, K01, K02, K03, K04, K05, K06, K07}
 use Rattle.t1_rules.specs.declared.sidebearings.Component.{Component}
 use Rattle.t1_rules.specs.declared.step_rules.stems.Stem.{Stem}
 use Rattle.t1_rules.specs.declared.step_rules.triples.Triple.{Triple as TripleOfStems}
@@ -30,13 +31,14 @@ use Rattle.t1_rules.specs.StepRules.Arguments.{divides, divides_by_zero, divides
 use Rattle.t1_rules.specs.StepRules.Othersubrs.{calls_by_numbers, calls_unknown, has_bad_count, has_good_count, has_wrong_count, is_effective, is_flex_or_hints, is_good_count, is_up_to}
 use Rattle.t1_rules.specs.StepRules.Calls.{calls_by_number, calls_missing, calls_too_deep, returns_from_glyph}
 use Rattle.t1_rules.specs.StepRules.Flex.{counts_no_pairs, current_point, end_point, ends_elsewhere, flex_moves, flex_points, is_elsewhere}
-use Rattle.t1_rules.specs.StepRules.Paths.{in_flex}
-use Rattle.t1_rules.specs.StepRules.Seac.{accent, accent_sidebearing, differs_in_sidebearing, has_no_code as no_code, has_unnamed_code, is_another}
-use Rattle.t1_rules.specs.StepRules.Stems.{is_stem, is_triple, sets_unequal, sets_without_width, hint_set, lies_across, one_overlaps, overlap_by, sets_overlapping, stands_upright, stems_meet, stems_of, two_overlap}
+use Rattle.t1_rules.specs.StepRules.Paths.{clearing_step, in_flex}
+use Rattle.t1_rules.specs.StepRules.Seac.{accent, accent_sidebearing, differs_in_sidebearing, has_no_code as no_code, has_unnamed_code, is_another, is_lacking, is_without_sidebearing}
+use Rattle.t1_rules.specs.StepRules.Stems.{is_stem, is_triple, sets_unequal, sets_without_width, hint_set, lies_across, one_overlaps, is_replaced, is_replaced_and_popped, overlap_by, sets_overlapping, stands_upright, stems_meet, stems_of, two_overlap}
 use Rattle.t1_rules.specs.StepRules.Counters.{is_counting, leaves_numbers}
-use Rattle.t1_rules.specs.StepRules.Tokens.{is_command, is_unknown}
+use Rattle.t1_rules.specs.StepRules.Tokens.{clears, is_command, is_pop, is_unknown, sets_width}
 use Rattle.t1_rules.specs.StepRules.Triples.{changes_by, differs_from, has_same_edges, is_hstem3, is_vstem3, last_triple, sets_another, sets_thin, triple_of}
-use Rattle.t1_rules.proofs.Lemmas.StepRules.{row_decides}
+use Rattle.t1_rules.proofs.Lemmas.Book.{both}
+use Rattle.t1_rules.proofs.Lemmas.StepRules.{none_broken, row_decides}
 use Rattle.t1_reasons.specs.declared.reason.Reason.{Reason}
 use Rattle.t1_reasons.specs.declared.reason.Reason.TheVariants.{Argument, Stem as StemAlone, Count, Pairs, Sidebearings, Stems, Token}
 use Rattle.t1_reasons.specs.declared.background.SetTriple.{SetTriple}
@@ -44,8 +46,8 @@ use Rattle.t1_reasons.specs.declared.reason.SetStem.{SetStem}
 use Rattle.t1_reasons.specs.Backgrounds.{background_of, set_three}
 use Rattle.t1_reasons.specs.Carried.{last_told}
 use Rattle.t1_reasons.specs.HintSets.{set_at, stems_set}
-use Rattle.t1_reasons.specs.Laws.{ReasonsAreAgainstTheirRules, StepsBreakWhereThereIsAReason}
-use Rattle.t1_reasons.specs.StepReasons.{beside_last, beside_last_of, counters_at, have_other_edges, is_thin_stem, leaves_some, threes_at, additions_at, are_no_pairs, brings, is_full, pairs_at, arguments_in, beside, calls_at, codes_at, has_no_code, has_no_name, is_by_zero, is_outermost, is_past_quotient, is_too_deep, is_unknown_othersubr, is_unknown_token, known_calls_at, quotients_at, returns_at, count_of, counts_in, first_in_row, has_fewer, has_more, is_any, is_bad_count, is_lacking_subr, is_miscounted, is_miss, is_overlap, is_past_range, is_told_otherwise, is_uneven, is_widthless, misses_at, only_where, othersubrs_at, own_stems, pairs, pairs_with, placed_from, placed_of, reason_row, row_of, sidebearings_at, single_stems_at, stems_at, subrs_at, told_at, told_by, takes, triples_at, wants_in, with_own}
+use Rattle.t1_reasons.specs.Laws.{OthersCompareNumbers, ReasonsAreAgainstTheirRules, StepsBreakWhereThereIsAReason}
+use Rattle.t1_reasons.specs.StepReasons.{beside_last, beside_last_of, counters_at, have_other_edges, is_thin_stem, leaves_some, threes_at, additions_at, are_no_pairs, brings, is_full, pairs_at, arguments_in, beside, calls_at, codes_at, has_no_code, has_no_name, is_by_zero, is_outermost, is_past_quotient, is_too_deep, is_unknown_othersubr, is_unknown_token, known_calls_at, quotients_at, returns_at, count_of, counts_in, first_in_row, has_fewer, has_more, is_any, is_bad_count, is_lacking_subr, is_miscounted, is_miss, is_overlap, is_past_range, is_told_otherwise, is_uneven, is_widthless, misses_at, only_where, othersubrs_at, own_stems, pairs, pairs_with, placed_from, placed_of, row_of, sidebearings_at, single_stems_at, stems_at, step_reason, subrs_at, told_at, told_by, told_row, takes, triples_at, wants_in, with_own, call_of, clears_without_width, goes_on_in_flex, has_component, is_no_call, is_no_pop}
 use Rattle.t1_reasons.proofs.Hints.{plain, plain_hints, plain_set}
 use Rattle.t1_reasons.proofs.LastCommands.{last_three_is}
 
@@ -326,18 +328,142 @@ overlapping edition before step = go (is_command lies_across step.token) (is_com
 
 -- ---- all of them
 
--- A rule that compares no numbers.
-told_decides : (edition : Edition) (components : List Component) (rule : Rule) (before : List StepView) (step : StepView)
-    → breaks (charstring_rules edition components) (number_of rule) before step
-    ≡ is_some (first_in_row (reason_row (told_at edition components rule) is_any) before step)
-told_decides edition components rule before step = and_true is_broken ∙ sym (such_where is_broken is_any (told_by rule (background_of before) step))
-  where
-    and_true : (b : Bool) → b ≡ (b && true)
-    and_true true = refl
-    and_true false = refl
+-- The rules whose reasons tell of the step what is against it.
+abbrev pub tells_against : Rule → Bool
+tells_against W01 = true
+tells_against R01 = true
+tells_against R02 = true
+tells_against X02 = true
+tells_against K03 = true
+tells_against K04 = true
+tells_against K07 = true
+tells_against _ = false
 
-    is_broken : Bool
-    is_broken = breaks (charstring_rules edition components) (number_of rule) before step
+pub tells_where : (rule : Rule)
+    → (rule ≡ W01) ⊎ ((rule ≡ R01) ⊎ ((rule ≡ R02) ⊎ ((rule ≡ X02) ⊎ ((rule ≡ K03) ⊎ ((rule ≡ K04) ⊎ (rule ≡ K07)))))) → tells_against rule ≡ true
+tells_where rule (inl is) = ap tells_against is
+tells_where rule (inr (inl is)) = ap tells_against is
+tells_where rule (inr (inr (inl is))) = ap tells_against is
+tells_where rule (inr (inr (inr (inl is)))) = ap tells_against is
+tells_where rule (inr (inr (inr (inr (inl is))))) = ap tells_against is
+tells_where rule (inr (inr (inr (inr (inr (inl is)))))) = ap tells_against is
+tells_where rule (inr (inr (inr (inr (inr (inr is)))))) = ap tells_against is
+
+-- A rule that tells of the steps that break it, and what it tells is against it.
+module _ (edition : Edition) (components : List Component) (before : List StepView) (step : StepView) where
+  abbrev is_broken : Rule → Bool
+  is_broken rule = breaks (charstring_rules edition components) (number_of rule) before step
+
+  abbrev told : Rule → Reason
+  told rule = told_by rule (background_of before) step
+
+  abbrev AreAgainst : Rule → (Reason → Bool) → Type 0
+  AreAgainst rule test = is_broken rule ≡ true → test (told rule) ≡ true
+
+  told_decides : (rule : Rule) (test : Reason → Bool) → AreAgainst rule test
+      → is_broken rule ≡ is_some (first_in_row (told_row edition components rule test) before step)
+  told_decides rule test against = both_are (is_broken rule) (test (told rule)) against ∙ sym (such_where (is_broken rule) test (told rule))
+    where
+      both_are : (b t : Bool) → (b ≡ true → t ≡ true) → b ≡ (b && t)
+      both_are true t so = sym (so refl)
+      both_are false t so = refl
+
+  only_told : (rule : Rule) → is_broken rule ≡ is_some (first_in_row (told_row edition components rule is_any) before step)
+  only_told rule = told_decides rule is_any (λ broken. refl)
+
+  -- Where a rule is broken, what it says is so.
+  said : (rule : Rule) {says : Bool} → is_broken rule ≡ says → is_broken rule ≡ true → says ≡ true
+  said rule same broken = sym same ∙ broken
+
+  starts_otherwise : AreAgainst W01 clears_without_width
+  unfolding charstring_rules step_rules argument_rules call_rules path_rules stem_rules flex_rules othersubr_rules seac_rules triple_rules counter_rules component_rules
+  starts_otherwise broken =
+      (both (clears step.token && not (sets_width step.token)) (not (any_so_far clearing_step before))
+      (said W01 (row_decides 41 (charstring_rules edition components) 15 _ refl refl refl refl before step) broken)).0
+
+  pops_nothing : AreAgainst R01 is_no_pop
+  unfolding charstring_rules step_rules argument_rules call_rules path_rules stem_rules flex_rules othersubr_rules seac_rules triple_rules counter_rules component_rules
+  pops_nothing broken =
+      (both (not (is_pop step.token)) (is_replaced before)
+      (said R01 (row_decides 50 (charstring_rules edition components) 24 _ refl refl refl refl before step) broken)).0
+
+  calls_nothing : AreAgainst R02 is_no_call
+  unfolding charstring_rules step_rules argument_rules call_rules path_rules stem_rules flex_rules othersubr_rules seac_rules triple_rules counter_rules component_rules
+  calls_nothing broken =
+      (both (not (is_callsubr step.token)) (is_replaced_and_popped before)
+      (said R02 (row_decides 51 (charstring_rules edition components) 25 _ refl refl refl refl before step) broken)).0
+
+  flexes : AreAgainst X02 goes_on_in_flex
+  unfolding charstring_rules step_rules argument_rules call_rules path_rules stem_rules flex_rules othersubr_rules seac_rules triple_rules counter_rules component_rules
+  flexes broken =
+      either (is_flex_point step) (is_flex_end step) (both (is_flex_point step || is_flex_end step) (not (in_flex before))
+      (said X02 (row_decides 53 (charstring_rules edition components) 27 _ refl refl refl refl before step) broken)).0 of_point of_end
+    where
+      number : ℤ
+      number = from_top step.stack 0
+
+      count : ℤ
+      count = from_top step.stack 1
+
+      either : {A : Type 0} (a b : Bool) → (a || b) ≡ true → (a ≡ true → A) → (b ≡ true → A) → A
+      either true b is one other = one refl
+      either false b is one other = other is
+
+      or_true : (b : Bool) → (b || true) ≡ true
+      or_true true = refl
+      or_true false = refl
+
+      two : (n : ℕ) → nat_le (n + 2) (length step.stack) ≡ true → nat_le 2 (length step.stack) ≡ true
+      two n more = let many = leb-true (n + 2) (length step.stack) more in le-leb 2 (length step.stack) (omega (arith, many))
+
+      of_point : is_flex_point step ≡ true → goes_on_in_flex (call_of step.stack) ≡ true
+      of_point is =
+          let counted = both ((is_callothersubr step.token && nat_le 2 (length step.stack)) && is_whole 2 number) (is_whole 0 count) is in
+          let numbered = both (is_callothersubr step.token && nat_le 2 (length step.stack)) (is_whole 2 number) counted.0 in
+          let called = both (is_callothersubr step.token) (nat_le 2 (length step.stack)) numbered.0 in
+          rw (called.1, numbered.1, counted.1) refl
+
+      of_end : is_flex_end step ≡ true → goes_on_in_flex (call_of step.stack) ≡ true
+      of_end is =
+          let counted = both ((is_callothersubr step.token && nat_le 5 (length step.stack)) && is_whole 0 number) (is_whole 3 count) is in
+          let numbered = both (is_callothersubr step.token && nat_le 5 (length step.stack)) (is_whole 0 number) counted.0 in
+          let called = both (is_callothersubr step.token) (nat_le 5 (length step.stack)) numbered.0 in
+          rw (two 3 called.1, numbered.1, counted.1) (or_true (is_whole 2 number && is_whole 0 count))
+
+  lacks : AreAgainst K03 (has_component components is_lacking)
+  unfolding charstring_rules step_rules argument_rules call_rules path_rules stem_rules flex_rules othersubr_rules seac_rules triple_rules counter_rules component_rules
+  lacks broken =
+      (both (is_seac step.token) _ (said K03 (row_decides 64 (charstring_rules edition components) 47 _ refl refl refl refl before step) broken)).1
+
+  nested : AreAgainst K04 (has_component components (λ code component. component.has_seac))
+  unfolding charstring_rules step_rules argument_rules call_rules path_rules stem_rules flex_rules othersubr_rules seac_rules triple_rules counter_rules component_rules
+  nested broken =
+      (both (is_seac step.token) _ (said K04 (row_decides 65 (charstring_rules edition components) 48 _ refl refl refl refl before step) broken)).1
+
+  without_sidebearing : AreAgainst K07 (has_component components (λ code component. is_without_sidebearing component))
+  unfolding charstring_rules step_rules argument_rules call_rules path_rules stem_rules flex_rules othersubr_rules seac_rules triple_rules counter_rules component_rules
+  without_sidebearing broken =
+      (both (is_seac step.token) _ (said K07 (row_decides 68 (charstring_rules edition components) 50 _ refl refl refl refl before step) broken)).1
+
+  -- So the test of such a rule takes what it tells.
+  found_anyway : (rule : Rule) (test : Reason → Bool) → AreAgainst rule test
+      → find is_any (told_at edition components rule before step) ≡ find test (told_at edition components rule before step)
+  found_anyway rule test against = go (is_broken rule) against
+    where
+      go : (b : Bool) → (b ≡ true → test (told rule) ≡ true) → find is_any (only_where b (told rule)) ≡ find test (only_where b (told rule))
+      go true so = rw (so refl) refl
+      go false so = refl
+
+  pub told_reason : (rule : Rule) → tells_against rule ≡ true
+      → find is_any (told_at edition components rule before step) ≡ step_reason edition components rule before step
+  told_reason W01 tells = found_anyway W01 clears_without_width starts_otherwise
+  told_reason R01 tells = found_anyway R01 is_no_pop pops_nothing
+  told_reason R02 tells = found_anyway R02 is_no_call calls_nothing
+  told_reason X02 tells = found_anyway X02 goes_on_in_flex flexes
+  told_reason K03 tells = found_anyway K03 (has_component components is_lacking) lacks
+  told_reason K04 tells = found_anyway K04 (has_component components (λ code component. component.has_seac)) nested
+  told_reason K07 tells = found_anyway K07 (has_component components (λ code component. is_without_sidebearing component)) without_sidebearing
+  told_reason _ tells = let no : false ≡ true = tells in cc
 
 pub broken_where_reason : StepsBreakWhereThereIsAReason
 unfolding charstring_rules step_rules argument_rules call_rules path_rules stem_rules flex_rules othersubr_rules seac_rules triple_rules counter_rules component_rules
@@ -392,7 +518,41 @@ broken_where_reason edition components K02 before step =
     row_decides 63 (charstring_rules edition components) 37 _ refl refl refl refl before step ∙ without_name step
 broken_where_reason edition components K05 before step =
     row_decides 66 (charstring_rules edition components) 49 _ refl refl refl refl before step ∙ told_otherwise components step
-broken_where_reason edition components rule before step = told_decides edition components rule before step
+broken_where_reason edition components C01 before step = only_told edition components before step C01
+broken_where_reason edition components C02 before step = only_told edition components before step C02
+broken_where_reason edition components S04 before step = only_told edition components before step S04
+broken_where_reason edition components GE01 before step = only_told edition components before step GE01
+broken_where_reason edition components GE02 before step = only_told edition components before step GE02
+broken_where_reason edition components W02 before step = only_told edition components before step W02
+broken_where_reason edition components P01 before step = only_told edition components before step P01
+broken_where_reason edition components P02 before step = only_told edition components before step P02
+broken_where_reason edition components P03 before step = only_told edition components before step P03
+broken_where_reason edition components H01 before step = only_told edition components before step H01
+broken_where_reason edition components X01 before step = only_told edition components before step X01
+broken_where_reason edition components X03 before step = only_told edition components before step X03
+broken_where_reason edition components X06 before step = only_told edition components before step X06
+broken_where_reason edition components O04 before step = only_told edition components before step O04
+broken_where_reason edition components K06 before step = only_told edition components before step K06
+broken_where_reason edition components H06 before step = only_told edition components before step H06
+broken_where_reason edition components O05 before step = only_told edition components before step O05
+broken_where_reason edition components O06 before step = only_told edition components before step O06
+broken_where_reason edition components O08 before step = only_told edition components before step O08
+broken_where_reason edition components W03 before step = only_told edition components before step W03
+broken_where_reason edition components W01 before step =
+    told_decides edition components before step W01 clears_without_width (starts_otherwise edition components before step)
+broken_where_reason edition components R01 before step =
+    told_decides edition components before step R01 is_no_pop (pops_nothing edition components before step)
+broken_where_reason edition components R02 before step =
+    told_decides edition components before step R02 is_no_call (calls_nothing edition components before step)
+broken_where_reason edition components X02 before step =
+    told_decides edition components before step X02 goes_on_in_flex (flexes edition components before step)
+broken_where_reason edition components K03 before step =
+    told_decides edition components before step K03 (has_component components is_lacking) (lacks edition components before step)
+broken_where_reason edition components K04 before step =
+    told_decides edition components before step K04 (has_component components (λ code component. component.has_seac)) (nested edition components before step)
+broken_where_reason edition components K07 before step =
+    told_decides edition components before step K07 (has_component components (λ code component. is_without_sidebearing component)) (without_sidebearing edition components before step)
+broken_where_reason edition components rule before step = none_broken (number_of rule) (charstring_rules edition components) refl before step
 
 pub found_there : (p : Reason → Bool) (xs : List Reason) (x : Reason) → find p xs ≡ Some x → Contains xs x
 found_there p [] x e = let no : None ≡ Some x = e in cc
@@ -415,3 +575,7 @@ reasons_are_against edition components rule before step reason e = record {
   there = found_there (row_of edition components rule).is_against ((row_of edition components rule).candidates before step) reason e;
   against = found_such (row_of edition components rule).is_against ((row_of edition components rule).candidates before step) reason e;
 }
+
+pub others_compare : OthersCompareNumbers
+others_compare edition components C01 = refl
+others_compare edition components _ = refl

@@ -1,4 +1,5 @@
 mod Backgrounds
+mod EachStep
 mod Endings
 mod FaultLaws
 mod Finds
@@ -11,5 +12,6 @@ mod NamedStems
 mod NamedSteps
 mod PathStarts
 mod RemedyLaws
+mod ShortCharstrings
 mod UnusedLaws
 mod Walking

@@ -1,5 +1,5 @@
 -- Why a step breaks a rule, where the charstring in which the step is tells that.
-use Rattle.std.specs.Prelude.{◌≡◌, true, ℕ, ◌-◌, Option, Some, None, List, [], length, slice_get}
+use Rattle.std.specs.Prelude.{◌≡◌, ◌<ℤ◌, true, ℕ, pos, ◌-◌, Option, Some, None, List, [], length, slice_get}
 use Rattle.std.specs.Option.{unwrap_or}
 use Rattle.t1_char.specs.declared.token.CharToken.{CharToken}
 use Rattle.t1_char.specs.Charstrings.{code_at, len_iv_in, subr_in, tokens_in}
@@ -45,3 +45,8 @@ IsFollowed font glyph step =
 abbrev pub EndsAreFollowedAsTold : Type 0
 EndsAreFollowedAsTold =
     (font : FontValue) (glyph place : ℕ) (step : StepView) → slice_get (steps_of font glyph) place ≡ Some step → IsFollowed font glyph step
+
+-- What C01 tells is against it: there are fewer bytes than lenIV says.
+abbrev pub IsShorter : Reason → Type 0
+IsShorter (Length bytes len_iv) = pos bytes <ℤ len_iv
+IsShorter _ = ⊥

@@ -13,7 +13,7 @@ use Rattle.t1_font.specs.declared.key.Key.TheVariants.{FontType, PaintType, Uniq
 use Rattle.t1_font.specs.Fonts.{FontValue, is_subr_twice}
 use Rattle.t1_font.specs.Values.{Value, absent, number as one_number, numbers as several_numbers, other as another}
 use Rattle.t1_rules.specs.declared.rule.Rule.{Rule}
-use Rattle.t1_rules.specs.declared.rule.Rule.TheVariants.{F03, F04, F05, F06, F07, F08, F09, F10, F11, F13, F14, F15, F16, F17, F18, F19, F20, F21, Z01, Z02, Z03, Z04, Z05, Z06, Z07, Z08, Z09, Z10, Z11, Z12, Z13, Z14, Z15, Z16, Z17, Z18, Z19}
+use Rattle.t1_rules.specs.declared.rule.Rule.TheVariants.{F01, F02, F03, F04, F05, F06, F07, F08, F09, F10, F11, F12, F13, F14, F15, F16, F17, F18, F19, F20, F21, Z01, Z02, Z03, Z04, Z05, Z06, Z07, Z08, Z09, Z10, Z11, Z12, Z13, Z14, Z15, Z16, Z17, Z18, Z19}
 use Rattle.t1_rules.specs.Book.{number_of}
 use Rattle.t1_rules.specs.FontRules.{font_rules, violated}
 use Rattle.t1_rules.specs.FontRules.Encoding.{is_no_form}
@@ -339,7 +339,7 @@ font_reason_row candidates is_against = record { candidates = candidates; is_aga
 abbrev pub entry_row : Rule → List Key → FontReasonRow
 entry_row rule keys = font_reason_row (at_keys keys entries_at) (is_wrong_entry rule)
 
--- A rule that compares no numbers: where the font breaks it, of what.
+-- A rule that tells where the font breaks it, and of what.
 abbrev pub told_in_font : Rule → FontValue → ℕ → Reason
 told_in_font F09 font index = Glyphs (length font.glyphs)
 told_in_font F10 font index = Glyph index
@@ -354,6 +354,14 @@ told_in_fonts edition rule font key index =
 abbrev pub told_font_row : Edition → Rule → FontReasonRow
 told_font_row edition rule = font_reason_row (told_in_fonts edition rule) is_any
 
+-- Of a rule that isn't on fonts, or not in the edition.
+abbrev pub no_font_row : FontReasonRow
+no_font_row = font_reason_row (λ font key index. []) (λ reason. false)
+
+-- The rules on fonts that compare nothing. Z16 tells the standard width that has no snap beside it.
+abbrev pub font_rules_that_only_tell : List Rule
+font_rules_that_only_tell = F01 ∷ F02 ∷ F09 ∷ F10 ∷ F12 ∷ F13 ∷ F21 ∷ Z16 ∷ []
+
 -- The rows of the rules after number 70, in an edition that has them.
 abbrev pub later_font_row : Edition → Rule → FontReasonRow
 later_font_row edition F15 = entry_row F15 (FontMatrix ∷ [])
@@ -363,6 +371,7 @@ later_font_row edition F18 = entry_row F18 (Xuid ∷ [])
 later_font_row edition F19 =
     font_reason_row (at_keys (Xuid ∷ []) (λ font k index. listed_in (first_in xuid_limit (value_at font k)) index)) (is_wrong_listed F19)
 later_font_row edition F20 = entry_row F20 (LanguageGroup ∷ [])
+later_font_row edition F21 = told_font_row edition F21
 later_font_row edition Z12 = entry_row Z12 (BlueValues ∷ [])
 later_font_row edition Z13 = font_reason_row (at_keys width_keys first_widths_at) (is_wrong_listed Z13)
 later_font_row edition Z14 = font_reason_row (at_keys zone_keys (λ font k index. listed_in (numbers_at font k) index)) (is_wrong_listed Z14)
@@ -371,17 +380,23 @@ later_font_row edition Z16 = font_reason_row (at_keys snap_keys unsnapped_at) is
 later_font_row edition Z17 = entry_row Z17 (BlueScale ∷ [])
 later_font_row edition Z18 = entry_row Z18 (BlueShift ∷ [])
 later_font_row edition Z19 = entry_row Z19 (BlueFuzz ∷ [])
-later_font_row edition rule = told_font_row edition rule
+later_font_row edition _ = no_font_row
 
--- Each rule's row: those of the rules up to number 70 that compare numbers, and the others.
+-- Each rule's row: those of the rules up to number 70, and the others.
 abbrev pub font_row_of : Edition → Rule → FontReasonRow
+font_row_of edition F01 = told_font_row edition F01
+font_row_of edition F02 = told_font_row edition F02
 font_row_of edition F03 = entry_row F03 (FontType ∷ [])
 font_row_of edition F04 = entry_row F04 (PaintType ∷ [])
 font_row_of edition F05 = entry_row F05 id_keys
 font_row_of edition F06 = font_reason_row (at_keys (PrivateUniqueId ∷ []) ids_at) are_two_ids
 font_row_of edition F07 = entry_row F07 (Password ∷ [])
 font_row_of edition F08 = font_reason_row (at_keys (MinFeature ∷ []) features_at) is_unusual_feature
+font_row_of edition F09 = told_font_row edition F09
+font_row_of edition F10 = told_font_row edition F10
 font_row_of edition F11 = font_reason_row (at_key encoding_key forms_at) is_unknown_form
+font_row_of edition F12 = told_font_row edition F12
+font_row_of edition F13 = told_font_row edition F13
 font_row_of edition F14 = font_reason_row (at_key subrs_key subrs_in) is_wrong_subr
 font_row_of edition Z01 = font_reason_row (at_keys hint_keys kinds_at) is_misfit
 font_row_of edition Z02 = font_reason_row (at_keys zone_keys excess_at) is_excess
@@ -394,7 +409,7 @@ font_row_of edition Z08 = entry_row Z08 width_keys
 font_row_of edition Z09 = font_reason_row (at_keys snap_keys excess_at) is_excess
 font_row_of edition Z10 = font_reason_row (at_keys snap_keys (λ font k index. falls_in (numbers_at font k) index)) falls
 font_row_of edition Z11 = font_reason_row (at_keys snap_keys widths_at) is_apart
-font_row_of edition rule = if has_later_rules edition then later_font_row edition rule else told_font_row edition rule
+font_row_of edition rule = if has_later_rules edition then later_font_row edition rule else no_font_row
 
 -- The first candidate that is against the rule.
 abbrev pub first_in_font_row : FontReasonRow → FontValue → ℕ → ℕ → Option Reason

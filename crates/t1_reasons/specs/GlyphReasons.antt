@@ -9,7 +9,7 @@ use Rattle.t1_char.specs.Turns.{MachineView, step_of_number}
 use Rattle.t1_font.specs.Fonts.{FontValue}
 use Rattle.t1_rules.specs.declared.mask.Mask.{Mask}
 use Rattle.t1_rules.specs.declared.rule.Rule.{Rule}
-use Rattle.t1_rules.specs.declared.rule.Rule.TheVariants.{L01}
+use Rattle.t1_rules.specs.declared.rule.Rule.TheVariants.{C01, L01}
 use Rattle.t1_rules.specs.declared.sidebearings.Component.{Component}
 use Rattle.t1_rules.specs.declared.watches.Watches.{Watches}
 use Rattle.t1_rules.specs.Components.{components_of}
@@ -18,7 +18,7 @@ use Rattle.t1_rules.specs.StepRules.{step_rules}
 use Rattle.t1_reasons.specs.declared.reason.Reason.{Reason}
 use Rattle.t1_reasons.specs.declared.reason.Reason.TheVariants.{Limit as PastLimit}
 use Rattle.t1_reasons.specs.declared.steps_before.StepsBefore.{StepsBefore}
-use Rattle.t1_reasons.specs.CharstringReasons.{told_of_step}
+use Rattle.t1_reasons.specs.CharstringReasons.{IsShorter, told_of_step}
 use Rattle.t1_reasons.specs.Standing.{AreBroken, StepsStandFor}
 use Rattle.t1_reasons.specs.StepReasons.{step_reason}
 
@@ -51,6 +51,11 @@ abbrev pub glyph_reason : FontValue → Edition → ℕ → Rule → ℕ → Opt
 glyph_reason font edition glyph rule zero = None
 glyph_reason font edition glyph rule (suc place) =
     reason_among (limit_of edition) font glyph edition (components_of (limit_of edition) font) rule (steps_of font glyph) place
+
+-- A charstring of which C01 tells is shorter than it should be.
+abbrev pub ShortCharstringsAreShorter : Type 0
+ShortCharstringsAreShorter =
+    (font : FontValue) (edition : Edition) (glyph number : ℕ) (reason : Reason) → glyph_reason font edition glyph C01 number ≡ Some reason → IsShorter reason
 
 abbrev pub reason_at : MachineView → Rule → ℕ → Option Reason
 reason_at m rule number = glyph_reason m.font m.edition m.glyph rule number

@@ -1,6 +1,6 @@
 -- Laws of reasons.
-use Rattle.std.specs.Prelude.{◌≡◌, ◌↔◌, ℕ, ℤ, ◌-ℤ◌, ◌≤ℤ◌, Bool, true, false, is_some, Some, List, map, ◌+◌, ◌<◌, Option, None, slice_get, take}
-use Rattle.std.specs.List.{Contains}
+use Rattle.std.specs.Prelude.{◌≡◌, ◌↔◌, ◌==◌, ℕ, ℤ, ◌-ℤ◌, ◌≤ℤ◌, Bool, true, false, is_some, Some, List, map, ◌+◌, ◌<◌, Option, None, slice_get, take}
+use Rattle.std.specs.List.{Contains, list_any}
 use Rattle.t1_char.specs.declared.command.Command.{Command as Commands}
 use Rattle.t1_char.specs.declared.edition.Edition.{Edition}
 use Rattle.t1_char.specs.Since.{Test}
@@ -13,11 +13,11 @@ use Rattle.t1_rules.specs.FontRules.{font_rules, violated}
 use Rattle.t1_rules.specs.StepRules.{breaks, charstring_rules}
 use Rattle.t1_rules.specs.StepRules.Stems.{hint_set}
 use Rattle.t1_reasons.specs.declared.reason.Reason.{Reason}
-use Rattle.t1_reasons.specs.declared.reason.Reason.TheVariants.{Zone}
-use Rattle.t1_reasons.specs.FontReasons.{font_reason, font_row_of, reaches_one, scale_for}
+use Rattle.t1_reasons.specs.declared.reason.Reason.TheVariants.{Nothing, Zone}
+use Rattle.t1_reasons.specs.FontReasons.{font_reason, font_row_of, font_rules_that_only_tell, reaches_one, scale_for}
 use Rattle.t1_reasons.specs.Carried.{last_such}
 use Rattle.t1_reasons.specs.HintSets.{stems_set}
-use Rattle.t1_reasons.specs.StepReasons.{row_of, step_reason}
+use Rattle.t1_reasons.specs.StepReasons.{row_of, rules_that_only_tell, step_reason}
 
 -- A step breaks a rule exactly where it has a reason.
 abbrev pub StepsBreakWhereThereIsAReason : Type 0
@@ -37,6 +37,15 @@ ReasonsAreAgainstTheirRules =
     step_reason edition components rule before step ≡ Some reason →
     IsReason edition components rule before step reason
 
+-- Only the rules that compare nothing have a test that takes a reason without numbers.
+abbrev pub is_among : List Rule → Rule → Bool
+is_among rules rule = list_any (λ r. number_of r == number_of rule) rules
+
+abbrev pub OthersCompareNumbers : Type 0
+OthersCompareNumbers =
+    (edition : Edition) (components : List Component) (rule : Rule) →
+    (row_of edition components rule).is_against Nothing ≡ is_among rules_that_only_tell rule
+
 -- A font breaks a rule at a key and an index exactly where it has a reason.
 abbrev pub FontsBreakWhereThereIsAReason : Type 0
 FontsBreakWhereThereIsAReason =
@@ -52,6 +61,11 @@ abbrev pub FontReasonsAreAgainstTheirRules : Type 0
 FontReasonsAreAgainstTheirRules =
     (edition : Edition) (font : FontValue) (rule : Rule) (key index : ℕ) (reason : Reason) → font_reason edition font rule key index ≡ Some reason →
     IsFontReason edition font rule key index reason
+
+abbrev pub OthersCompareNumbersInFonts : Type 0
+OthersCompareNumbersInFonts =
+    (edition : Edition) (rule : Rule) → (font_row_of edition rule).is_against Nothing ≡ true →
+    is_among font_rules_that_only_tell rule ≡ true
 
 -- The BlueScale that would do does, and no greater one.
 abbrev pub ScalesDo : Type 0

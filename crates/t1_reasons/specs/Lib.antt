@@ -6,6 +6,7 @@ pub mod FontReasons
 pub mod GlyphReasons
 pub mod HintSets
 pub mod Laws
+pub mod NamedStems
 pub mod NamedSteps
 pub mod Private
 pub mod PathStarts

@@ -1,25 +1,21 @@
 -- Laws of the steps that reasons name: each is one that its rule speaks of.
-use Rattle.std.specs.Prelude.{◌≡◌, ◌-◌, ◌||◌, ℕ, Bool, true, false, Option, Some, None, List, [], ◌∷◌, ◌++◌, option_map, slice_get}
-use Rattle.std.specs.List.{Contains, flat_map}
-use Rattle.t1_char.specs.declared.command.Command.{Command as Commands}
+use Rattle.std.specs.Prelude.{◌≡◌, ◌-◌, ℕ, Bool, true, false, Option, Some, None, List, option_map, slice_get}
 use Rattle.t1_char.specs.declared.edition.Edition.{Edition}
 use Rattle.t1_char.specs.declared.token.CharToken.{CharToken}
 use Rattle.t1_char.specs.Since.{Test, last_of}
-use Rattle.t1_char.specs.Steps.{StepView, numbered}
+use Rattle.t1_char.specs.Steps.{StepView}
 use Rattle.t1_rules.specs.declared.rule.Rule.{Rule}
-use Rattle.t1_rules.specs.declared.rule.Rule.TheVariants.{W02, W03, P01, P03, H01, H02, H06, H07, X01, X03, O05, O06, O08, K06}
+use Rattle.t1_rules.specs.declared.rule.Rule.TheVariants.{W02, W03, P01, P03, H01, X01, X03, O05, O06, O08, K06}
 use Rattle.t1_rules.specs.declared.sidebearings.Component.{Component}
-use Rattle.t1_rules.specs.StepRules.Paths.{closing_step, drawing, flex_start}
+use Rattle.t1_rules.specs.StepRules.Othersubrs.{calls_by_numbers}
+use Rattle.t1_rules.specs.StepRules.Paths.{clearing_step, closing_step, drawing, flex_start}
 use Rattle.t1_rules.specs.StepRules.Seac.{makes_outline}
-use Rattle.t1_rules.specs.StepRules.Stems.{lies_across, stands_upright}
 use Rattle.t1_rules.specs.StepRules.Triples.{last_triple}
 use Rattle.t1_reasons.specs.declared.reason.Reason.{Reason}
-use Rattle.t1_reasons.specs.declared.reason.Reason.TheVariants.{Since, Stems}
-use Rattle.t1_reasons.specs.declared.reason.SetStem.{SetStem}
+use Rattle.t1_reasons.specs.declared.reason.Reason.TheVariants.{Since}
 use Rattle.t1_reasons.specs.Backgrounds.{counted_step, set_three, told_step, width_step}
 use Rattle.t1_reasons.specs.Carried.{last_such, last_told}
-use Rattle.t1_reasons.specs.HintSets.{set_by}
-use Rattle.t1_reasons.specs.Laws.{IsLastOf}
+use Rattle.t1_reasons.specs.Laws.{IsLastOf, NoneIsSuch}
 use Rattle.t1_reasons.specs.StepReasons.{step_reason}
 
 -- The kind of step that a rule's reason names.
@@ -37,8 +33,13 @@ names_step O08 = true
 names_step K06 = true
 names_step _ = false
 
+-- A call of an OtherSubr, whatever came before it.
+abbrev pub calling_step : Test
+calling_step before step = calls_by_numbers step
+
 abbrev pub kind_named : Rule → Test
 kind_named W02 = width_step
+kind_named W03 = calling_step
 kind_named P01 = closing_step
 kind_named P03 = closing_step
 kind_named H01 = drawing
@@ -59,6 +60,12 @@ NamedStepsAreOfTheirKinds =
     names_step rule ≡ true → step_reason edition components rule before step ≡ Some reason →
     NamesLast (kind_named rule) before reason
 
+-- W03 speaks of clearing commands: where it has a reason, none came before.
+abbrev pub NothingWasClearedYet : Type 0
+NothingWasClearedYet =
+    (edition : Edition) (components : List Component) (before : List StepView) (step : StepView) (reason : Reason) →
+    step_reason edition components W03 before step ≡ Some reason → NoneIsSuch clearing_step before
+
 -- A step by its number, from 1.
 abbrev pub step_at : List StepView → Option ℕ → Option StepView
 step_at steps None = None
@@ -71,27 +78,3 @@ LastStepsAreTheBooks = (kind : StepView → Bool) (steps : List StepView) → st
 -- And so are the three stems of the last command for three.
 abbrev pub LastThreeStemsAreTheBooks : Type 0
 LastThreeStemsAreTheBooks = (kind : CharToken → Bool) (steps : List StepView) → option_map (λ t. t.triple) (last_told kind set_three steps) ≡ last_triple kind steps
-
--- The stems that steps set, in both directions, with the numbers of these steps.
-abbrev pub sets_stems : Commands → Bool
-sets_stems command = lies_across command || stands_upright command
-
-abbrev pub all_stems : List StepView → List SetStem
-all_stems steps = flat_map (set_by sets_stems) (numbered 1 steps)
-
--- The stem that a reason names beside one of the step's own was set at the step that it names.
-abbrev pub names_stem : Rule → Bool
-names_stem H02 = true
-names_stem H06 = true
-names_stem H07 = true
-names_stem _ = false
-
-abbrev pub NamesStem : List StepView → Reason → Type 0
-NamesStem steps (Stems own other) = Contains (all_stems steps) other
-NamesStem steps _ = ⊥
-
-abbrev pub NamedStemsAreSet : Type 0
-NamedStemsAreSet =
-    (edition : Edition) (components : List Component) (rule : Rule) (before : List StepView) (step : StepView) (reason : Reason) →
-    names_stem rule ≡ true → step_reason edition components rule before step ≡ Some reason →
-    NamesStem (before ++ step ∷ []) reason

@@ -1,5 +1,6 @@
 -- Why a step breaks a rule. Some rules compare numbers: a reason is the first of what they compare, the candidates, that is against
--- the rule, and the rule's test sees the numbers of a candidate alone. The other rules tell where they are broken, and of what.
+-- the rule, and the rule's test sees the numbers of a candidate alone. The other rules tell where they are broken, and of what:
+-- `rules_that_only_tell` has those that compare nothing.
 use Rattle.std.specs.Prelude.{ℕ, ℤ, ◌+◌, ◌-◌, take, ◌==◌, ◌&&◌, ◌||◌, not, is_none, Bool, true, false, nat_le, nat_lt, if◌then◌else◌, Option, Some, None, List, [], ◌∷◌, ◌++◌, length, map, slice_get}
 use Rattle.std.specs.List.{find, flat_map}
 use Rattle.std.specs.Ordering.{int_eq}
@@ -14,10 +15,10 @@ use Rattle.t1_char.specs.Editions.{has_later_rules}
 use Rattle.t1_char.specs.Numbers.{natural}
 use Rattle.t1_char.specs.Stacks.{from_top, most_numbers}
 use Rattle.t1_char.specs.Effects.{most_calls}
-use Rattle.t1_char.specs.Steps.{StepView, is_number, is_return}
+use Rattle.t1_char.specs.Steps.{StepView, is_callsubr, is_number, is_return}
 use Rattle.t1_char.specs.Seacs.{is_seac}
 use Rattle.t1_rules.specs.declared.rule.Rule.{Rule}
-use Rattle.t1_rules.specs.declared.rule.Rule.TheVariants.{C03, C04, C05, C06, C07, C08, C09, S01, S02, S03, S04, W01, W02, P01, P02, P03, W03, H01, H02, H03, H04, H05, H06, H07, R01, R02, X01, X02, X03, X04, X05, O01, O02, O03, O05, O06, O07, O08, K01, K02, K03, K04, K05, K06, K07}
+use Rattle.t1_rules.specs.declared.rule.Rule.TheVariants.{C01, C02, C03, C04, C05, C06, C07, C08, C09, S01, S02, S03, S04, GE01, GE02, W01, W02, P01, P02, P03, W03, H01, H02, H03, H04, H05, H06, H07, R01, R02, X01, X02, X03, X04, X05, X06, O01, O02, O03, O04, O05, O06, O07, O08, K01, K02, K03, K04, K05, K06, K07}
 use Rattle.t1_rules.specs.declared.sidebearings.Component.{Component}
 use Rattle.t1_rules.specs.declared.step_rules.stems.Stem.{Stem}
 use Rattle.t1_rules.specs.declared.step_rules.triples.Triple.{Triple as TripleOfStems}
@@ -28,10 +29,10 @@ use Rattle.t1_rules.specs.StepRules.Othersubrs.{calls_by_numbers, has_good_count
 use Rattle.t1_rules.specs.StepRules.Calls.{calls_by_number}
 use Rattle.t1_rules.specs.StepRules.Flex.{current_point, end_point, flex_moves, flex_points, is_elsewhere}
 use Rattle.t1_rules.specs.StepRules.Paths.{in_flex}
-use Rattle.t1_rules.specs.StepRules.Seac.{accent, accent_sidebearing, is_unnamed, seac_code}
+use Rattle.t1_rules.specs.StepRules.Seac.{accent, accent_sidebearing, component_of_code, is_lacking, is_unnamed, is_without_sidebearing, seac_code}
 use Rattle.t1_rules.specs.StepRules.Stems.{are_unequal, has_no_width, is_stem, is_triple, stem_at, lies_across, overlap_by, stands_upright, stems_of}
 use Rattle.t1_rules.specs.StepRules.Counters.{is_below, is_counting}
-use Rattle.t1_rules.specs.StepRules.Tokens.{is_command, is_pop, is_unknown}
+use Rattle.t1_rules.specs.StepRules.Tokens.{clears, is_command, is_pop, is_unknown, sets_width}
 use Rattle.t1_rules.specs.StepRules.Triples.{has_same_edges, is_hstem3, is_thin, is_vstem3, triple_of}
 use Rattle.t1_reasons.specs.declared.background.Background.{Background}
 use Rattle.t1_reasons.specs.declared.background.SetTriple.{SetTriple}
@@ -315,10 +316,35 @@ abbrev pub has_no_name : Reason → Bool
 has_no_name (Codes base accent) = is_unnamed (seac_code base) || is_unnamed (seac_code accent)
 has_no_name _ = false
 
+-- A command that empties the stack, and doesn't set the width.
+abbrev pub clears_without_width : Reason → Bool
+clears_without_width (Token token) = clears token && not (sets_width token)
+clears_without_width _ = false
+
+abbrev pub is_no_pop : Reason → Bool
+is_no_pop (Token token) = not (is_pop token)
+is_no_pop _ = false
+
+abbrev pub is_no_call : Reason → Bool
+is_no_call (Token token) = not (is_callsubr token)
+is_no_call _ = false
+
+-- An OtherSubr is called with the count that a point or an end of flex takes.
+abbrev pub goes_on_in_flex : Reason → Bool
+goes_on_in_flex (Othersubr number count) = (is_whole 2 number && is_whole 0 count) || (is_whole 0 number && is_whole 3 count)
+goes_on_in_flex _ = false
+
+-- One of two codes has such a component, where the components of all codes are these.
+abbrev pub has_component : List Component → (Option ℕ → Component → Bool) → Reason → Bool
+has_component components test (Codes base accent) =
+    test (seac_code base) (component_of_code components (seac_code base))
+    || test (seac_code accent) (component_of_code components (seac_code accent))
+has_component components test _ = false
+
 abbrev pub is_any : Reason → Bool
 is_any reason = true
 
--- ---- rules that compare no numbers
+-- ---- rules that tell where they are broken, and of what
 
 -- The Subr that ends.
 abbrev pub ending_of : Option ℕ → Reason
@@ -382,13 +408,27 @@ pub record ReasonRow : Type 0 where
 abbrev pub reason_row : (List StepView → StepView → List Reason) → (Reason → Bool) → ReasonRow
 reason_row candidates is_against = record { candidates = candidates; is_against = is_against }
 
--- A rule that compares no numbers: what it says of the step, where the step breaks it.
+-- What a rule says of a step that breaks it, and which of that is against the rule.
 abbrev pub told_at : Edition → List Component → Rule → List StepView → StepView → List Reason
 told_at edition components rule before step =
     only_where (breaks (charstring_rules edition components) (number_of rule) before step) (told_by rule (background_of before) step)
 
--- Each rule's row. The last line is that of all that compare no numbers.
+abbrev pub told_row : Edition → List Component → Rule → (Reason → Bool) → ReasonRow
+told_row edition components rule is_against = reason_row (told_at edition components rule) is_against
+
+-- Of a rule that isn't on steps.
+abbrev pub no_row : ReasonRow
+no_row = reason_row (λ before step. []) (λ reason. false)
+
+-- The rules on steps that compare nothing. C01 and GE02 tell of the charstring in which the step is.
+abbrev pub rules_that_only_tell : List Rule
+rules_that_only_tell =
+    C01 ∷ C02 ∷ S04 ∷ GE01 ∷ GE02 ∷ W02 ∷ P01 ∷ P02 ∷ P03 ∷ H01 ∷ X01 ∷ X03 ∷ X06 ∷ O04 ∷ K06 ∷ H06 ∷ O05 ∷ O06 ∷ O08 ∷ W03 ∷ []
+
+-- Each rule's row, in the order of the book.
 abbrev pub row_of : Edition → List Component → Rule → ReasonRow
+row_of edition components C01 = told_row edition components C01 is_any
+row_of edition components C02 = told_row edition components C02 is_any
 row_of edition components C03 = reason_row (λ before step. tokens_at step) is_unknown_token
 row_of edition components C04 = reason_row (λ before step. wants_at step) has_fewer
 row_of edition components C05 = reason_row (λ before step. counts_at step) has_more
@@ -399,21 +439,46 @@ row_of edition components C09 = reason_row (λ before step. quotients_at step) i
 row_of edition components S01 = reason_row (λ before step. subrs_at step) is_lacking_subr
 row_of edition components S02 = reason_row (λ before step. calls_at step) is_too_deep
 row_of edition components S03 = reason_row (λ before step. returns_at step) is_outermost
+row_of edition components S04 = told_row edition components S04 is_any
+row_of edition components GE01 = told_row edition components GE01 is_any
+row_of edition components GE02 = told_row edition components GE02 is_any
+row_of edition components W01 = told_row edition components W01 clears_without_width
+row_of edition components W02 = told_row edition components W02 is_any
+row_of edition components P01 = told_row edition components P01 is_any
+row_of edition components P02 = told_row edition components P02 is_any
+row_of edition components P03 = told_row edition components P03 is_any
+row_of edition components H01 = told_row edition components H01 is_any
 row_of edition components H02 = reason_row stems_at (is_overlap edition)
 row_of edition components H03 = reason_row (λ before step. single_stems_at step) is_widthless
 row_of edition components H04 = reason_row (λ before step. triples_at step) is_uneven
-row_of edition components H05 = reason_row (λ before step. in_edition edition (single_stems_at step)) is_thin_stem
-row_of edition components H07 = reason_row (λ before step. in_edition edition (threes_at before step)) have_other_edges
+row_of edition components R01 = told_row edition components R01 is_no_pop
+row_of edition components R02 = told_row edition components R02 is_no_call
+row_of edition components X01 = told_row edition components X01 is_any
+row_of edition components X02 = told_row edition components X02 goes_on_in_flex
+row_of edition components X03 = told_row edition components X03 is_any
 row_of edition components X04 = reason_row pairs_at are_no_pairs
 row_of edition components X05 = reason_row misses_at is_miss
+row_of edition components X06 = told_row edition components X06 is_any
 row_of edition components O01 = reason_row (λ before step. known_calls_at step) is_unknown_othersubr
 row_of edition components O02 = reason_row (λ before step. othersubrs_at step) is_bad_count
 row_of edition components O03 = reason_row (λ before step. known_calls_at step) is_miscounted
-row_of edition components O07 = reason_row (λ before step. in_edition edition (counters_at step)) leaves_some
+row_of edition components O04 = told_row edition components O04 is_any
 row_of edition components K01 = reason_row (λ before step. codes_at step) has_no_code
 row_of edition components K02 = reason_row (λ before step. codes_at step) has_no_name
+row_of edition components K03 = told_row edition components K03 (has_component components is_lacking)
+row_of edition components K04 = told_row edition components K04 (has_component components (λ code component. component.has_seac))
 row_of edition components K05 = reason_row (λ before step. sidebearings_at components step) is_told_otherwise
-row_of edition components rule = reason_row (told_at edition components rule) is_any
+row_of edition components K06 = told_row edition components K06 is_any
+row_of edition components K07 = told_row edition components K07 (has_component components (λ code component. is_without_sidebearing component))
+row_of edition components H05 = reason_row (λ before step. in_edition edition (single_stems_at step)) is_thin_stem
+row_of edition components H06 = told_row edition components H06 is_any
+row_of edition components H07 = reason_row (λ before step. in_edition edition (threes_at before step)) have_other_edges
+row_of edition components O05 = told_row edition components O05 is_any
+row_of edition components O06 = told_row edition components O06 is_any
+row_of edition components O07 = reason_row (λ before step. in_edition edition (counters_at step)) leaves_some
+row_of edition components O08 = told_row edition components O08 is_any
+row_of edition components W03 = told_row edition components W03 is_any
+row_of edition components _ = no_row
 
 -- The first candidate that is against the rule.
 abbrev pub first_in_row : ReasonRow → List StepView → StepView → Option Reason

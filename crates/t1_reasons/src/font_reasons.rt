@@ -69,6 +69,9 @@ pub fn font_reason(
     ensures { result ≡ font_reason edition font.now rule key index }
 {
     match rule {
+        Rule::F01 | Rule::F02 | Rule::F09 | Rule::F10 | Rule::F12 | Rule::F13 => {
+            told_reason(font, rule, key, index, edition)
+        }
         Rule::F03 => entry_reason(rule, font, key_among(&[Key::FontType], key)?, index),
         Rule::F04 => entry_reason(rule, font, key_among(&[Key::PaintType], key)?, index),
         Rule::F05 => entry_reason(rule, font, key_among(&ID_KEYS, key)?, index),
@@ -89,11 +92,11 @@ pub fn font_reason(
         Rule::Z10 => fall_reason(numbers_at(font, key_among(&SNAP_KEYS, key)?), index),
         Rule::Z11 => width_reason(font, key_among(&SNAP_KEYS, key)?, index),
         _ if edition.has_later_rules() => later_reason(font, rule, key, index, edition),
-        _ => told_reason(font, rule, key, index, edition),
+        _ => None,
     }
 }
 
-/// Why a font breaks a rule that compares no numbers.
+/// Why a font breaks a rule that tells where, and of what.
 pub(crate) fn told_reason(
     font: &Font<'_>,
     rule: Rule,

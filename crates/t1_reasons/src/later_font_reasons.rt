@@ -39,6 +39,7 @@ pub(crate) fn later_reason(
             listed_reason(rule, numbers, index)
         }
         Rule::F20 => entry_reason(rule, font, key_among(&[Key::LanguageGroup], key)?, index),
+        Rule::F21 => told_reason(font, rule, key, index, edition),
         Rule::Z12 => entry_reason(rule, font, key_among(&[Key::BlueValues], key)?, index),
         Rule::Z13 => width_reason(font, key_among(&WIDTH_KEYS, key)?, index),
         Rule::Z14 => listed_reason(rule, numbers_at(font, key_among(&ZONE_KEYS, key)?), index),
@@ -47,7 +48,7 @@ pub(crate) fn later_reason(
         Rule::Z17 => entry_reason(rule, font, key_among(&[Key::BlueScale], key)?, index),
         Rule::Z18 => entry_reason(rule, font, key_among(&[Key::BlueShift], key)?, index),
         Rule::Z19 => entry_reason(rule, font, key_among(&[Key::BlueFuzz], key)?, index),
-        _ => told_reason(font, rule, key, index, edition),
+        _ => None,
     }
 }
 

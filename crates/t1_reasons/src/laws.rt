@@ -2,12 +2,14 @@
 
 ghost use Rattle.t1_reasons.specs.CharstringReasons.{EndsAreFollowedAsTold};
 ghost use Rattle.t1_reasons.specs.FaultReasons.{FaultsHaveReasons, ReportedPlacesHaveReasons};
-ghost use Rattle.t1_reasons.specs.NamedSteps.{LastStepsAreTheBooks, LastThreeStemsAreTheBooks, NamedStemsAreSet, NamedStepsAreOfTheirKinds};
+ghost use Rattle.t1_reasons.specs.GlyphReasons.{ShortCharstringsAreShorter};
+ghost use Rattle.t1_reasons.specs.NamedStems.{NamedStemsAreSet};
+ghost use Rattle.t1_reasons.specs.NamedSteps.{LastStepsAreTheBooks, LastThreeStemsAreTheBooks, NamedStepsAreOfTheirKinds, NothingWasClearedYet};
 ghost use Rattle.t1_reasons.specs.PathStarts.{PathsBeginWhereThePenWasLeft, PathsEndWhereThePenWasLeft};
 ghost use Rattle.t1_reasons.specs.Remedies.{FuzzDoesForAll, FuzzDoesForBoth, NumbersDo, ScaleDoesForAll};
 ghost use Rattle.t1_reasons.specs.UnusedWaivers.{WaiversAreUnusedForAReason};
 ghost use Rattle.t1_reasons.specs.Reported.{ReportedFaultsHaveReasons};
-ghost use Rattle.t1_reasons.specs.Laws.{FontReasonsAreAgainstTheirRules, FontsBreakWhereThereIsAReason, HintSetsAreThoseOfTheBook, ReasonsAreAgainstTheirRules, ScalesDo, StepsBreakWhereThereIsAReason, ToldStepsAreTheLast};
+ghost use Rattle.t1_reasons.specs.Laws.{FontReasonsAreAgainstTheirRules, FontsBreakWhereThereIsAReason, HintSetsAreThoseOfTheBook, OthersCompareNumbers, OthersCompareNumbersInFonts, ReasonsAreAgainstTheirRules, ScalesDo, StepsBreakWhereThereIsAReason, ToldStepsAreTheLast};
 
 /// A step breaks a rule exactly where it has a reason.
 #[tactic(auto, using(crate::proofs::LawProofs::broken_where_reason))]
@@ -15,9 +17,11 @@ pub fn steps_break_where_there_is_a_reason()
     ensures { StepsBreakWhereThereIsAReason }
 {}
 
-/// A reason is one of what the rule compares, and is against the rule by its own numbers.
+/// A reason is one of what the rule compares, and is against the rule by its own numbers. The rules that compare nothing
+/// are those of a list.
 pub fn reasons_are_against_their_rules()
-    ensures { ReasonsAreAgainstTheirRules }
+    ensures against { ReasonsAreAgainstTheirRules }
+    ensures others { OthersCompareNumbers }
 {}
 
 /// A font breaks a rule exactly where it has a reason.
@@ -26,9 +30,11 @@ pub fn fonts_break_where_there_is_a_reason()
     ensures { FontsBreakWhereThereIsAReason }
 {}
 
-/// A font's reason is one of what the rule compares, and is against the rule by its own numbers.
+/// A font's reason is one of what the rule compares, and is against the rule by its own numbers. The rules that compare
+/// nothing are those of a list.
 pub fn font_reasons_are_against_their_rules()
-    ensures { FontReasonsAreAgainstTheirRules }
+    ensures against { FontReasonsAreAgainstTheirRules }
+    ensures others { OthersCompareNumbersInFonts }
 {}
 
 /// The BlueScale that would do for a zone does, and no greater one.
@@ -94,9 +100,11 @@ pub fn paths_end_where_the_pen_was_left()
 {}
 
 /// The step that a reason names is the last one of the kind that its rule speaks of. Where it names none, there was none.
-#[tactic(auto, using(crate::proofs::NamedSteps::named_steps))]
+/// Where W03 has a reason, no clearing command came before: the step that it names is the last call.
+#[tactic(auto, using(crate::proofs::NamedSteps::named_steps, crate::proofs::NamedSteps::nothing_was_cleared))]
 pub fn named_steps_are_of_their_kinds()
-    ensures { NamedStepsAreOfTheirKinds }
+    ensures kinds { NamedStepsAreOfTheirKinds }
+    ensures cleared { NothingWasClearedYet }
 {}
 
 /// The last step of a kind, by its number, is the one that the rule book calls the last.
@@ -111,7 +119,9 @@ pub fn last_three_stems_are_the_books()
     ensures { LastThreeStemsAreTheBooks }
 {}
 
-/// The stem that a reason of H02, H06 or H07 names beside the step's own was set at the step that it names with it.
+/// Of the two stems that a reason of H02 names, one is the step's own. The other was set in the same direction, at the
+/// step named with it, and is of the hint set or the step's own too. H06 names the first stem of the last step with the
+/// other command of the direction, H07 the stem that the last step with the same command has in the place of the own one.
 #[tactic(auto, using(crate::proofs::NamedStems::named_stems))]
 pub fn named_stems_are_set()
     ensures { NamedStemsAreSet }
@@ -132,4 +142,9 @@ pub fn fuzz_does_for_both()
 #[tactic(auto, using(crate::proofs::Endings::ends_are_followed_as_told))]
 pub fn ends_are_followed_as_told()
     ensures { EndsAreFollowedAsTold }
+{}
+
+/// What a reason of C01 tells is against it: the charstring has fewer bytes than lenIV says.
+pub fn short_charstrings_are_shorter()
+    ensures { ShortCharstringsAreShorter }
 {}

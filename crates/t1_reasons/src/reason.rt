@@ -59,8 +59,8 @@ pub enum Reason {
         token: CharToken,
     },
     /// The step that set the width (W02), closed the last path (P01, P03), drew (H01), began the flex (X01, X03), made an outline (K06) or
-    /// ended counter control (O06), or the last one that is a clearing command or a call of an OtherSubr (O05, O08, W03). It is None where
-    /// there was no such step.
+    /// ended counter control (O06), the last one that is a clearing command or a call of an OtherSubr (O05, O08), or the last call (W03). It is
+    /// None where there was no such step.
     Since {
         step: Option<u32>,
     },

@@ -31,7 +31,7 @@ use t1_rules::{
     quotient_is_past, stem_at, three_stems, triple_of,
 };
 
-/// Returns what a rule that compares no numbers says of the step, where the step breaks it.
+/// Returns what a rule tells of the step, where the step breaks it.
 pub(crate) fn told_where(
     is_broken: bool,
     rule: Rule,
@@ -43,7 +43,7 @@ pub(crate) fn told_where(
     is_broken.then_some(told_by(rule, background, step))
 }
 
-/// What a rule that compares no numbers says of a step that breaks it.
+/// What a rule tells of a step that breaks it.
 fn told_by(rule: Rule, background: &Background, step: &Step) -> Reason
     ensures { result ≡ told_by rule background.now (step_view step.now) }
 {

@@ -105,7 +105,32 @@ impl StepsBefore {
             Rule::K01 => code_reason(step),
             Rule::K02 => name_reason(step),
             Rule::K05 => sidebearing_reason(sidebearings, step),
-            _ => told_where(broken.has(rule), rule, &self.background, step),
+            // What these tell is against them.
+            Rule::W01 | Rule::R01 | Rule::R02 | Rule::X02 | Rule::K03 | Rule::K04 | Rule::K07 => {
+                told_where(broken.has(rule), rule, &self.background, step)
+            }
+            // These compare nothing.
+            Rule::C01
+            | Rule::C02
+            | Rule::S04
+            | Rule::GE01
+            | Rule::GE02
+            | Rule::W02
+            | Rule::P01
+            | Rule::P02
+            | Rule::P03
+            | Rule::H01
+            | Rule::X01
+            | Rule::X03
+            | Rule::X06
+            | Rule::O04
+            | Rule::K06
+            | Rule::H06
+            | Rule::O05
+            | Rule::O06
+            | Rule::O08
+            | Rule::W03 => told_where(broken.has(rule), rule, &self.background, step),
+            _ => None,
         }
     }
 
