@@ -7,6 +7,7 @@ pub mod DifferentKeys
 pub mod EntriesAlone
 pub mod FileRead
 pub mod FontMaps
+pub mod FontsWithoutNotes
 pub mod GlyphNames
 pub mod GlyphsRead
 pub mod Kept

@@ -2,7 +2,7 @@
 
 ghost use Rattle.t1_font.specs.Laws.Blanks.{BlanksAgree};
 ghost use Rattle.t1_font.specs.Laws.Keys.{DifferentStay, FontsHaveDistinctKeys, NoneStandsTwice, TwiceIsAgain};
-ghost use Rattle.t1_font.specs.Laws.Notes.{ClearStaysWithoutNotes, PrivateStaysWithoutNotes, ValuesStayWithoutNotes};
+ghost use Rattle.t1_font.specs.Laws.Notes.{ClearStaysWithoutNotes, FontsHaveTheirNotes, FontsStayWithoutNotes, PrivateStaysWithoutNotes, ValuesStayWithoutNotes};
 ghost use Rattle.t1_font.specs.Laws.Statements.{OneMore, ReadAsStated};
 ghost use Rattle.t1_font.specs.declared.mode.ClearMode.{ClearMode};
 ghost use Rattle.t1_font.specs.declared.mode.PrivateMode.{PrivateMode};
@@ -102,9 +102,12 @@ pub fn blanks_of_sections_and_tokens()
 {}
 
 /// Keys that are noted change their own values alone: where none is, a text is refused just as it is, or read to the same
-/// place, and states the same but for these keys; and the font is the same but that they have no value.
+/// place, and states the same but for these keys; and the font is the same but that they have no value. So a file that is
+/// read without them is refused just as it is, or its font is the same but for these values.
 pub fn noted_keys_change_nothing_else()
     ensures clear { ClearStaysWithoutNotes }
     ensures private { PrivateStaysWithoutNotes }
     ensures values { ValuesStayWithoutNotes }
+    ensures all { FontsHaveTheirNotes }
+    ensures fonts { FontsStayWithoutNotes }
 {}
