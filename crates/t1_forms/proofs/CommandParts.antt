@@ -9,23 +9,30 @@ use Rattle.t1_forms.specs.Laws.{CommandsAreReadBack, PartsStayInCommands, ends_m
 
 -- ---- what is read back
 
-message_front : (b : ℕ) (rest text : List ℕ) → decoded_behind nothing rest ≡ Some text
-    → decoded_behind nothing (message_byte b ++ rest) ≡ Some (b ∷ text)
-unfolding decoded_behind
-message_front b rest text h = elim (cases_eq b 37) [
-  | inl same ↦ rw (same, h) refl
+-- A byte of a message has a meaning of its own, or is written as it is.
+message_cases : (P : ℕ → List ℕ → Type 0) (b : ℕ) → P 37 (message_byte 37) → P 13 (message_byte 13) → P 10 (message_byte 10)
+    → ((b == 37) ≡ false → (b == 13) ≡ false → (b == 10) ≡ false → P b (b ∷ [])) → P b (message_byte b)
+message_cases P b percent carriage end plain = elim (cases_eq b 37) [
+  | inl same ↦ rw same percent
   | inr m ↦ elim (cases_eq b 13) [
-    | inl same ↦ rw (same, h) refl
+    | inl same ↦ rw same carriage
     | inr n ↦ elim (cases_eq b 10) [
-      | inl same ↦ rw (same, h) refl
+      | inl same ↦ rw same end
       | inr o ↦
           let x : (b == 37) ≡ false = grind (arith, nat_tests, m) in
           let y : (b == 13) ≡ false = grind (arith, nat_tests, n) in
           let z : (b == 10) ≡ false = grind (arith, nat_tests, o) in
-          rw (x, y, z) (rw (x, h) refl)
+          rw (x, y, z) (plain x y z)
     ]
   ]
 ]
+
+message_front : (b : ℕ) (rest text : List ℕ) → decoded_behind nothing rest ≡ Some text
+    → decoded_behind nothing (message_byte b ++ rest) ≡ Some (b ∷ text)
+unfolding decoded_behind
+message_front b rest text h =
+    message_cases (λ (c : ℕ) (bytes : List ℕ). decoded_behind nothing (bytes ++ rest) ≡ Some (c ∷ text)) b (rw h refl) (rw h refl) (rw h refl)
+    (λ x y z. rw (x, h) refl)
 
 property_front : (b : ℕ) (rest text : List ℕ) → decoded_behind nothing rest ≡ Some text
     → decoded_behind nothing (property_byte b ++ rest) ≡ Some (b ∷ text)
@@ -57,37 +64,12 @@ read_back text = (message_read text, property_read text)
 -- ---- what ends nothing
 
 message_stays : (b : ℕ) (rest : List ℕ) → list_any ends_message rest ≡ false → list_any ends_message (message_byte b ++ rest) ≡ false
-message_stays b rest h = elim (cases_eq b 37) [
-  | inl same ↦ rw same h
-  | inr m ↦ elim (cases_eq b 13) [
-    | inl same ↦ rw same h
-    | inr n ↦ elim (cases_eq b 10) [
-      | inl same ↦ rw same h
-      | inr o ↦
-          let x : (b == 37) ≡ false = grind (arith, nat_tests, m) in
-          let y : (b == 13) ≡ false = grind (arith, nat_tests, n) in
-          let z : (b == 10) ≡ false = grind (arith, nat_tests, o) in
-          rw (x, y, z) (rw (y, z) h)
-    ]
-  ]
-]
+message_stays b rest h = message_cases (λ (c : ℕ) (bytes : List ℕ). list_any ends_message (bytes ++ rest) ≡ false) b h h h (λ x y z. rw (y, z) h)
 
 plain_stays : (b : ℕ) (rest : List ℕ) → (b == 58) ≡ false → (b == 44) ≡ false → list_any ends_property rest ≡ false
     → list_any ends_property (message_byte b ++ rest) ≡ false
-plain_stays b rest colon comma h = elim (cases_eq b 37) [
-  | inl same ↦ rw same h
-  | inr m ↦ elim (cases_eq b 13) [
-    | inl same ↦ rw same h
-    | inr n ↦ elim (cases_eq b 10) [
-      | inl same ↦ rw same h
-      | inr o ↦
-          let x : (b == 37) ≡ false = grind (arith, nat_tests, m) in
-          let y : (b == 13) ≡ false = grind (arith, nat_tests, n) in
-          let z : (b == 10) ≡ false = grind (arith, nat_tests, o) in
-          rw (x, y, z) (rw (y, z, colon, comma) h)
-    ]
-  ]
-]
+plain_stays b rest colon comma h =
+    message_cases (λ (c : ℕ) (bytes : List ℕ). list_any ends_property (bytes ++ rest) ≡ false) b h h h (λ x y z. rw (y, z, colon, comma) h)
 
 property_stays : (b : ℕ) (rest : List ℕ) → list_any ends_property rest ≡ false → list_any ends_property (property_byte b ++ rest) ≡ false
 property_stays b rest h = elim (cases_eq b 58) [

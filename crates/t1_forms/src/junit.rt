@@ -1,6 +1,6 @@
 //! A document of JUnit's form, which Jenkins and GitLab read: a suite, with a case for each font.
 
-ghost use Rattle.std.specs.Prelude.{◌≡◌, ◌++◌, IfOk, None, OnOk, option_map, string_bytes};
+ghost use Rattle.std.specs.Prelude.{◌≡◌, ◌++◌, IfOk, OnOk, option_map, string_bytes};
 ghost use Rattle.t1_forms.specs.JUnit.{after_what, begun, case_name, case_text, closing, error_text, first_failure, found_text, found_with, junit_state, line_text, opening, problem, reason_text, text_of_what};
 ghost use Rattle.t1_forms.specs.Tellings.{reason_value, what_value};
 ghost use Rattle.t1_forms.specs.Writing.{WritesLine};
@@ -44,10 +44,7 @@ fn case_name(alloc: Global, font: Option<&[u8]>) -> Result<String, AllocError>
         return String::from_str(alloc, "(no name)");
     };
     let name = xml_text(alloc, font)?;
-    let mut attributes = xml_text(alloc, font)?;
-    attributes.push_str("\" file=\"")?;
-    attributes.push_str(name.as_str())?;
-    Ok(attributes)
+    format!(in alloc; "{name}\" file=\"{name}")
 }
 
 /// The case of a font, with an element in it.
@@ -55,41 +52,14 @@ fn case_text(alloc: Global, font: Option<&[u8]>, element: &str) -> Result<String
     ensures { IfOk result (λ s. string_bytes s ≡ case_text (option_map (λ name. name.now) font.entry) element.now) }
 {
     let name = case_name(alloc, font)?;
-    let mut text = String::from_str(alloc, "<testcase classname=\"t1check-all\" name=\"")?;
-    text.push_str(name.as_str())?;
-    text.push_str("\">")?;
-    text.push_str(element)?;
-    text.push_str("</testcase>\n")?;
-    Ok(text)
+    format!(in alloc; "<testcase classname=\"t1check-all\" name=\"{name}\">{element}</testcase>\n")
 }
 
 /// Why a case isn't passed.
 fn problem(alloc: Global, kind: &str, message: &str, lines: &str) -> Result<String, AllocError>
     ensures { IfOk result (λ s. string_bytes s ≡ problem kind.now message.now lines.now) }
 {
-    let mut text = String::from_str(alloc, "<")?;
-    text.push_str(kind)?;
-    text.push_str(" message=\"")?;
-    text.push_str(message)?;
-    text.push_str("\">")?;
-    text.push_str(lines)?;
-    text.push_str("</")?;
-    text.push_str(kind)?;
-    text.push_str(">")?;
-    Ok(text)
-}
-
-/// The lines of a font none of which fails, if it has any.
-fn output(alloc: Global, lines: &str) -> Result<String, AllocError>
-    ensures { IfOk result (λ s. string_bytes s ≡ found_with None lines.now) }
-{
-    if lines.is_empty() {
-        return Ok(String::new(alloc));
-    }
-    let mut text = String::from_str(alloc, "<system-out>")?;
-    text.push_str(lines)?;
-    text.push_str("</system-out>")?;
-    Ok(text)
+    format!(in alloc; "<{kind} message=\"{message}\">{lines}</{kind}>")
 }
 
 /// What a font was found with.
@@ -98,7 +68,8 @@ fn found_with(alloc: Global, failure: &Option<String>, lines: &str) -> Result<St
 {
     match failure {
         Some(message) => problem(alloc, "failure", message.as_str(), lines),
-        None => output(alloc, lines),
+        None if lines.is_empty() => Ok(String::new(alloc)),
+        None => format!(in alloc; "<system-out>{lines}</system-out>"),
     }
 }
 
@@ -109,11 +80,8 @@ fn reason_text(alloc: Global, reason: Option<&ToldReason<'_>>) -> Result<String,
     let Some(reason) = reason else {
         return Ok(String::new(alloc));
     };
-    let reason = xml_text(alloc, reason.text)?;
-    let mut text = String::from_str(alloc, "   ")?;
-    text.push_str(reason.as_str())?;
-    text.push_str("\n")?;
-    Ok(text)
+    let text = xml_text(alloc, reason.text)?;
+    format!(in alloc; "   {text}\n")
 }
 
 /// The case of a font that was refused, or wasn't checked.
@@ -121,8 +89,7 @@ fn error_text(alloc: Global, font: Option<&[u8]>, line: &[u8]) -> Result<String,
     ensures { IfOk result (λ s. string_bytes s ≡ error_text (option_map (λ name. name.now) font.entry) line.now) }
 {
     let message = xml_text(alloc, line)?;
-    let mut lines = xml_text(alloc, line)?;
-    lines.push_str("\n")?;
+    let lines = format!(in alloc; "{message}\n")?;
     let element = problem(alloc, "error", message.as_str(), lines.as_str())?;
     case_text(alloc, font, element.as_str())
 }

@@ -1,21 +1,22 @@
 //! What t1check and t1check-all report, in the forms that other programs read: lines of JSON, SARIF 2.1.0, the commands by which
 //! a workflow of GitHub reports a fault, and JUnit's form.
 //!
-//! A [`Told`] is what is reported: a fault, a refusal, or why a font wasn't checked, with the font's name and the reason where there
-//! is one. [`write_object`] writes it as an object in a line of its own, [`Sarif`] as a result in a document, [`write_command`] as a
-//! command, [`JUnit`] in the case of its font. The object alone has a reason's numbers, as members of their own. [`Text`] is a device that keeps in memory what is written.
+//! A [`Told`] is what is reported: a fault, a refusal, or why a font wasn't checked, with the font's name and the reason where
+//! there is one. [`write_object`] writes it as an object in a line of its own, [`Sarif`] as a result in a document,
+//! [`write_command`] as a command, [`JUnit`] in the case of its font. The object alone has a reason's numbers, as members of
+//! their own. [`Text`] is a device that keeps in memory what is written.
 //!
 //! What is promised, for all bytes:
 //!
-//! - The line of JSON is the compact text of the object that is meant, and nothing else. What is reported differently has different
-//!   objects.
+//! - The line of JSON is the compact text of the object that is meant, and nothing else. What is reported differently has
+//!   different objects.
 //! - A command of GitHub is the text that its definition says. What it shows stays in its place, and is read back as it was.
-//! - A document of SARIF is the text that its definition says: runs, each with the pages that it was given, a result for each line,
-//!   and the fonts that weren't checked.
+//! - A document of SARIF is the text that its definition says: runs, each with the pages that it was given, a result for each
+//!   line, and the fonts that weren't checked.
 //! - A document of JUnit's form is the text that its definition says.
 //!
-//! Memory doesn't grow with what is written, but for fonts that weren't checked, of which a document of SARIF keeps at most a thousand, and
-//! for the lines of one font in JUnit's form. This is shown by tests alone.
+//! Memory doesn't grow with what is written, but for fonts that weren't checked, of which a document of SARIF keeps at most a
+//! thousand, and for the lines of one font in JUnit's form. This is shown by tests alone.
 //!
 //! ```
 //! let told = Told {

@@ -18,6 +18,19 @@ use t1_reasons::{EntryKind, Found, Reason};
 
 type Members = Map<String, Value>;
 
+/// Puts a text as a member.
+pub(crate) fn put_text(
+    members: &mut Members,
+    alloc: Global,
+    key: &str,
+    text: &str,
+) -> Result<(), AllocError>
+    ensures { OnOk result (members_view members.new.entries
+        ≡ with_put key.now (string text.now) (members_view members.old.entries)) }
+{
+    put(members, alloc, key, Value::try_from_str(alloc, text)?)
+}
+
 fn decimal(alloc: Global, number: Exact) -> Result<Value, AllocError>
     ensures { IfOk result (λ v. view v ≡ string (exact_text number)) }
 {
@@ -66,12 +79,7 @@ fn of_kind(alloc: Global, kind: &str) -> Result<Members, AllocError>
     ensures { IfOk result (λ m. members_view m.entries ≡ with_put (codes "kind") (string kind.now) no_members) }
 {
     let mut members = Map::new(alloc);
-    put(
-        &mut members,
-        alloc,
-        "kind",
-        Value::try_from_str(alloc, kind)?,
-    )?;
+    put_text(&mut members, alloc, "kind", kind)?;
     Ok(members)
 }
 
@@ -82,12 +90,8 @@ fn found_members(alloc: Global, found: Found) -> Result<Members, AllocError>
         Found::Absent => of_kind(alloc, "absent"),
         Found::One { number } => {
             let mut members = of_kind(alloc, "number")?;
-            put(
-                &mut members,
-                alloc,
-                "number",
-                decimal(alloc, value(number))?,
-            )?;
+            let number = decimal(alloc, value(number))?;
+            put(&mut members, alloc, "number", number)?;
             Ok(members)
         }
         Found::Several { count } => {

@@ -9,7 +9,7 @@ ghost use Rattle.t1_forms.specs.Shown.{shown};
 ghost use Rattle.t1_forms.specs.Tellings.{reason_value, told_value, what_value};
 ghost use Rattle.t1_forms.specs.Writing.{WritesLine};
 
-use crate::members::reason_members;
+use crate::members::{put_text, reason_members};
 use crate::{FormatError, Told, ToldReason, What, shown};
 use serde_json::{Map, Value, json, put};
 use std::alloc::{AllocError, Global};
@@ -53,58 +53,31 @@ fn text(alloc: Global, text: &[u8]) -> Result<Value, AllocError>
 /// The members that each fault has.
 fn members_of_all(
     alloc: Global,
-    number: u64,
-    rule: Rule,
+    fault: &FaultLine<'_>,
     unit: &str,
 ) -> Result<Map<String, Value>, AllocError>
-    ensures { IfOk result (λ m. members_view m.entries ≡ members_of_all number rule unit.now) }
+    ensures { IfOk result (λ m. members_view m.entries ≡ members_of_all fault.now.number fault.now.rule unit.now) }
 {
     let mut members = Map::new(alloc);
-    put(
-        &mut members,
-        alloc,
-        "code",
-        Value::try_from_str(alloc, rule_code(rule))?,
-    )?;
-    put(
-        &mut members,
-        alloc,
-        "level",
-        Value::try_from_str(alloc, rule_level(rule).text())?,
-    )?;
-    put(&mut members, alloc, "number", Value::from(number))?;
-    put(
-        &mut members,
-        alloc,
-        "text",
-        Value::try_from_str(alloc, rule_text(rule))?,
-    )?;
-    put(
-        &mut members,
-        alloc,
-        "unit",
-        Value::try_from_str(alloc, unit)?,
-    )?;
+    put_text(&mut members, alloc, "code", rule_code(fault.rule))?;
+    put_text(&mut members, alloc, "level", rule_level(fault.rule).text())?;
+    put(&mut members, alloc, "number", Value::from(fault.number))?;
+    put_text(&mut members, alloc, "text", rule_text(fault.rule))?;
+    put_text(&mut members, alloc, "unit", unit)?;
     Ok(members)
 }
 
 /// The members of a fault of the font.
 fn key_members(
     alloc: Global,
-    number: u64,
-    rule: Rule,
+    fault: &FaultLine<'_>,
     key: u8,
     index: u16,
 ) -> Result<Map<String, Value>, AllocError>
-    ensures { IfOk result (λ m. members_view m.entries ≡ fault_members number (at_key key index) rule) }
+    ensures { IfOk result (λ m. members_view m.entries ≡ fault_members fault.now.number (at_key key index) fault.now.rule) }
 {
-    let mut members = members_of_all(alloc, number, rule, "font")?;
-    put(
-        &mut members,
-        alloc,
-        "key",
-        Value::try_from_str(alloc, key_text(key))?,
-    )?;
+    let mut members = members_of_all(alloc, fault, "font")?;
+    put_text(&mut members, alloc, "key", key_text(key))?;
     put(&mut members, alloc, "index", Value::from(index))?;
     Ok(members)
 }
@@ -112,15 +85,14 @@ fn key_members(
 /// The members of a fault of a glyph.
 fn step_members(
     alloc: Global,
-    number: u64,
-    rule: Rule,
+    fault: &FaultLine<'_>,
     name: &[u8],
     path: &[u32],
     step: u32,
 ) -> Result<Map<String, Value>, AllocError>
-    ensures { IfOk result (λ m. members_view m.entries ≡ fault_members number (at_step name.now path.now step) rule) }
+    ensures { IfOk result (λ m. members_view m.entries ≡ fault_members fault.now.number (at_step name.now path.now step) fault.now.rule) }
 {
-    let mut members = members_of_all(alloc, number, rule, "glyph")?;
+    let mut members = members_of_all(alloc, fault, "glyph")?;
     put(&mut members, alloc, "name", text(alloc, name)?)?;
     put(&mut members, alloc, "path", list(alloc, path)?)?;
     put(&mut members, alloc, "step", Value::from(step))?;
@@ -130,21 +102,15 @@ fn step_members(
 /// The members of a waiver that isn't used.
 fn waiver_members(
     alloc: Global,
-    number: u64,
-    rule: Rule,
+    fault: &FaultLine<'_>,
     name: &[u8],
     waived: Rule,
 ) -> Result<Map<String, Value>, AllocError>
-    ensures { IfOk result (λ m. members_view m.entries ≡ fault_members number (at_waiver name.now waived) rule) }
+    ensures { IfOk result (λ m. members_view m.entries ≡ fault_members fault.now.number (at_waiver name.now waived) fault.now.rule) }
 {
-    let mut members = members_of_all(alloc, number, rule, "waiver")?;
+    let mut members = members_of_all(alloc, fault, "waiver")?;
     put(&mut members, alloc, "name", text(alloc, name)?)?;
-    put(
-        &mut members,
-        alloc,
-        "waived",
-        Value::try_from_str(alloc, rule_code(waived))?,
-    )?;
+    put_text(&mut members, alloc, "waived", rule_code(waived))?;
     Ok(members)
 }
 
@@ -154,22 +120,11 @@ fn fault_members(alloc: Global, fault: &FaultLine<'_>) -> Result<Map<String, Val
         ≡ fault_members fault.now.number (place_value fault.now.place) fault.now.rule) }
 {
     match &fault.place {
-        Place::Key { key, index } => key_members(alloc, fault.number, fault.rule, *key, *index),
-        Place::Step { name, path, step } => step_members(
-            alloc,
-            fault.number,
-            fault.rule,
-            name,
-            path.as_slice(),
-            *step,
-        ),
-        Place::Waiver { name, rule } => waiver_members(
-            alloc,
-            fault.number,
-            fault.rule,
-            name,
-            *rule,
-        ),
+        Place::Key { key, index } => key_members(alloc, fault, *key, *index),
+        Place::Step { name, path, step } => {
+            step_members(alloc, fault, name, path.as_slice(), *step)
+        }
+        Place::Waiver { name, rule } => waiver_members(alloc, fault, name, *rule),
     }
 }
 
@@ -181,38 +136,15 @@ fn what_members(alloc: Global, what: &What<'_>) -> Result<Map<String, Value>, Al
     match what {
         What::Line(Line::Fault(fault)) => return fault_members(alloc, fault),
         What::Line(Line::Refusal(refusal)) => {
-            put(
-                &mut members,
-                alloc,
-                "unit",
-                Value::try_from_str(alloc, "refused")?,
-            )?;
-            put(
-                &mut members,
-                alloc,
-                "code",
-                text(alloc, refusal_code(*refusal))?,
-            )?;
-            put(
-                &mut members,
-                alloc,
-                "level",
-                Value::try_from_str(alloc, Level::Must.text())?,
-            )?;
-            put(
-                &mut members,
-                alloc,
-                "text",
-                text(alloc, refusal_reason(*refusal))?,
-            )?;
+            put_text(&mut members, alloc, "unit", "refused")?;
+            let code = text(alloc, refusal_code(*refusal))?;
+            put(&mut members, alloc, "code", code)?;
+            put_text(&mut members, alloc, "level", Level::Must.text())?;
+            let reason = text(alloc, refusal_reason(*refusal))?;
+            put(&mut members, alloc, "text", reason)?;
         }
         What::Unchecked(reason) => {
-            put(
-                &mut members,
-                alloc,
-                "unit",
-                Value::try_from_str(alloc, "unchecked")?,
-            )?;
+            put_text(&mut members, alloc, "unit", "unchecked")?;
             put(&mut members, alloc, "text", text(alloc, reason)?)?;
         }
     }

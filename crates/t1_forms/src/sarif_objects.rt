@@ -11,6 +11,7 @@ ghost use Rattle.t1_forms.specs.Shown.{shown};
 ghost use Rattle.t1_forms.specs.Tellings.{reason_value};
 ghost use Rattle.t1_forms.specs.SarifObjects.{and_reason, behind_colon, fault_locations, fingerprint, font_locations, help_object, is_plain_in_uri, level_coded, line_code, level_object, line_id, line_level, line_locations, line_message, line_unit, logical_location, logical_locations, notification_object, page_members, page_object, physical_location, place_unit, result_object, sarif_level, text_object, tool_object, unit_of, uri_byte};
 
+use crate::members::put_text;
 use crate::objects::refusal_code;
 use crate::{Page, Pages, ToldReason, VERSION, shown};
 use serde_json::{Map, Value, json, put};
@@ -66,25 +67,12 @@ fn page_members(alloc: Global, page: &Page) -> Result<Map<String, Value>, AllocE
     ensures { IfOk result (λ m. members_view m.entries ≡ page_members (page_value page.now)) }
 {
     let mut members = Map::new(alloc);
-    put(
-        &mut members,
-        alloc,
-        "id",
-        Value::try_from_str(alloc, page.code)?,
-    )?;
-    put(
-        &mut members,
-        alloc,
-        "shortDescription",
-        text_object(alloc, page.title)?,
-    )?;
+    put_text(&mut members, alloc, "id", page.code)?;
+    let title = text_object(alloc, page.title)?;
+    put(&mut members, alloc, "shortDescription", title)?;
     put(&mut members, alloc, "help", help_object(alloc, page.text)?)?;
-    put(
-        &mut members,
-        alloc,
-        "defaultConfiguration",
-        level_object(alloc, level_coded(page.code))?,
-    )?;
+    let level = level_object(alloc, level_coded(page.code))?;
+    put(&mut members, alloc, "defaultConfiguration", level)?;
     Ok(members)
 }
 
@@ -101,12 +89,8 @@ fn page_object(alloc: Global, page: &Page, docs: Option<&str>) -> Result<Value, 
 {
     let mut members = page_members(alloc, page)?;
     if let Some(docs) = docs {
-        put(
-            &mut members,
-            alloc,
-            "helpUri",
-            help_uri(alloc, docs, page.anchor)?,
-        )?;
+        let uri = help_uri(alloc, docs, page.anchor)?;
+        put(&mut members, alloc, "helpUri", uri)?;
     }
     Ok(Value::Object(members))
 }
@@ -358,10 +342,7 @@ fn and_reason(
         return Ok(message);
     };
     let text = shown(alloc, reason.text)?;
-    let mut whole = message;
-    whole.push_str(": ")?;
-    whole.push_str(text.as_str())?;
-    Ok(whole)
+    format!(in alloc; "{message}: {text}")
 }
 
 /// What is shown of a line and its reason.
@@ -386,11 +367,11 @@ fn place_unit(alloc: Global, place: &Place<'_>) -> Result<String, AllocError>
         Place::Key { key, .. } => format!(in alloc; " font {}", key_text(*key)),
         Place::Step { name, .. } => {
             let name = shown(alloc, name)?;
-            format!(in alloc; " glyph {}", name.as_str())
+            format!(in alloc; " glyph {name}")
         }
         Place::Waiver { name, rule } => {
             let name = shown(alloc, name)?;
-            format!(in alloc; " waiver {} {}", name.as_str(), rule_code(*rule))
+            format!(in alloc; " waiver {name} {}", rule_code(*rule))
         }
     }
 }
@@ -413,10 +394,9 @@ pub(crate) fn unit_of(
 ) -> Result<String, AllocError>
     ensures { IfOk result (λ s. string_bytes s ≡ unit_of (option_map (λ name. name.now) font.entry) (line_value line.now)) }
 {
-    let mut unit = shown(alloc, font.unwrap_or(b""))?;
-    let rest = line_unit(alloc, line)?;
-    unit.push_str(rest.as_str())?;
-    Ok(unit)
+    let font = shown(alloc, font.unwrap_or(b""))?;
+    let unit = line_unit(alloc, line)?;
+    format!(in alloc; "{font}{unit}")
 }
 
 /// What a line is known by when other lines come or go: the unit, the code, and its ordinal among these.
@@ -429,7 +409,6 @@ pub(crate) fn fingerprint(
     ensures { IfOk result (λ s. string_bytes s ≡ fingerprint unit.now (line_value line.now) count) }
 {
     let code = line_id(alloc, line)?;
-    let code = code.as_str();
     format!(in alloc; "{unit} {code} {count}")
 }
 
