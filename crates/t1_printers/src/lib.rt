@@ -1,9 +1,10 @@
 //! The forms in which lines of many fonts are printed.
 //!
-//! Each is a [`Printer`](t1_many::Printer), which takes what is handed on of one font after another. [`Formatted`] gives each line, each refusal, and each
-//! font that wasn't checked to a [`Formatter`], once and in order, and then how the font was found. [`Grouped`] keeps the lines of a font in groups, one for each rule, and writes
-//! these by a [`GroupForm`] once the font is done: the rules of level must first, then should, then tidy, and within a level in the order of their
-//! numbers. A font that wasn't checked is also printed on standard error. Nothing is read back from text.
+//! Each is a [`Printer`](t1_many::Printer), which takes what is handed on of one font after another. [`Formatted`] gives each
+//! line, each refusal, and each font that wasn't checked to a [`Formatter`], once and in order, and then how the font was found.
+//! [`Grouped`] keeps the lines of a font in groups, one for each rule, and writes these by a [`GroupForm`] once the font is done:
+//! the rules of level must first, then should, then tidy, and within a level in the order of their numbers. A font that wasn't
+//! checked is also printed on standard error. Nothing is read back from text.
 //!
 //! | form | writes |
 //! |---|---|
@@ -16,18 +17,20 @@
 //!
 //! What is promised, for all that is handed on:
 //!
-//! - Each byte that is written, by the lines that were handed on, and what is printed on standard error. If a device fails, or memory runs out, a
-//!   prefix of it was written.
+//! - Each byte that is written, by the lines that were handed on, and what is printed on standard error. If a device fails, or
+//!   memory runs out, a prefix of it was written.
 //! - In a group a name is a glyph's, a key's or a waiver's. Lines at one unit after one another have one name.
 //! - The numbers of lines of a font's groups sum to the lines of the font.
 //! - Where reasons are written, a group's is that of its first line.
 //! - A line on a terminal is as wide as the terminal at most, or has no name.
 //! - In JUnit's form each font is one case: a failure exactly where a line of it fails.
 //!
-//! Where reasons are written, that of a group's first line is below the group's line, unless it adds nothing. On a terminal it is three blanks
-//! and its text. In a command it is a further line of the message. Only the reason of a rule's first fault is requested.
+//! Where reasons are written, that of a group's first line is below the group's line, unless it adds nothing. On a terminal it is
+//! three blanks and its text. In a command it is a further line of the message. Only the reason of a rule's first fault is
+//! requested.
 //!
-//! The memory that is taken doesn't grow with the lines, but for those of one font in JUnit's form: a group keeps names up to the width.
+//! The memory that is taken doesn't grow with the lines, but for those of one font in JUnit's form: a group keeps names up to the
+//! width.
 //!
 //! ```
 //! let form = Terminal { width: 80, has_colours: false, reasons: false };

@@ -40,13 +40,13 @@ fn push_level<T: GroupForm>(
 {
     let rules = all_rules();
     for rule in rules {
-        push_of_level(alloc, form, groups, text, name, level, *rule)?;
+        push_rule(alloc, form, groups, text, name, level, *rule)?;
     }
     Ok(())
 }
 
-/// Appends the line of a rule, if it is of the level.
-fn push_of_level<T: GroupForm>(
+/// Appends the line of a rule, if it is of the level and has lines.
+fn push_rule<T: GroupForm>(
     alloc: Global,
     form: &T,
     groups: &Groups,
@@ -58,25 +58,9 @@ fn push_of_level<T: GroupForm>(
     ensures { OnOk result (text.new.items ≡ text.old.items
         ++ level_line (group_line ((T.writing form.now).line name.now) (group_values groups.now)) level rule) }
 {
-    if is_same_level(rule_level(rule), level) {
-        push_rule(alloc, form, groups, text, name, rule)
-    } else {
-        Ok(())
+    if !is_same_level(rule_level(rule), level) {
+        return Ok(());
     }
-}
-
-/// Appends the line of a rule, if it has lines.
-fn push_rule<T: GroupForm>(
-    alloc: Global,
-    form: &T,
-    groups: &Groups,
-    text: &mut Vec<u8>,
-    name: &str,
-    rule: Rule,
-) -> Result<(), AllocError>
-    ensures { OnOk result (text.new.items
-        ≡ text.old.items ++ group_line ((T.writing form.now).line name.now) (group_values groups.now) rule) }
-{
     let group = groups.group(rule);
     if group.is_empty() {
         return Ok(());
