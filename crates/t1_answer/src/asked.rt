@@ -11,7 +11,7 @@ use t1_char::Edition;
 use t1_font::Font;
 use t1_io::Sink;
 use t1_report::Waivers;
-use t1_run::{Program, Status, UsageError, borrowed};
+use t1_run::{Program, Status, Streams, UsageError, borrowed};
 
 /// What the words of the command line request.
 #[derive(Debug, Drop)]
@@ -61,9 +61,8 @@ impl Program for CheckOptions {
         alloc: Global,
         font: &Font<'_>,
         waivers: &Waivers<'_>,
-        out: &mut W,
-        errors: &mut E,
+        streams: &mut Streams<W, E>,
     ) -> Status {
-        show(alloc, font, waivers, self, out, errors)
+        show(alloc, font, waivers, self, streams)
     }
 }

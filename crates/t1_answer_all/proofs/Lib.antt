@@ -5,9 +5,7 @@ pub mod FailingLines
 pub mod FilesAgain
 pub mod FontsTaken
 pub mod FormMaps
-pub mod FormattedRuns
 pub mod GivenEach
-pub mod GroupedRuns
 pub mod Lists
 pub mod ModeFonts
 pub mod PagesFound

@@ -2,7 +2,8 @@
 use Rattle.std.proofs.Common.{◌≡◌, Result, Ok, Err, subst, sym}
 use Rattle.t1_answer_all.specs.Layouts.{LayoutValue}
 use Rattle.t1_answer_all.specs.Plans.{Run}
-use Rattle.t1_answer_all.specs.Runs.{ConcludesWritten, LeftValue, Runs}
+use Rattle.t1_answer_all.specs.Endings.{LeftValue}
+use Rattle.t1_answer_all.specs.Runs.{ConcludesWritten, Runs}
 use Rattle.t1_answer_all.specs.Runs.Runs.{concluded, stopped}
 use Rattle.t1_answer_all.specs.Writing.{WritesBy, WritesIn}
 use Rattle.t1_answer_all.specs.declared.findings.Findings.{Findings}

@@ -17,7 +17,8 @@ use Rattle.t1_answer_all.specs.Explaining.{ExplainsPages}
 use Rattle.t1_answer_all.specs.Places.{ListsGiven, Texts}
 use Rattle.t1_answer_all.specs.Replacing.{Replaces}
 use Rattle.t1_answer_all.specs.Plans.{AskedValue}
-use Rattle.t1_answer_all.specs.Runs.{LeftValue, program}
+use Rattle.t1_answer_all.specs.Endings.{LeftValue}
+use Rattle.t1_answer_all.specs.Runs.{program}
 use Rattle.t1_answer_all.specs.Stores.{Change, Store, fonts_of, replacing_of}
 use Rattle.t1_options.specs.Settings.Finding.{Files as SettingsFiles}
 

@@ -13,7 +13,8 @@ use Rattle.t1_answer_all.specs.Known.{IsKnownText, IsNotKnownText, IsWrong, file
 use Rattle.t1_answer_all.specs.Listing.{AreFonts, FontsValue, HasNoFonts}
 use Rattle.t1_answer_all.specs.Places.{ListsGiven, Texts}
 use Rattle.t1_answer_all.specs.Plans.{AskedValue, Run, beside_of, is_quiet, plan_by}
-use Rattle.t1_answer_all.specs.Runs.{LeftValue, Runs, nothing_left, program}
+use Rattle.t1_answer_all.specs.Endings.{LeftValue, nothing_left}
+use Rattle.t1_answer_all.specs.Runs.{Runs, program}
 use Rattle.t1_answer_all.specs.Stores.{Change, Fonts}
 use Rattle.t1_answer_all.specs.Telling.{IsTold, unlisted_text}
 use Rattle.t1_answer_all.specs.Usage.{IsToldSo}

@@ -2,10 +2,10 @@
 use Rattle.std.specs.Prelude.{◌≡◌, ◌++◌, ℕ, ◌&&◌, nat_lt, Bool, true, false, List, [], codes, length, Option, None, Some, option_map, Result, Ok, Err, if◌then◌else◌}
 use Rattle.std.specs.List.{flat_map, list_any}
 use Rattle.t1_io.specs.Devices.{PutFailed, SinkState, Wrote}
+use Rattle.t1_known.specs.Lines.{row_lines}
 use Rattle.t1_known.specs.Readings.{AreReadingsOf}
-use Rattle.t1_known.specs.Reads.{IsReadAs}
 use Rattle.t1_many.specs.Choice.{Choice}
-use Rattle.t1_many.specs.KnownFaults.{Reading, RowValue, file_text, mismatch, updated}
+use Rattle.t1_many.specs.KnownFaults.{Reading, file_text, mismatch, updated}
 use Rattle.t1_many.specs.declared.readings.Reading.{Reading as Kept}
 use Rattle.t1_many.specs.declared.policy.Lost.{Lost}
 use Rattle.t1_many.specs.declared.policy.Lost.TheVariants.{Device, Memory}
@@ -19,10 +19,12 @@ use Rattle.t1_summary.specs.Summaries.{summary_text as text_of_summary}
 use Rattle.t1_summary.specs.Tallies.{fonts_in, lines_in}
 use Rattle.t1_summary.specs.declared.found.FontClass.TheVariants as founds
 use Rattle.t1_summary.specs.declared.tally.Tally.{Tally}
+use Rattle.t1_waiving.specs.FontTexts.{FontText}
 use Rattle.t1_waiving.specs.TooMany.{has_too_many, too_many_line}
 use Rattle.t1_answer_all.specs.Modes.{ModeValue, anew, beyond, told, waived}
 use Rattle.t1_answer_all.specs.Plans.{PlanValue}
-use Rattle.t1_answer_all.specs.declared.ending.Ended.{Ended}
+use Rattle.t1_answer_all.specs.Unlisted.{is_whole}
+use Rattle.t1_answer_all.specs.declared.ending.Left.{Left}
 use Rattle.t1_answer_all.specs.declared.findings.Findings.{Findings}
 
 -- What was found in fonts is kept, where it is compared with known faults or becomes known.
@@ -47,13 +49,15 @@ has_known (beyond rows) = true
 has_known (anew rows) = true
 has_known waived = false
 
--- How many rows are read of the file of known faults from now on, where it is made anew.
-abbrev pub CountsRows : ModeValue → Choice → List Reading → Option ℕ → Type 0
-CountsRows told choice readings count = count ≡ None
-CountsRows (beyond rows) choice readings count = count ≡ None
-CountsRows (anew rows) choice readings count =
-    (read : List RowValue) × IsReadAs (file_text (updated choice readings rows)) (Ok read) × (count ≡ Some (length read))
-CountsRows waived choice readings count = count ≡ None
+-- The text of the file of known faults from now on, where it is made anew, and how many rows it has.
+abbrev pub known_faults_in : ModeValue → Choice → List Reading → Option (List ℕ)
+known_faults_in told choice readings = None
+known_faults_in (beyond rows) choice readings = None
+known_faults_in (anew rows) choice readings = Some (file_text (updated choice readings rows))
+known_faults_in waived choice readings = None
+
+abbrev pub rows_in : Option (List ℕ) → Option ℕ
+rows_in text = option_map (λ text. length (row_lines text)) text
 
 abbrev pub summary_text : PlanValue → Tally → Option ℕ → List ℕ
 summary_text plan tally rows = if plan.quiet then [] else text_of_summary tally rows (has_known plan.mode)
@@ -71,8 +75,9 @@ abbrev pub rest_text : PlanValue → Findings → Option ℕ → List ℕ
 rest_text plan found rows =
     summary_text plan found.tally rows ++ (unwaived_text plan.mode found.tally ++ flat_map too_many_line found.kept)
 
-abbrev pub ending_text : PlanValue → Findings → List Reading → Option ℕ → List ℕ
-ending_text plan found readings rows = mismatches_text plan.mode plan.choice readings ++ rest_text plan found rows
+abbrev pub ending_text : PlanValue → Findings → List Reading → List ℕ
+ending_text plan found readings =
+    mismatches_text plan.mode plan.choice readings ++ rest_text plan found (rows_in (known_faults_in plan.mode plan.choice readings))
 
 -- ---- what is left
 
@@ -95,21 +100,32 @@ status_of failing tally =
 abbrev pub status_in : Mask → Findings → Status
 status_in failing found = if list_any has_too_many found.kept then Failed else status_of failing found.tally
 
--- The text of the file of known faults from now on.
-abbrev pub known_faults_in : ModeValue → Choice → List Reading → Option (List ℕ)
-known_faults_in told choice readings = None
-known_faults_in (beyond rows) choice readings = None
-known_faults_in (anew rows) choice readings = Some (file_text (updated choice readings rows))
-known_faults_in waived choice readings = None
+pub record LeftValue : Type 0 where
+  pub status : Status
+  pub known_faults : Option (List ℕ)
+  pub waivers : Option (List FontText)
 
-abbrev pub text_of : Ended → Option (List ℕ)
-text_of ended = option_map (λ text. text.items) ended.known_faults
+abbrev pub left_value : Left → LeftValue
+left_value left = record {
+  status = left.status;
+  known_faults = option_map (λ text. text.items) left.known_faults;
+  waivers = left.waivers;
+}
+
+abbrev pub nothing_left : Status → LeftValue
+nothing_left status = record { status = status; known_faults = None; waivers = None }
+
+-- Where not all could be listed the status is that of a failure.
+abbrev pub left_by : PlanValue → Findings → List Reading → LeftValue
+left_by plan found readings = record {
+  status = if is_whole plan.unlisted then status_in plan.failing found else Failed;
+  known_faults = known_faults_in plan.mode plan.choice readings;
+  waivers = Some found.kept;
+}
 
 -- All was printed; or the device failed after a prefix of it; or memory ran out, and nothing was printed.
-abbrev pub Ends : PlanValue → Findings → List Reading → SinkState → SinkState → Result Ended Lost → Type 0
-Ends plan found readings old new (Ok ended) =
-    (rows : Option ℕ) × CountsRows plan.mode plan.choice readings rows × Wrote old new (ending_text plan found readings rows)
-    × (ended.status ≡ status_in plan.failing found) × (text_of ended ≡ known_faults_in plan.mode plan.choice readings)
-Ends plan found readings old new (Err Device) =
-    (rows : Option ℕ) × CountsRows plan.mode plan.choice readings rows × PutFailed old new (ending_text plan found readings rows)
+abbrev pub Ends : PlanValue → Findings → List Reading → SinkState → SinkState → Result Left Lost → Type 0
+Ends plan found readings old new (Ok left) =
+    Wrote old new (ending_text plan found readings) × (left_value left ≡ left_by plan found readings)
+Ends plan found readings old new (Err Device) = PutFailed old new (ending_text plan found readings)
 Ends plan found readings old new (Err Memory) = new ≡ old

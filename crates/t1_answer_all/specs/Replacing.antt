@@ -1,7 +1,8 @@
 -- Files that are replaced once all was printed.
 use Rattle.std.specs.Prelude.{◌≡◌, ◌⊎◌, ◌++◌, ◌&&◌, ℕ, Bool, true, false, List, [], ◌∷◌, codes, Option, None, Some, string_bytes, if◌then◌else◌}
 use Rattle.std.specs.List.{concat}
-use Rattle.t1_answer_all.specs.Runs.{LeftValue, program}
+use Rattle.t1_answer_all.specs.Endings.{LeftValue}
+use Rattle.t1_answer_all.specs.Runs.{program}
 use Rattle.t1_answer_all.specs.Stores.{IsNothing, Putting, Replacing}
 use Rattle.t1_io.specs.Devices.{SinkState}
 use Rattle.t1_options.specs.declared.asked.Baseline.{Baseline}

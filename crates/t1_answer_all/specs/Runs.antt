@@ -1,12 +1,10 @@
 -- How a run over many fonts ends, and what is left to do.
-use Rattle.std.specs.Prelude.{◌≡◌, ℕ, List, codes, Option, None, Some, option_map, Result, Ok, Err, if◌then◌else◌}
-use Rattle.t1_answer_all.specs.Endings.{AreFoundBy, Ends, text_of}
+use Rattle.std.specs.Prelude.{◌≡◌, ℕ, List, codes, Result, Ok, Err}
+use Rattle.t1_answer_all.specs.Endings.{AreFoundBy, Ends, LeftValue, left_value, nothing_left}
 use Rattle.t1_answer_all.specs.Plans.{PlanValue, Run}
-use Rattle.t1_answer_all.specs.Unlisted.{is_whole}
 use Rattle.t1_answer_all.specs.Writing.{WritesIn}
 use Rattle.t1_answer_all.specs.declared.findings.Findings.{Findings}
-use Rattle.t1_answer_all.specs.declared.ending.Ended.{Ended}
-use Rattle.t1_answer_all.specs.declared.running.Left.{Left}
+use Rattle.t1_answer_all.specs.declared.ending.Left.{Left}
 use Rattle.t1_io.specs.Devices.{SinkState}
 use Rattle.t1_many.specs.KnownFaults.{Reading}
 use Rattle.t1_many.specs.declared.policy.Lost.{Lost}
@@ -16,7 +14,6 @@ use Rattle.t1_run.specs.Opening.{Sinks}
 use Rattle.t1_run.specs.Telling.{Tells}
 use Rattle.t1_run.specs.declared.status.Status.{Status}
 use Rattle.t1_run.specs.declared.status.Status.TheVariants.{Failed}
-use Rattle.t1_waiving.specs.FontTexts.{FontText}
 
 abbrev pub program : List ℕ
 program = codes "t1check-all"
@@ -26,30 +23,12 @@ abbrev pub lost_line : Lost → List ℕ
 lost_line Device = write_failed_line program
 lost_line Memory = out_of_memory_line program
 
--- What is left to do.
-pub record LeftValue : Type 0 where
-  pub status : Status
-  pub known_faults : Option (List ℕ)
-  pub waivers : Option (List FontText)
-
-abbrev pub left_value : Left → LeftValue
-left_value left = record {
-  status = left.status;
-  known_faults = option_map (λ text. text.items) left.known_faults;
-  waivers = left.waivers;
-}
-
-abbrev pub nothing_left : Status → LeftValue
-nothing_left status = record { status = status; known_faults = None; waivers = None }
-
--- All that was found is printed, and the files are left to be replaced. Where not all could be listed the status is that of a failure.
--- Or it stopped, which is printed, and nothing is left.
+-- All that was found is printed, and the files are left to be replaced. Or it stopped, which is printed, and nothing is left.
 pub data Concludes (plan : PlanValue) (found : Findings) (old new : SinkState) (left : LeftValue) : Type 0 where
   told :
-      (ended : Ended)
+      (ended : Left)
       → ((all : List Reading) → AreFoundBy plan.mode found.readings.items all → Ends plan found all old new (Ok ended))
-      → left ≡ record { status = if is_whole plan.unlisted then ended.status else Failed; known_faults = text_of ended; waivers = Some found.kept }
-      → Concludes plan found old new left
+      → left ≡ left_value ended → Concludes plan found old new left
   stopped :
       (lost : Lost) → (behind : SinkState)
       → ((all : List Reading) → AreFoundBy plan.mode found.readings.items all → Ends plan found all old behind (Err lost))

@@ -29,10 +29,6 @@ use Rattle.t1_printers.specs.declared.github.GitHubCommands.{GitHubCommands as C
 use Rattle.t1_rules.specs.declared.mask.Mask.{Mask}
 use Rattle.t1_run.specs.Opening.{Sinks}
 
--- As `NAME: LINE`.
-abbrev pub WritesPlain : Bool → Run → Sinks → Sinks → Result Findings Lost → Type 0
-WritesPlain reasons = ChecksFonts (PlainTakes reasons)
-
 -- What comes after all else was written, and all was flushed; or that failed.
 pub data FinishesForm (Finishes : SinkState → SinkState → Option Lost → Type 0) (old new : SinkState) (lost : Option Lost) : Type 0 where
   flushed : (behind : SinkState) → Finishes old behind None → IsFlushed behind new lost → FinishesForm Finishes old new lost
@@ -43,26 +39,17 @@ abbrev pub FinishesChecked : (SinkState → SinkState → Option Lost → Type 0
 FinishesChecked Finishes old new (Ok found) result = FinishesForm Finishes old new (lost_of result) × IfOk result (λ f. f ≡ found)
 FinishesChecked Finishes old new (Err lost) result = (new ≡ old) × (result ≡ Err lost)
 
--- A formatter was given what couldn't be listed, then what is chosen of the fonts, and then it finished. Or it stopped at one of these.
+-- A formatter was given what couldn't be listed, then what is chosen of the fonts, and then it finished, unless it stopped at one of these.
 pub data WritesFormatted {T : Type 0} (form : Form T) (Finishes : T → SinkState → SinkState → Option Lost → Type 0) (run : Run) (old : Formatting T)
     (new : Sinks) (result : Result Findings Lost) : Type 0 where
   written :
       (begun ended : Formatting T) → GivesEach form.writes (output_of old) (output_of begun) run.plan.unlisted None
-      → begun.errors ≡ old.errors → (found : Findings) → ChecksFonts (FormattedTakes form) run begun ended (Ok found)
-      → FinishesForm (Finishes ended.formatter) ended.out new.out None → new.errors ≡ ended.errors → result ≡ Ok found
+      → begun.sinks.errors ≡ old.sinks.errors → (found : Result Findings Lost) → ChecksFonts (FormattedTakes form) run begun ended found
+      → FinishesChecked (Finishes ended.formatter) ended.sinks.out new.out found result → new.errors ≡ ended.sinks.errors
       → WritesFormatted form Finishes run old new result
-  unfinished :
-      (begun ended : Formatting T) → GivesEach form.writes (output_of old) (output_of begun) run.plan.unlisted None
-      → begun.errors ≡ old.errors → (found : Findings) → ChecksFonts (FormattedTakes form) run begun ended (Ok found)
-      → (lost : Lost) → FinishesForm (Finishes ended.formatter) ended.out new.out (Some lost) → new.errors ≡ ended.errors
-      → result ≡ Err lost → WritesFormatted form Finishes run old new result
-  stopped :
-      (begun ended : Formatting T) → GivesEach form.writes (output_of old) (output_of begun) run.plan.unlisted None
-      → begun.errors ≡ old.errors → (lost : Lost) → ChecksFonts (FormattedTakes form) run begun ended (Err lost)
-      → new ≡ record { out = ended.out; errors = ended.errors } → result ≡ Err lost → WritesFormatted form Finishes run old new result
   unlistable :
       (left : T) → (lost : Lost) → GivesEach form.writes (output_of old) (record { formatter = left; out = new.out }) run.plan.unlisted (Some lost)
-      → new.errors ≡ old.errors → AreUntouched run.files → result ≡ Err lost → WritesFormatted form Finishes run old new result
+      → new.errors ≡ old.sinks.errors → AreUntouched run.files → result ≡ Err lost → WritesFormatted form Finishes run old new result
 
 -- Nothing comes after all else.
 abbrev pub NoEnd : {T : Type 0} → T → SinkState → SinkState → Option Lost → Type 0
@@ -78,24 +65,17 @@ pub data WritesDocument {T : Type 0} (opening : List ℕ) (Begins : T → Type 0
     (run : Run) (old new : Sinks) (result : Result Findings Lost) : Type 0 where
   begun :
       (document : T) → (behind : SinkState) → Wrote old.out behind opening → Begins document
-      → WritesFormatted form Finishes run (record { formatter = document; out = behind; errors = old.errors }) new result
+      → WritesFormatted form Finishes run (record { formatter = document; sinks = record { out = behind; errors = old.errors } }) new result
       → WritesDocument opening Begins form Finishes run old new result
   not_begun :
       (lost : Lost) → IsLinePut old.out new.out opening (Some lost) → new.errors ≡ old.errors → AreUntouched run.files
       → result ≡ Err lost → WritesDocument opening Begins form Finishes run old new result
 
--- A document of JUnit's form, in which the lines of these rules fail.
-abbrev pub WritesCases : Mask → Bool → Run → Sinks → Sinks → Result Findings Lost → Type 0
-WritesCases failing reasons run old new result =
-    WritesDocument suite_opening (λ document. junit_state document ≡ no_case failing)
-    (record { reasons = reasons; writes = case_telling_written; ends = case_written }) cases_ended run old new result
-
 -- What is chosen of the fonts was handed on to a form of groups, which had none at first.
 abbrev pub WritesGroups : Writing → Run → Sinks → Sinks → Result Findings Lost → Type 0
 WritesGroups writing run old new result =
     (left : List GroupValue)
-    × ChecksFonts (GroupedTakes writing) run (record { out = old.out; errors = old.errors; groups = no_groups writing.room })
-    (record { out = new.out; errors = new.errors; groups = left }) result
+    × ChecksFonts (GroupedTakes writing) run (record { sinks = old; groups = no_groups writing.room }) (record { sinks = new; groups = left }) result
 
 -- Commands were written of what couldn't be listed, and flushed; then groups of the fonts; or it stopped at one of these.
 pub data WritesCommands (reasons : Bool) (run : Run) (old new : Sinks) (result : Result Findings Lost) : Type 0 where
@@ -117,17 +97,19 @@ pub data WritesCommands (reasons : Bool) (run : Run) (old new : Sinks) (result :
 
 -- What is written in this layout.
 abbrev pub WritesBy : LayoutValue → Run → Sinks → Sinks → Result Findings Lost → Type 0
-WritesBy (lines reasons) run old new result = WritesPlain reasons run old new result
+WritesBy (lines reasons) run old new result = ChecksFonts (PlainTakes reasons) run old new result
 WritesBy (groups terminal) run old new result =
     WritesGroups (terminal_writing terminal.width terminal.has_colours terminal.reasons) run old new result
 WritesBy (json_lines clean reasons) run old new result =
     WritesFormatted (record { reasons = reasons; writes = object_written; ends = clean_written }) NoEnd run
-    (record { formatter = record { clean = clean }; out = old.out; errors = old.errors }) new result
+    (record { formatter = record { clean = clean }; sinks = old }) new result
 WritesBy (sarif pages reasons) run old new result =
     WritesDocument (opening pages) (λ document. sarif_state document ≡ no_line_of pages)
     (record { reasons = reasons; writes = telling_written; ends = nothing_ends }) end_written run old new result
 WritesBy (commands reasons) run old new result = WritesCommands reasons run old new result
-WritesBy (cases failing reasons) run old new result = WritesCases failing reasons run old new result
+WritesBy (cases failing reasons) run old new result =
+    WritesDocument suite_opening (λ document. junit_state document ≡ no_case failing)
+    (record { reasons = reasons; writes = case_telling_written; ends = case_written }) cases_ended run old new result
 
 abbrev pub WritesIn : Run → Sinks → Sinks → Result Findings Lost → Type 0
 WritesIn run = WritesBy run.plan.layout run

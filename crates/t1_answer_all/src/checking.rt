@@ -1,112 +1,88 @@
 //! Checks fonts by the options.
 
 ghost use Rattle.t1_answer_all.specs.Checking.{ChecksBy, ChecksKnown, ExpectsIf, Stops, TellsAndChecks};
+ghost use Rattle.t1_answer_all.specs.Endings.{left_value};
 ghost use Rattle.t1_answer_all.specs.Listing.{fonts_value};
 ghost use Rattle.t1_answer_all.specs.Places.{known_by, lists_by};
 ghost use Rattle.t1_answer_all.specs.Plans.{asked_value};
-ghost use Rattle.t1_answer_all.specs.Runs.{left_value};
+ghost use Rattle.t1_run.specs.Opening.{sinks_by};
 
+use crate::ending::Left;
 use crate::known::{file_of, read_known, text_of_known};
 use crate::listing::{Fonts, fonts_of};
+use crate::outcome::Outcome;
 use crate::plan::{Asked, plan_by};
 use crate::progress::ShowsProgress;
-use crate::running::{PROGRAM, Ran, nothing_left, run};
+use crate::running::{PROGRAM, nothing_left, run};
 use crate::telling::tell_unlisted;
 use std::alloc::Global;
 use t1_io::Sink;
 use t1_known::KnownFaults;
 use t1_many::FontFiles;
 use t1_names::FileSystem;
-use t1_run::{UsageError, explain};
+use t1_run::{Streams, UsageError, explain};
 
 /// Lists the fonts that the options name, prints what couldn't be listed, and checks the fonts; or prints why they can't be listed. What is wrong
 /// first, in this order, is printed: the file of known faults, a list that can't be read, and a list without a font.
-pub(crate) fn check_by<F, W, E>(
+pub(crate) fn check_by<F: FileSystem + FontFiles + ShowsProgress, W: Sink + Drop, E: Sink + Drop>(
     alloc: Global,
     asked: Asked<'_>,
     files: &mut F,
-    out: W,
-    errors: E,
-) -> Ran<W, E>
-where
-    F: FileSystem + FontFiles + ShowsProgress,
-    W: Sink + Drop,
-    E: Sink + Drop,
+    streams: Streams<W, E>,
+) -> Outcome<Left, Streams<W, E>>
     ensures { ChecksBy (known_by (F.has_text files.old)) (lists_by (F.has_list files.old) (F.leads files.old) (F.lists files.old))
         (record { calls = F.calls; Expects = F.expects }) (asked_value asked.entry)
-        (record {
-          files = files.old;
-          files' = files.new;
-          old = record { out = W.state out; errors = E.state errors };
-          new = record { out = W.state result.out; errors = E.state result.errors };
-        }) (left_value result.left) }
+        (record { files = files.old; files' = files.new; old = sinks_by W.state E.state streams; new = sinks_by W.state E.state result.output })
+        (left_value result.value) }
 {
     match text_of_known(alloc, &asked.options.known_faults, files) {
-        Ok(text) => check_known(alloc, asked, text.as_slice(), files, out, errors),
-        Err(error) => stopped(&error, out, errors),
+        Ok(text) => check_known(alloc, asked, text.as_slice(), files, streams),
+        Err(error) => stopped(&error, streams),
     }
 }
 
 /// The same, given the text of the file of known faults.
-fn check_known<F, W, E>(
+fn check_known<F: FileSystem + FontFiles + ShowsProgress, W: Sink + Drop, E: Sink + Drop>(
     alloc: Global,
     asked: Asked<'_>,
     text: &[u8],
     files: &mut F,
-    out: W,
-    errors: E,
-) -> Ran<W, E>
-where
-    F: FileSystem + FontFiles + ShowsProgress,
-    W: Sink + Drop,
-    E: Sink + Drop,
+    streams: Streams<W, E>,
+) -> Outcome<Left, Streams<W, E>>
     ensures { ChecksKnown (lists_by (F.has_list files.old) (F.leads files.old) (F.lists files.old))
         (record { calls = F.calls; Expects = F.expects }) (asked_value asked.entry) text.now
-        (record {
-          files = files.old;
-          files' = files.new;
-          old = record { out = W.state out; errors = E.state errors };
-          new = record { out = W.state result.out; errors = E.state result.errors };
-        }) (left_value result.left) }
+        (record { files = files.old; files' = files.new; old = sinks_by W.state E.state streams; new = sinks_by W.state E.state result.output })
+        (left_value result.value) }
 {
     match read_known(alloc, file_of(&asked.options.known_faults), text) {
         Ok(known) => match fonts_of(alloc, asked.options, files) {
-            Ok(fonts) => tell_and_check(alloc, asked, &known, &fonts, files, out, errors),
-            Err(error) => stopped(&error, out, errors),
+            Ok(fonts) => tell_and_check(alloc, asked, &known, &fonts, files, streams),
+            Err(error) => stopped(&error, streams),
         },
-        Err(error) => stopped(&error, out, errors),
+        Err(error) => stopped(&error, streams),
     }
 }
 
 /// Prints what couldn't be listed, and checks the fonts. Unless quiet, it tells the files first how many fonts there are.
-fn tell_and_check<F, W, E>(
+fn tell_and_check<F: FontFiles + ShowsProgress, W: Sink + Drop, E: Sink + Drop>(
     alloc: Global,
     asked: Asked<'_>,
     known: &KnownFaults<'_>,
     fonts: &Fonts,
     files: &mut F,
-    out: W,
-    errors: E,
-) -> Ran<W, E>
-where
-    F: FontFiles + ShowsProgress,
-    W: Sink + Drop,
-    E: Sink + Drop,
+    streams: Streams<W, E>,
+) -> Outcome<Left, Streams<W, E>>
     ensures { TellsAndChecks (record { calls = F.calls; Expects = F.expects })
         (record { asked = asked_value asked.entry; rows = known.now; fonts = fonts_value fonts.now })
-        (record {
-          files = files.old;
-          files' = files.new;
-          old = record { out = W.state out; errors = E.state errors };
-          new = record { out = W.state result.out; errors = E.state result.errors };
-        }) (left_value result.left) }
+        (record { files = files.old; files' = files.new; old = sinks_by W.state E.state streams; new = sinks_by W.state E.state result.output })
+        (left_value result.value) }
 {
-    let mut errors = errors;
+    let mut streams = streams;
     // Where that fails the status is that of a failure all the same.
-    let _ = tell_unlisted(fonts.unlisted(), &mut errors);
+    let _ = tell_unlisted(fonts.unlisted(), &mut streams.errors);
     let plan = plan_by(asked, known, fonts);
     expect_if(!plan.quiet, plan.names.len(), files);
-    run(alloc, plan, files, out, errors)
+    run(alloc, plan, files, streams)
 }
 
 /// Tells the files how many fonts are checked from now on, if they are to know it.
@@ -121,18 +97,11 @@ fn expect_if<F: ShowsProgress>(told: bool, count: usize, files: &mut F)
 /// Prints why nothing was checked.
 pub(crate) fn stopped<W: Sink + Drop, E: Sink + Drop>(
     error: &UsageError,
-    out: W,
-    errors: E,
-) -> Ran<W, E>
-    ensures { Stops error.now (record { out = W.state out; errors = E.state errors })
-        (record { out = W.state result.out; errors = E.state result.errors }) (left_value result.left) }
+    streams: Streams<W, E>,
+) -> Outcome<Left, Streams<W, E>>
+    ensures { Stops error.now (sinks_by W.state E.state streams) (sinks_by W.state E.state result.output) (left_value result.value) }
 {
-    let mut out = out;
-    let mut errors = errors;
-    let status = explain(PROGRAM, error, &mut out, &mut errors);
-    Ran {
-        left: nothing_left(status),
-        out,
-        errors,
-    }
+    let mut output = streams;
+    let value = nothing_left(explain(PROGRAM, error, &mut output));
+    Outcome { value, output }
 }

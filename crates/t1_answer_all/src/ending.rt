@@ -1,15 +1,14 @@
 //! What is printed once all fonts were checked, and what is left to do.
 
-ghost use Rattle.std.specs.Prelude.{◌≡◌, IfOk, IfSome, List, option_map};
-ghost use Rattle.t1_answer_all.specs.Endings.{AreFoundBy, Ends, any_failing, has_failing, has_known, mismatches_text, rest_text, status_in, status_of, summary_text, unwaived_text};
+ghost use Rattle.std.specs.Prelude.{◌≡◌, IfOk, List, if◌then◌else◌, option_map};
+ghost use Rattle.t1_answer_all.specs.Endings.{AreFoundBy, Ends, any_failing, has_failing, has_known, mismatches_text, rest_text, rows_in, status_in, status_of, summary_text, unwaived_text};
 ghost use Rattle.t1_answer_all.specs.Modes.{mode_value};
 ghost use Rattle.t1_answer_all.specs.Plans.{plan_value};
 ghost use Rattle.t1_answer_all.specs.Private.Updates.{IsUpdated};
 ghost use Rattle.t1_io.specs.Devices.{Writes};
-ghost use Rattle.t1_known.specs.Readings.{AreReadingsOf};
 ghost use Rattle.t1_known.specs.Writes.{WritesAll};
 ghost use Rattle.t1_many.specs.Choice.{choice_of};
-ghost use Rattle.t1_many.specs.KnownFaults.{Reading as ReadingValue, file_text, updated};
+ghost use Rattle.t1_many.specs.KnownFaults.{Reading as ReadingValue};
 
 use crate::findings::Findings;
 use crate::mode::Mode;
@@ -17,27 +16,22 @@ use crate::plan::Plan;
 use std::alloc::Global;
 use t1_forms::Text;
 use t1_io::{Broken, Sink, put_all};
-use t1_known::{KnownFaults, write_mismatches, write_updated};
+use t1_known::{count_rows, write_mismatches, write_updated};
 use t1_many::{Choice, Lost, Reading};
 use t1_rules::{Mask, Rule, all_rules};
 use t1_run::Status;
 use t1_summary::{FontClass, Tally, summary};
-use t1_waiving::tell_too_many;
+use t1_waiving::{Kept, tell_too_many};
 
-/// What is left to do once all was printed.
-#[derive(Debug, Drop)]
-pub struct Ended {
+/// What is left to do after a run.
+#[derive(Drop)]
+pub struct Left {
     /// The status so far.
     pub status: Status,
     /// The text with which the file of known faults is to be replaced, if it is.
     pub known_faults: Option<Vec<u8>>,
-}
-
-/// The text of a file of known faults, and how many rows it has.
-#[derive(Drop)]
-struct Remade {
-    text: Vec<u8>,
-    rows: u64,
+    /// The waivers that are to be written, if all fonts were checked.
+    pub waivers: Option<Kept>,
 }
 
 /// Prints what comes after all fonts, in this order:
@@ -51,81 +45,56 @@ struct Remade {
 pub fn end<E: Sink>(
     alloc: Global,
     plan: Plan<'_>,
-    found: &Findings,
+    found: Findings,
     errors: &mut E,
-) -> Result<Ended, Lost>
-    ensures { (all : List ReadingValue) → AreFoundBy (mode_value plan.entry.mode) found.now.readings.items all
-        → Ends (plan_value plan.entry) found.now all (E.state errors.old) (E.state errors.new) result }
+) -> Result<Left, Lost>
+    ensures { (all : List ReadingValue) → AreFoundBy (mode_value plan.entry.mode) found.readings.items all
+        → Ends (plan_value plan.entry) found all (E.state errors.old) (E.state errors.new) result }
 {
     let readings = found.readings.as_slice();
-    let remade = known_faults_anew(alloc, plan.mode, readings, plan.choice)?;
+    let known_faults = known_faults_anew(alloc, plan.mode, readings, plan.choice)?;
     tell_mismatches(alloc, plan.mode, readings, plan.choice, errors)?;
-    let rows = rows_in(&remade);
-    let status = tell_rest(plan, found, rows, errors)?;
-    Ok(Ended {
-        status,
-        known_faults: text_in(remade),
+    let status = tell_rest(plan, &found, rows_in(&known_faults), errors)?;
+    Ok(Left {
+        status: status_of_list(plan.unlisted.is_empty(), status),
+        known_faults,
+        waivers: Some(found.kept),
     })
 }
 
-/// How many rows were made.
-fn rows_in(remade: &Option<Remade>) -> Option<u64>
-    ensures { result ≡ option_map (λ r. r.rows) remade.now }
+/// The status of the fonts, unless not all could be listed.
+fn status_of_list(whole: bool, status: Status) -> Status
+    ensures { result ≡ (if whole then status else Status.Failed) }
 {
-    match remade {
-        Some(remade) => Some(remade.rows),
+    if whole { status } else { Status::Failed }
+}
+
+/// How many rows a file of known faults has that was made.
+fn rows_in(text: &Option<Vec<u8>>) -> Option<u64>
+    ensures { result ≡ rows_in (option_map (λ text. text.items) text.now) }
+{
+    match text {
+        Some(text) => Some(count_rows(text.as_slice()) as u64),
         None => None,
     }
 }
 
-/// The text that was made.
-fn text_in(remade: Option<Remade>) -> Option<Vec<u8>>
-    ensures { option_map (λ text. text.items) result ≡ option_map (λ r. r.text.items) remade }
-{
-    match remade {
-        Some(remade) => Some(remade.text),
-        None => None,
-    }
-}
-
-/// The file of known faults from now on, where it is made anew. It is read back, which shows how many rows it has.
+/// The text of the file of known faults from now on, where it is made anew.
 fn known_faults_anew(
     alloc: Global,
     mode: Mode<'_>,
     readings: &[Reading],
     choice: Choice<'_>,
-) -> Result<Option<Remade>, Lost>
+) -> Result<Option<Vec<u8>>, Lost>
     ensures { IsUpdated (mode_value mode.entry) (choice_of choice.entry) readings.now result }
 {
     let Mode::UpdateBaseline(known) = mode else {
         return Ok(None);
     };
-    let Some(text) = text_anew(alloc, known, readings, choice) else {
-        return Err(Lost::Memory);
-    };
-    let rows = match KnownFaults::read(alloc, text.as_slice()) {
-        Ok(known) => known.row_count() as u64,
-        Err(_) => return Err(Lost::Memory),
-    };
-    Ok(Some(Remade { text, rows }))
-}
-
-/// The text of known faults that are made anew: None where memory runs out.
-fn text_anew(
-    alloc: Global,
-    known: &KnownFaults<'_>,
-    readings: &[Reading],
-    choice: Choice<'_>,
-) -> Option<Vec<u8>>
-    ensures { IfSome result (λ text. (all : List ReadingValue) → AreReadingsOf readings.now all
-        → text.items ≡ file_text (updated (choice_of choice.entry) all known.now)) }
-{
     let mut text = Text::new(alloc);
-    let written = write_updated(alloc, &mut text, known, readings, choice);
-    if written.is_ok() {
-        Some(text.into_bytes())
-    } else {
-        None
+    match write_updated(alloc, &mut text, known, readings, choice) {
+        Ok(()) => Ok(Some(text.into_bytes())),
+        Err(_) => Err(Lost::Memory),
     }
 }
 

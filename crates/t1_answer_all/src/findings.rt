@@ -6,6 +6,7 @@ ghost use Rattle.t1_answer_all.specs.Plans.{run_of};
 ghost use Rattle.t1_many.specs.Handing.{lost_of};
 
 use crate::mode::{Borrowed, Mode};
+use crate::outcome::Outcome;
 use crate::plan::Plan;
 use std::alloc::Global;
 use t1_many::{
@@ -26,21 +27,14 @@ pub struct Findings {
     pub kept: Kept,
 }
 
-/// Fonts that were checked.
-#[derive(Drop)]
-pub struct Checked<F: Printer + Drop> {
-    /// What was found in them, or why it stopped at one of them.
-    pub found: Result<Findings, Lost>,
-    /// The printer that took their lines.
-    pub printer: F,
-}
-
 /// Checks fonts in order. The printer takes the lines that are chosen, why there is no report of a font, and how each font was found.
-pub fn check_fonts<S, F>(alloc: Global, plan: Plan<'_>, files: &mut S, printer: F) -> Checked<F>
-where
-    S: FontFiles,
-    F: Printer + Drop,
-    ensures { ChecksFonts F.takes (run_of plan.entry S.calls files.old files.new) printer result.printer result.found }
+pub fn check_fonts<S: FontFiles, F: Printer + Drop>(
+    alloc: Global,
+    plan: Plan<'_>,
+    files: &mut S,
+    printer: F,
+) -> Outcome<Result<Findings, Lost>, F>
+    ensures { ChecksFonts F.takes (run_of plan.entry S.calls files.old files.new) printer result.output result.value }
 {
     let (names, beside) = (plan.names, plan.beside);
     let (edition, rules) = (plan.edition, plan.rules);
@@ -93,26 +87,26 @@ fn findings_of<F: Printer + Drop>(
     counted: Counted<F>,
     readings: Vec<Reading>,
     kept: Kept,
-) -> Checked<F>
-    ensures printer { result.printer ≡ counted.printer }
-    ensures lost { lost_of result.found ≡ lost_of ended }
-    ensures tally { IfOk result.found (λ found. found.tally ≡ counted.tally) }
-    ensures readings { IfOk result.found (λ found. found.readings.items ≡ readings.items) }
-    ensures kept { IfOk result.found (λ found. found.kept ≡ kept) }
+) -> Outcome<Result<Findings, Lost>, F>
+    ensures printer { result.output ≡ counted.printer }
+    ensures lost { lost_of result.value ≡ lost_of ended }
+    ensures tally { IfOk result.value (λ found. found.tally ≡ counted.tally) }
+    ensures readings { IfOk result.value (λ found. found.readings.items ≡ readings.items) }
+    ensures kept { IfOk result.value (λ found. found.kept ≡ kept) }
 {
     let Counted { tally, printer } = counted;
     match ended {
-        Ok(()) => Checked {
-            found: Ok(Findings {
+        Ok(()) => Outcome {
+            value: Ok(Findings {
                 tally,
                 readings,
                 kept,
             }),
-            printer,
+            output: printer,
         },
-        Err(lost) => Checked {
-            found: Err(lost),
-            printer,
+        Err(lost) => Outcome {
+            value: Err(lost),
+            output: printer,
         },
     }
 }

@@ -31,6 +31,7 @@ mod laws;
 mod layout;
 mod listing;
 mod mode;
+mod outcome;
 mod plan;
 mod progress;
 mod replacing;
@@ -42,15 +43,17 @@ mod usage;
 mod words;
 mod writing;
 
-pub use answering::{Answered, answer};
+pub use answering::answer;
+pub use ending::Left;
 pub use laws::{
     an_update_is_quiet_next_time, an_update_of_files_is_quiet_next_time, statuses_are_by_lines,
 };
 pub use layout::Layout;
 pub use mode::Mode;
+pub use outcome::Outcome;
 pub use plan::Plan;
 pub use progress::ShowsProgress;
 pub use replacing::{replace_files, waivers_name};
-pub use running::{Left, PROGRAM, Ran, run};
+pub use running::{PROGRAM, run};
 pub use shards::names_of_part;
 pub use unlisted::Unlisted;

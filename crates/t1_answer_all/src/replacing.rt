@@ -2,11 +2,12 @@
 
 ghost use Rattle.std.specs.Prelude.{◌≡◌, IfOk, map, option_map, string_bytes};
 ghost use Rattle.t1_answer_all.specs.Replacing.{IsKeptBack, PutsEach, PutsFile, PutsKnownFaults, PutsWaivers, PutsWaiversOf, Replaces, TriesToPut, overwrites, status_if, unwritten_text, waivers_name};
-ghost use Rattle.t1_answer_all.specs.Runs.{left_value};
+ghost use Rattle.t1_answer_all.specs.Endings.{left_value};
 ghost use Rattle.t1_run.specs.Telling.{Tells};
 ghost use Rattle.t1_waiving.specs.FontTexts.{font_text};
 
-use crate::running::{Left, PROGRAM};
+use crate::ending::Left;
+use crate::running::PROGRAM;
 use std::alloc::{AllocError, Global};
 use t1_io::Sink;
 use t1_names::{Cause, FileStore};

@@ -2,9 +2,7 @@
 
 ghost use Rattle.std.specs.Prelude.{◌≡◌, map, replicate, string_bytes};
 ghost use Rattle.t1_answer_all.specs.Unlisted.{GivesEach, is_whole, undecoded, unlisted_in, unsearched};
-ghost use Rattle.t1_forms.specs.Tellings.{told_value};
 ghost use Rattle.t1_many.specs.Handing.{lost_of};
-ghost use Rattle.t1_printers.specs.Formatting.{HasItsLine};
 
 use std::alloc::Global;
 use t1_forms::{Told, What};
@@ -38,8 +36,7 @@ pub fn give_unlisted<T: Formatter, W: Sink>(
     out: &mut W,
 ) -> Result<(), Lost>
     ensures { GivesEach T.writes (record { formatter = formatter.old; out = W.state out.old })
-        (record { formatter = formatter.new; out = W.state out.new })
-        (unlisted_in unlisted.entry) (lost_of result) }
+        (record { formatter = formatter.new; out = W.state out.new }) (unlisted_in unlisted.entry) (lost_of result) }
 {
     give_undecoded(alloc, unlisted.undecoded, formatter, out)?;
     give_unsearched(alloc, unlisted.unsearched, formatter, out)
@@ -53,8 +50,7 @@ fn give_undecoded<T: Formatter, W: Sink>(
     out: &mut W,
 ) -> Result<(), Lost>
     ensures { GivesEach T.writes (record { formatter = formatter.old; out = W.state out.old })
-        (record { formatter = formatter.new; out = W.state out.new })
-        (replicate count undecoded) (lost_of result) }
+        (record { formatter = formatter.new; out = W.state out.new }) (replicate count undecoded) (lost_of result) }
 {
     let told = Told {
         font: None,
@@ -62,24 +58,8 @@ fn give_undecoded<T: Formatter, W: Sink>(
         line: b"t1check: a name that is not UTF-8 is passed over",
         reason: None,
     };
-    give_times(alloc, count, &told, formatter, out)
-}
-
-/// Gives a formatter the same thing so often.
-fn give_times<T: Formatter, W: Sink>(
-    alloc: Global,
-    count: usize,
-    told: &Told<'_>,
-    formatter: &mut T,
-    out: &mut W,
-) -> Result<(), Lost>
-    requires { HasItsLine T.has_lines told.now }
-    ensures { GivesEach T.writes (record { formatter = formatter.old; out = W.state out.old })
-        (record { formatter = formatter.new; out = W.state out.new })
-        (replicate count (told_value told.now)) (lost_of result) }
-{
     for _time in 0..count {
-        formatter.write(alloc, out, told)?;
+        formatter.write(alloc, out, &told)?;
     }
     Ok(())
 }
@@ -92,8 +72,7 @@ fn give_unsearched<T: Formatter, W: Sink>(
     out: &mut W,
 ) -> Result<(), Lost>
     ensures { GivesEach T.writes (record { formatter = formatter.old; out = W.state out.old })
-        (record { formatter = formatter.new; out = W.state out.new })
-        (map (λ folder. unsearched (string_bytes folder)) folders.now) (lost_of result) }
+        (record { formatter = formatter.new; out = W.state out.new }) (map (λ folder. unsearched (string_bytes folder)) folders.now) (lost_of result) }
 {
     for folder in folders {
         give(

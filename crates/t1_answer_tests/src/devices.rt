@@ -13,7 +13,7 @@ use std::process::Abort;
 use std::test::Fail;
 use t1_answer::CheckOptions;
 use t1_io::{In, Out};
-use t1_run::{Status, run};
+use t1_run::{Status, Streams, run};
 use t1_samples::{END_SEGMENT, Fuse, Limit};
 
 /// A reader that returns a byte a read, without end.
@@ -48,13 +48,16 @@ fn answer_within(
 {
     let mut text = Vec::new(alloc);
     let mut told = Vec::new(alloc);
+    let mut streams = Streams {
+        out: Fuse::sink(Out::new(&mut text), output),
+        errors: Fuse::sink(Out::new(&mut told), errors),
+    };
     let status = run(
         alloc,
         options,
         &mut Fuse::source(In::new(file), input),
         &mut In::new(io::empty()),
-        &mut Fuse::sink(Out::new(&mut text), output),
-        &mut Fuse::sink(Out::new(&mut told), errors),
+        &mut streams,
     );
     Answer {
         status,

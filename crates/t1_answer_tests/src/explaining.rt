@@ -9,7 +9,7 @@ use crate::shared::Answer;
 use std::alloc::Global;
 use std::test::Fail;
 use t1_io::Out;
-use t1_run::{Status, UsageError, explain};
+use t1_run::{Status, Streams, UsageError, explain};
 use t1_samples::{Fuse, Limit};
 
 /// What is printed for words that parse to no options, over an output with this limit.
@@ -18,12 +18,11 @@ fn explained(alloc: Global, error: &UsageError, output: Limit) -> Answer
 {
     let mut text = Vec::new(alloc);
     let mut told = Vec::new(alloc);
-    let status = explain(
-        "t1check",
-        error,
-        &mut Fuse::sink(Out::new(&mut text), output),
-        &mut Out::new(&mut told),
-    );
+    let mut streams = Streams {
+        out: Fuse::sink(Out::new(&mut text), output),
+        errors: Out::new(&mut told),
+    };
+    let status = explain("t1check", error, &mut streams);
     Answer {
         status,
         output: text,

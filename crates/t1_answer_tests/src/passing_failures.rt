@@ -98,7 +98,7 @@ fn run_into(
         &mut In::new(file),
         &mut In::new(io::empty()),
         options,
-        &mut Out::new(writer),
+        Out::new(writer),
     )
 }
 

@@ -7,7 +7,7 @@ use std::io;
 use t1_answer::CheckOptions;
 use t1_char::Edition;
 use t1_io::{In, Out, Sink, Source};
-use t1_run::{Status, run};
+use t1_run::{Status, Streams, run};
 
 /// What the program returns and prints.
 #[derive(Drop)]
@@ -39,24 +39,18 @@ pub(crate) const ALL: CheckOptions = CheckOptions {
 
 /// Runs the program on a font and on waivers, over a standard error that doesn't fail, and returns the status and what
 /// was printed there.
-pub(crate) fn run_over<R: Source, V: Source, W: Sink>(
+pub(crate) fn run_over<R: Source, V: Source, W: Sink + Drop>(
     alloc: Global,
     font: &mut R,
     waivers: &mut V,
     options: &CheckOptions,
-    output: &mut W,
+    out: W,
 ) -> (Status, Vec<u8>)
     requires { (R.state font.old).failed ≡ false }
 {
     let mut told = Vec::new(alloc);
-    let status = run(
-        alloc,
-        options,
-        font,
-        waivers,
-        output,
-        &mut Out::new(&mut told),
-    );
+    let errors = Out::new(&mut told);
+    let status = run(alloc, options, font, waivers, &mut Streams { out, errors });
     (status, told)
 }
 
@@ -70,7 +64,7 @@ pub(crate) fn answer_over<R: Source, V: Source>(
     requires { (R.state font.old).failed ≡ false }
 {
     let mut output = Vec::new(alloc);
-    let (status, told) = run_over(alloc, font, waivers, options, &mut Out::new(&mut output));
+    let (status, told) = run_over(alloc, font, waivers, options, Out::new(&mut output));
     Answer {
         status,
         output,

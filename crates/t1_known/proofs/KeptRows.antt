@@ -165,6 +165,3 @@ kept_at entries before entry behind split kept = go before (subst AreKept split 
     go [] all = all.0
     go (e ∷ es) all = go es all.1
 
-pub rows_counted : (entries : List Entry) → length (rows_now entries) ≡ length entries
-rows_counted [] = refl
-rows_counted (e ∷ entries) = let more = rows_counted entries in omega (arith, more)

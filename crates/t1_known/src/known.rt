@@ -83,13 +83,6 @@ impl<'a> KnownFaults<'a> {
         Ok(KnownFaults { rows })
     }
 
-    /// How many rows there are.
-    pub fn row_count(&self) -> usize
-        ensures { result ≡ length self.now }
-    {
-        self.rows.len()
-    }
-
     /// How often the row of a key, `KIND FONT`, says: 0 if there is none, 2^64 - 1 if it says more.
     pub fn count_of(&self, key: &[u8]) -> u64
         ensures row { result ≡ min (count_at self.now key.now) (2 ^ 64 - 1) }

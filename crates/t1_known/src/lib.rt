@@ -2,7 +2,7 @@
 //!
 //! [`KnownFaults::read`] reads its rows, as `3 H02 glyph A fonts/a.pfb`, and [`KnownFaults::count_of`] says how often
 //! faults of a kind are known of a font. Of the fonts whose reports were made, each a [`Reading`](t1_many::Reading), [`write_mismatches`]
-//! writes which rows what was found differs from, and [`write_updated`] writes a new file.
+//! writes which rows what was found differs from, and [`write_updated`] writes a new file, whose rows [`count_rows`] counts.
 //!
 //! Promised:
 //!
@@ -29,5 +29,6 @@ pub use laws::{
     a_text_is_read_one_way, lines_are_readable, reports_are_readable, rows_are_read_back,
     updates_are_read_back,
 };
+pub use lines::count_rows;
 pub use mismatches::write_mismatches;
 pub use updating::write_updated;

@@ -1,10 +1,25 @@
 //! The lines of a text.
 
-ghost use Rattle.std.specs.Prelude.{◌≡◌};
-ghost use Rattle.t1_known.specs.Lines.{is_comment};
+ghost use Rattle.std.specs.Prelude.{◌≡◌, length};
+ghost use Rattle.t1_known.specs.Lines.{is_comment, row_lines};
 ghost use Rattle.t1_known.specs.Private.Kept.{IsNextLine};
 
 use t1_lines::cut;
+
+/// How many rows a file of known faults has: its lines that are no comments.
+pub fn count_rows(text: &[u8]) -> usize
+    ensures { result ≡ length (row_lines text.now) }
+{
+    let mut count = 0;
+    let mut rest = text;
+    while let Some((line, behind)) = next_line(rest) {
+        if !is_comment(line) {
+            count += 1;
+        }
+        rest = behind;
+    }
+    count
+}
 
 /// The first line of a text, and what follows it: None where nothing is left.
 pub(crate) fn next_line(text: &[u8]) -> Option<(&[u8], &[u8])>

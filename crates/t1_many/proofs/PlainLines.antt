@@ -1,12 +1,12 @@
 -- What the plain form prints of things that are handed on.
-use Rattle.std.proofs.Common.{◌≡◌, ◌⊎◌, ℕ, Bool, true, List, [], ◌∷◌, ◌++◌, Option, None, Some, inl, inr, refl, sym, ap, subst, ◌∙◌, append_assoc, append-nil}
+use Rattle.std.proofs.Common.{◌≡◌, ℕ, Bool, true, List, [], ◌∷◌, ◌++◌, Option, None, Some, inl, inr, refl, sym, ap, subst, ◌∙◌, append_assoc, append-nil}
 use Rattle.std.proofs.KnownBytes.{Appends-kept, Appends-nil, Appends-trans}
 use Rattle.std.proofs.lemmas.Option.{none-some}
 use Rattle.std.specs.Io.KnownBytes.{Appends, Keeps}
 use Rattle.t1_io.specs.Devices.{AppendsFront, SinkState}
 use Rattle.t1_many.specs.Handing.{Handed, done, failure, line}
 use Rattle.t1_many.specs.Laws.{PlainIsFlushed, PlainIsWritten}
-use Rattle.t1_many.specs.Plain.{IsLinePut, IsPut, IsWritten, PlainTakes, PutsFailure, tellings, text_of, texts, told_of}
+use Rattle.t1_many.specs.Plain.{ArePrinted, IsLinePut, PlainTakes, PutsFailure, failure_text, failure_told, fault_text, tellings, text_of, texts, told_of}
 use Rattle.t1_many.specs.declared.policy.Lost.{Lost}
 use Rattle.t1_many.specs.declared.policy.Lost.TheVariants.{Device, Memory}
 use Rattle.t1_many.specs.declared.font_error.FontError.{FontError}
@@ -15,122 +15,97 @@ use Rattle.t1_run.specs.Opening.{Sinks}
 
 -- ---- prefixes
 
-front-all : (a b : Option (List ℕ)) (x : List ℕ) → Appends a b x → AppendsFront a b x
+pub front-all : (a b : Option (List ℕ)) (x : List ℕ) → Appends a b x → AppendsFront a b x
 front-all a b x all = (x, ([], (sym (append-nil x), all)))
 
-front-none : (a b : Option (List ℕ)) (x : List ℕ) → Appends a b [] → AppendsFront a b x
+pub front-none : (a b : Option (List ℕ)) (x : List ℕ) → Appends a b [] → AppendsFront a b x
 front-none a b x none = ([], (x, (refl, none)))
 
-front-first : (a b : Option (List ℕ)) (x y : List ℕ) → AppendsFront a b x → AppendsFront a b (x ++ y)
+pub front-first : (a b : Option (List ℕ)) (x y : List ℕ) → AppendsFront a b x → AppendsFront a b (x ++ y)
 front-first a b x y (front, (rest, (split, out))) = (front, (rest ++ y, (ap (λ l. l ++ y) split ∙ append_assoc front rest y, out)))
 
-front-second : (a b c : Option (List ℕ)) (x y : List ℕ) → Appends a b x → AppendsFront b c y → AppendsFront a c (x ++ y)
+pub front-second : (a b c : Option (List ℕ)) (x y : List ℕ) → Appends a b x → AppendsFront b c y → AppendsFront a c (x ++ y)
 front-second a b c x y before (front, (rest, (split, out))) =
     (x ++ front, (rest, (ap (λ l. x ++ l) split ∙ sym (append_assoc x front rest), Appends-trans a b c x front before out)))
 
 kept : (a b : Option (List ℕ)) → Keeps a b → Appends a b []
 kept a b keeps = Appends-kept a a b [] (Appends-nil a) keeps
 
-none-same : (a b : SinkState) → b ≡ a → Appends a.written b.written []
+pub none-same : (a b : SinkState) → b ≡ a → Appends a.written b.written []
 none-same a b same = subst (λ (s : SinkState). Appends a.written s.written []) (sym same) (Appends-nil a.written)
+
+-- ---- two texts, one after another
+
+pub then_printed : (a b c : Sinks) (x y told more : List ℕ) (lost : Option Lost) → ArePrinted a b x told None → ArePrinted b c y more lost
+    → ArePrinted a c (x ++ y) (told ++ more) lost
+then_printed a b c x y told more None (first, first_told) (out, errors) = (
+  Appends-trans a.out.written b.out.written c.out.written x y first out,
+  Appends-trans a.errors.written b.errors.written c.errors.written told more first_told errors,
+)
+then_printed a b c x y told more (Some lost) (first, first_told) (out, errors, why) = (
+  front-second a.out.written b.out.written c.out.written x y first out,
+  front-second a.errors.written b.errors.written c.errors.written told more first_told errors,
+  why,
+)
+
+-- it stopped in the first of two
+pub stopped_printed : (a b : Sinks) (x y told more : List ℕ) (lost : Lost) → ArePrinted a b x told (Some lost)
+    → ArePrinted a b (x ++ y) (told ++ more) (Some lost)
+stopped_printed a b x y told more lost (out, errors, why) =
+    (front-first a.out.written b.out.written x y out, front-first a.errors.written b.errors.written told more errors, why)
 
 -- ---- one thing
 
--- It was printed.
-record IsOut (reasons : Bool) (old new : Sinks) (handed : Handed) : Type 0 where
-  pub out : Appends old.out.written new.out.written (text_of reasons handed)
-  pub errors : Appends old.errors.written new.errors.written (told_of handed)
+-- A text was put on the output, and another printed; or it stopped there.
+pub line_printed : (old new : Sinks) (text told : List ℕ) (lost : Option Lost) → IsLinePut old.out new.out text lost
+    → Appends old.errors.written new.errors.written told → ArePrinted old new text told lost
+line_printed old new text told None put errors = (put.bytes, errors)
+line_printed old new text told (Some Device) broke errors =
+    (broke.front, front-all old.errors.written new.errors.written told errors, inr (inl broke.failed))
+line_printed old new text told (Some Memory) same errors =
+    (front-none old.out.written new.out.written text (none-same old.out new.out same), front-all old.errors.written new.errors.written told errors, inl refl)
 
-failure_out : (reasons : Bool) (old new : Sinks) (name : List ℕ) (reason : FontError) → PutsFailure old new name reason None → IsOut reasons old new (failure name reason)
-failure_out reasons old new name (Refused code) (put, same) = record { out = put.bytes; errors = none-same old.errors new.errors same }
-failure_out reasons old new name (Unchecked why) (same, put) = record { out = none-same old.out new.out same; errors = put.bytes }
+failure_printed : (old new : Sinks) (name : List ℕ) (reason : FontError) (lost : Option Lost) → PutsFailure old new name reason lost
+    → ArePrinted old new (failure_text name reason) (failure_told name reason) lost
+failure_printed old new name (Refused code) None (put, same) = (put.bytes, none-same old.errors new.errors same)
+failure_printed old new name (Refused code) (Some Device) (broke, same) =
+    line_printed old new (failure_text name (Refused code)) [] (Some Device) broke (none-same old.errors new.errors same)
+failure_printed old new name (Refused code) (Some Memory) (never, same) = absurd never
+failure_printed old new name (Unchecked why) None (same, put) = (none-same old.out new.out same, put.bytes)
+failure_printed old new name (Unchecked why) (Some Device) (same, broke) =
+    (front-all old.out.written new.out.written [] (none-same old.out new.out same), broke.front, inr (inr broke.failed))
+failure_printed old new name (Unchecked why) (Some Memory) (same, never) = absurd never
 
-one_out : (reasons : Bool) (old new : Sinks) (handed : Handed) → PlainTakes reasons old new handed None → IsOut reasons old new handed
-one_out reasons old new (line name font waivers fault) (put, same) = record { out = put.bytes; errors = none-same old.errors new.errors same }
-one_out reasons old new (failure name reason) put = failure_out reasons old new name reason put
-one_out reasons old new (done name found) (flushed, same) =
-    record { out = kept old.out.written new.out.written flushed.bytes; errors = none-same old.errors new.errors same }
-
--- Or a device failed there, or memory ran out.
-record IsHalf (reasons : Bool) (old new : Sinks) (handed : Handed) (lost : Lost) : Type 0 where
-  pub out : AppendsFront old.out.written new.out.written (text_of reasons handed)
-  pub errors : AppendsFront old.errors.written new.errors.written (told_of handed)
-  pub failed : (lost ≡ Memory) ⊎ (new.out.failed ≡ true) ⊎ (new.errors.failed ≡ true)
-
-out_half : (reasons : Bool) (old new : Sinks) (handed : Handed) (text : List ℕ) (reason : Lost) → IsPut old.out new.out text (Some reason)
-    → new.errors ≡ old.errors → text_of reasons handed ≡ text → told_of handed ≡ [] → IsHalf reasons old new handed reason
-out_half reasons old new handed text Device broke same is none = record {
-  out = subst (AppendsFront old.out.written new.out.written) (sym is) broke.front;
-  errors = subst (AppendsFront old.errors.written new.errors.written) (sym none)
-      (front-all old.errors.written new.errors.written [] (none-same old.errors new.errors same));
-  failed = inr (inl broke.failed);
-}
-out_half reasons old new handed text Memory never same is none = absurd never
-
-errors_half : (reasons : Bool) (old new : Sinks) (handed : Handed) (text : List ℕ) (reason : Lost) → IsPut old.errors new.errors text (Some reason)
-    → new.out ≡ old.out → told_of handed ≡ text → text_of reasons handed ≡ [] → IsHalf reasons old new handed reason
-errors_half reasons old new handed text Device broke same is none = record {
-  out = subst (AppendsFront old.out.written new.out.written) (sym none)
-      (front-all old.out.written new.out.written [] (none-same old.out new.out same));
-  errors = subst (AppendsFront old.errors.written new.errors.written) (sym is) broke.front;
-  failed = inr (inr broke.failed);
-}
-errors_half reasons old new handed text Memory never same is none = absurd never
-
-failure_half : (reasons : Bool) (old new : Sinks) (name : List ℕ) (reason : FontError) (lost : Lost) → PutsFailure old new name reason (Some lost)
-    → IsHalf reasons old new (failure name reason) lost
-failure_half reasons old new name (Refused code) lost (put, same) = out_half reasons old new (failure name (Refused code)) _ lost put same refl refl
-failure_half reasons old new name (Unchecked why) lost (same, put) = errors_half reasons old new (failure name (Unchecked why)) _ lost put same refl refl
-
-line_half : (reasons : Bool) (old new : Sinks) (handed : Handed) (text : List ℕ) (reason : Lost) → IsLinePut old.out new.out text (Some reason)
-    → new.errors ≡ old.errors → text_of reasons handed ≡ text → told_of handed ≡ [] → IsHalf reasons old new handed reason
-line_half reasons old new handed text Device broke same is none = out_half reasons old new handed text Device broke same is none
-line_half reasons old new handed text Memory kept_out same is none = record {
-  out = front-none old.out.written new.out.written (text_of reasons handed) (none-same old.out new.out kept_out);
-  errors = subst (AppendsFront old.errors.written new.errors.written) (sym none)
-      (front-all old.errors.written new.errors.written [] (none-same old.errors new.errors same));
-  failed = inl refl;
-}
-
-one_half : (reasons : Bool) (old new : Sinks) (handed : Handed) (lost : Lost) → PlainTakes reasons old new handed (Some lost)
-    → IsHalf reasons old new handed lost
-one_half reasons old new (line name font waivers fault) lost (put, same) =
-    line_half reasons old new (line name font waivers fault) _ lost put same refl refl
-one_half reasons old new (failure name reason) lost put = failure_half reasons old new name reason lost put
-one_half reasons old new (done name found) Device (broke, same) = record {
-  out = front-all old.out.written new.out.written [] (kept old.out.written new.out.written broke.bytes);
-  errors = front-all old.errors.written new.errors.written [] (none-same old.errors new.errors same);
-  failed = inr (inl broke.failed);
-}
-one_half reasons old new (done name found) Memory (never, same) = absurd never
+one : (reasons : Bool) (old new : Sinks) (handed : Handed) (lost : Option Lost) → PlainTakes reasons old new handed lost
+    → ArePrinted old new (text_of reasons handed) (told_of handed) lost
+one reasons old new (line name font waivers fault) lost (put, same) =
+    line_printed old new (fault_text reasons name font waivers fault) [] lost put (none-same old.errors new.errors same)
+one reasons old new (failure name reason) lost put = failure_printed old new name reason lost put
+one reasons old new (done name found) None (flushed, same) =
+    (kept old.out.written new.out.written flushed.bytes, none-same old.errors new.errors same)
+one reasons old new (done name found) (Some Device) (broke, same) = (
+  front-all old.out.written new.out.written [] (kept old.out.written new.out.written broke.bytes),
+  front-all old.errors.written new.errors.written [] (none-same old.errors new.errors same),
+  inr (inl broke.failed),
+)
+one reasons old new (done name found) (Some Memory) (never, same) = absurd never
 
 -- ---- all of them
 
-more_written : (reasons : Bool) (a b c : Sinks) (handed : Handed) (more : List Handed) (lost : Option Lost) → IsOut reasons a b handed → IsWritten reasons b c more lost
-    → IsWritten reasons a c (handed ∷ more) lost
-more_written reasons a b c handed more None one (out, errors) = (
-  Appends-trans a.out.written b.out.written c.out.written (text_of reasons handed) (texts reasons more) one.out out,
-  Appends-trans a.errors.written b.errors.written c.errors.written (told_of handed) (tellings more) one.errors errors,
-)
-more_written reasons a b c handed more (Some reason) one (out, errors, failed) = (
-  front-second a.out.written b.out.written c.out.written (text_of reasons handed) (texts reasons more) one.out out,
-  front-second a.errors.written b.errors.written c.errors.written (told_of handed) (tellings more) one.errors errors,
-  failed,
-)
+pub none_printed : (old new : Sinks) (lost : Option Lost) → new ≡ old → lost ≡ None → ArePrinted old new [] [] lost
+none_printed old new lost same none =
+    subst (ArePrinted old new [] []) (sym none)
+    (subst (λ (d : Sinks). ArePrinted old d [] [] None) (sym same) (Appends-nil old.out.written, Appends-nil old.errors.written))
 
 pub written : PlainIsWritten
-written reasons old new [] lost (same, none) =
-    subst (IsWritten reasons old new []) (sym none)
-    (subst (λ (d : Sinks). IsWritten reasons old d [] None) (sym same) (Appends-nil old.out.written, Appends-nil old.errors.written))
+written reasons old new [] lost (same, none) = none_printed old new lost same none
 written reasons old new (handed ∷ more) lost (inl (next, took, rest)) =
-    more_written reasons old next new handed more lost (one_out reasons old next handed took) (written reasons next new more lost rest)
+    then_printed old next new (text_of reasons handed) (texts reasons more) (told_of handed) (tellings more) lost
+    (one reasons old next handed None took) (written reasons next new more lost rest)
 written reasons old new (handed ∷ more) lost (inr (reason, took, is)) =
-    let half = one_half reasons old new handed reason took in
-    subst (IsWritten reasons old new (handed ∷ more)) (sym is) (
-      front-first old.out.written new.out.written (text_of reasons handed) (texts reasons more) half.out,
-      front-first old.errors.written new.errors.written (told_of handed) (tellings more) half.errors,
-      half.failed,
-    )
+    subst (ArePrinted old new (texts reasons (handed ∷ more)) (tellings (handed ∷ more))) (sym is)
+    (stopped_printed old new (text_of reasons handed) (texts reasons more) (told_of handed) (tellings more) reason
+    (one reasons old new handed (Some reason) took))
 
 pub flushed : PlainIsFlushed
 flushed reasons old new [] name found (inl (next, took, (same, none))) =

@@ -8,7 +8,7 @@ use Rattle.t1_rules.specs.Book.{code_of}
 use Rattle.t1_rules.specs.declared.rule.Rule.{Rule}
 use Rattle.t1_run.specs.Opening.{Sinks}
 use Rattle.t1_many.specs.Handing.{Handed, HandsOn, done}
-use Rattle.t1_many.specs.Plain.{IsWritten, PlainTakes}
+use Rattle.t1_many.specs.Plain.{ArePrinted, PlainTakes, tellings, texts}
 use Rattle.t1_summary.specs.declared.found.FontClass.{FontClass}
 use Rattle.t1_many.specs.declared.policy.Lost.{Lost}
 use Rattle.t1_many.specs.Choice.{Choice, is_told, letters_of, picks}
@@ -37,7 +37,7 @@ KindsNameTheirRules = (l : FaultLineValue) → rule_of (kind_of l) ≡ code_of l
 abbrev pub PlainIsWritten : Type 0
 PlainIsWritten =
     (reasons : Bool) (old new : Sinks) (handed : List Handed) (lost : Option Lost) → HandsOn (PlainTakes reasons) old new handed lost
-    → IsWritten reasons old new handed lost
+    → ArePrinted old new (texts reasons handed) (tellings handed) lost
 
 -- After the last font nothing waits to be flushed.
 abbrev pub PlainIsFlushed : Type 0

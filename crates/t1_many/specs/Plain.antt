@@ -87,11 +87,9 @@ PlainTakes reasons old new (line name font waivers fault) lost =
 PlainTakes reasons old new (failure name reason) lost = PutsFailure old new name reason lost
 PlainTakes reasons old new (done name found) lost = IsFlushed old.out new.out lost × (new.errors ≡ old.errors)
 
--- All of these were printed; or a write failed, or memory ran out, and a prefix of them was.
-abbrev pub IsWritten : Bool → Sinks → Sinks → List Handed → Option Lost → Type 0
-IsWritten reasons old new handed None =
-    Appends old.out.written new.out.written (texts reasons handed) × Appends old.errors.written new.errors.written (tellings handed)
-IsWritten reasons old new handed (Some lost) =
-    AppendsFront old.out.written new.out.written (texts reasons handed)
-    × AppendsFront old.errors.written new.errors.written (tellings handed)
+-- One text was written on the output, and another on standard error; or a write failed, or memory ran out, and a prefix of each was.
+abbrev pub ArePrinted : Sinks → Sinks → List ℕ → List ℕ → Option Lost → Type 0
+ArePrinted old new text told None = Appends old.out.written new.out.written text × Appends old.errors.written new.errors.written told
+ArePrinted old new text told (Some lost) =
+    AppendsFront old.out.written new.out.written text × AppendsFront old.errors.written new.errors.written told
     × ((lost ≡ Memory) ⊎ (new.out.failed ≡ true) ⊎ (new.errors.failed ≡ true))

@@ -8,6 +8,7 @@ ghost use Rattle.t1_reason_texts.specs.Texts.{line_behind};
 ghost use Rattle.t1_report.specs.Faults.{fault_value};
 ghost use Rattle.t1_report.specs.Lines.{IsInFont, line_of};
 ghost use Rattle.t1_run.specs.Failures.{refusal_line};
+ghost use Rattle.t1_run.specs.Opening.{sinks_by};
 ghost use Rattle.t1_many.specs.Handing.{lost_of};
 
 use crate::font_error::{FontError, Obstacle};
@@ -20,6 +21,7 @@ use t1_io::{Sink, put_parts};
 use t1_reason_texts::ShortText;
 use t1_reasons::ReportReasons;
 use t1_report::{Fault, Waivers, write_fault};
+use t1_run::Streams;
 use t1_summary::FontClass;
 
 /// Lines and refusals on the output, all else on standard error, each after the font's name. Where reasons are reported, each
@@ -28,16 +30,13 @@ use t1_summary::FontClass;
 pub struct Plain<W: Sink, E: Sink> {
     /// Whether reasons are reported.
     pub reasons: bool,
-    /// Standard output.
-    pub out: W,
-    /// Standard error.
-    pub errors: E,
+    /// Where they are put.
+    pub streams: Streams<W, E>,
 }
 
 impl<W: Sink, E: Sink> Printer for Plain<W, E> {
     ghost takes = { λ old new handed lost. (new.reasons ≡ old.reasons) × PlainTakes old.reasons
-        (record { out = W.state old.out; errors = E.state old.errors })
-        (record { out = W.state new.out; errors = E.state new.errors }) handed lost };
+        (sinks_by W.state E.state old.streams) (sinks_by W.state E.state new.streams) handed lost };
 
     fn line(
         &mut self,
@@ -48,19 +47,19 @@ impl<W: Sink, E: Sink> Printer for Plain<W, E> {
         reasons: &mut ReportReasons<'_>,
     ) -> Result<(), Lost> {
         let text = told_text(self.reasons, font, waivers, fault, reasons)?;
-        put_line(&mut self.out, name, font, waivers, fault)?;
-        put_behind(&mut self.out, text)
+        put_line(&mut self.streams.out, name, font, waivers, fault)?;
+        put_behind(&mut self.streams.out, text)
     }
 
     fn failure(&mut self, name: &str, reason: FontError) -> Result<(), Lost> {
         match reason {
-            FontError::Refused(code) => put_refusal(&mut self.out, name, code),
-            FontError::Unchecked(why) => put_unchecked(&mut self.errors, name, why),
+            FontError::Refused(code) => put_refusal(&mut self.streams.out, name, code),
+            FontError::Unchecked(why) => put_unchecked(&mut self.streams.errors, name, why),
         }
     }
 
     fn done(&mut self, _name: &str, _found: FontClass) -> Result<(), Lost> {
-        self.out.flush()?;
+        self.streams.out.flush()?;
         Ok(())
     }
 }

@@ -8,7 +8,7 @@ use t1_answer_all::{Left, answer, replace_files};
 use t1_forms::Page;
 use t1_io::{Broken, Out};
 use t1_options::{Options, Request, options};
-use t1_run::Status;
+use t1_run::{Status, Streams};
 use t1_waiving::{FontWaivers, Kept};
 
 /// Words, and what is returned for them.
@@ -60,16 +60,12 @@ fn is_answered<'a>(alloc: Global, fonts: &'a [File<'a>], case: &Case<'_>) -> boo
     let mut files = Files::new(alloc, fonts, WAIVERS).with_texts(TEXTS, FOLDERS);
     let mut text = Vec::new(alloc);
     let mut told = Vec::new(alloc);
-    let status = answer(
-        alloc,
-        case.words,
-        b"t1check-all\n",
-        PAGES,
-        &mut files,
-        Out::new(&mut text),
-        Out::new(&mut told),
-    )
-    .status;
+    let streams = Streams {
+        out: Out::new(&mut text),
+        errors: Out::new(&mut told),
+    };
+    let version = b"t1check-all\n";
+    let status = answer(alloc, case.words, version, PAGES, &mut files, streams).value;
     status == case.status
         && text.as_slice() == case.text
         && told.as_slice() == case.told

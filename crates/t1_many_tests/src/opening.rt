@@ -8,6 +8,7 @@ use t1_char::Edition;
 use t1_io::Out;
 use t1_many::{Plain, ReportAll, WaiverFiles, check_all};
 use t1_rules::Rule;
+use t1_run::Streams;
 
 /// The names of fonts, and what comes of their check.
 #[derive(Clone, Copy)]
@@ -112,8 +113,10 @@ fn check(
         rules: only(&[Rule::P03]),
         printer: Plain {
             reasons: false,
-            out: Out::new(text),
-            errors: Out::new(told),
+            streams: Streams {
+                out: Out::new(text),
+                errors: Out::new(told),
+            },
         },
     };
     let _ = check_all(alloc, names, beside, files, Edition::One, &mut telling);

@@ -10,6 +10,7 @@ use t1_char::Edition;
 use t1_io::{In, Out};
 use t1_many::{FontFiles, Plain, ReportAll, WaiverFiles, check_all};
 use t1_rules::all_rules;
+use t1_run::Streams;
 
 /// A reader that returns up to so many bytes a read, and counts both. After its last byte is the end.
 #[derive(Drop)]
@@ -122,8 +123,10 @@ fn is_read_so(alloc: Global, case: &Case<'_>) -> Result<bool, AllocError> {
         rules: only(all_rules()),
         printer: Plain {
             reasons: false,
-            out: Out::new(&mut text),
-            errors: Out::new(&mut told),
+            streams: Streams {
+                out: Out::new(&mut text),
+                errors: Out::new(&mut told),
+            },
         },
     };
     let _ = check_all(

@@ -12,6 +12,6 @@ appended old new text n appends start end =
     subst (λ (o : Option (List ℕ)). Appends (Some []) o text) end (subst (λ (o : Option (List ℕ)). Appends o new text) start appends)
 
 pub object_taken : {T : Type 0} (old new : Formatting T) (told : ToldValue) (n : List ℕ) → Gives object_written old new told None
-    → old.out.written ≡ Some [] → new.out.written ≡ Some n → n ≡ object_line told
-object_taken old new told n (given (wrote, same)) start end = appended old.out.written new.out.written (object_line told) n wrote.bytes start end
+    → old.sinks.out.written ≡ Some [] → new.sinks.out.written ≡ Some n → n ≡ object_line told
+object_taken old new told n (given (wrote, same)) start end = appended old.sinks.out.written new.sinks.out.written (object_line told) n wrote.bytes start end
 object_taken old new told n (no_memory lost formatter out) start end = cc

@@ -19,6 +19,7 @@ use t1_many::Printer;
 use t1_printers::Formatted;
 use t1_reasons::ReportReasons;
 use t1_report::{Fault, Waivers};
+use t1_run::Streams;
 
 /// Writes one part of a document after another, each in the place of the one before.
 #[derive(Drop)]
@@ -38,7 +39,7 @@ impl<'a> DocumentWriter<'a> {
         request: &'a DocumentRequest<'a>,
         reasons: ReportReasons<'a>,
     ) -> Result<DocumentWriter<'a>, AllocError>
-        ensures text { IfOk result (λ writer. writer.results.out.bytes.items ≡ opening (pages_value request.now.pages)) }
+        ensures text { IfOk result (λ writer. writer.results.streams.out.bytes.items ≡ opening (pages_value request.now.pages)) }
         ensures state { IfOk result (λ writer. sarif_state writer.results.formatter ≡ begun (pages_value request.now.pages)) }
         ensures request { IfOk result (λ writer. writer.request.now ≡ request.now) }
         ensures reasons { IfOk result (λ writer. writer.reasons ≡ reasons.entry) }
@@ -47,10 +48,11 @@ impl<'a> DocumentWriter<'a> {
         let Ok(sarif) = Sarif::begin(alloc, &mut out, request.pages) else {
             return Err(AllocError);
         };
+        let errors = Text::new(alloc);
         Ok(DocumentWriter {
             alloc,
             request,
-            results: Formatted::new(alloc, sarif, out, Text::new(alloc), true),
+            results: Formatted::new(alloc, sarif, Streams { out, errors }, true),
             reasons,
         })
     }
@@ -84,7 +86,7 @@ impl<'a> DocumentWriter<'a> {
         Ok(DocumentWriter {
             alloc,
             request,
-            results: Formatted::new(alloc, sarif, out, errors, true),
+            results: Formatted::new(alloc, sarif, Streams { out, errors }, true),
             reasons,
         })
     }
@@ -98,7 +100,7 @@ impl<'a> DocumentWriter<'a> {
     ) -> Result<(), AllocError>
         requires in_font { IsInFont font.now waivers.now (fault_value fault.now) }
         requires font { self.old.reasons.value ≡ font.now }
-        ensures text { IfOk result (λ _. self.new.results.out.bytes.items
+        ensures text { IfOk result (λ _. self.new.results.streams.out.bytes.items
             ≡ result_of (subject_for self.old.request.now self.old.reasons waivers.now)
             (sarif_state self.old.results.formatter) (fault_value fault.now)) }
         ensures state { IfOk result (λ _. sarif_state self.new.results.formatter
@@ -107,7 +109,7 @@ impl<'a> DocumentWriter<'a> {
         ensures request { self.new.request.now ≡ self.old.request.now }
         ensures reasons { self.new.reasons ≡ self.old.reasons }
     {
-        self.results.out.clear();
+        self.results.streams.out.clear();
         match self
             .results
             .line(self.request.name, font, waivers, fault, &mut self.reasons)
@@ -121,9 +123,8 @@ impl<'a> DocumentWriter<'a> {
     pub(crate) fn end(self) -> Result<Text, AllocError>
         ensures { IfOk result (λ text. text.bytes.items ≡ closing (sarif_state self.entry.results.formatter)) }
     {
-        let (sarif, _, _) = self.results.into_parts();
         let mut text = Text::new(self.alloc);
-        match sarif.end(self.alloc, &mut text) {
+        match self.results.formatter.end(self.alloc, &mut text) {
             Ok(()) => Ok(text),
             Err(_) => Err(AllocError),
         }
@@ -131,9 +132,9 @@ impl<'a> DocumentWriter<'a> {
 
     /// What is written.
     pub(crate) fn as_bytes(&self) -> &[u8]
-        ensures { result.now ≡ self.now.results.out.bytes.items }
+        ensures { result.now ≡ self.now.results.streams.out.bytes.items }
     {
-        self.results.out.as_bytes()
+        self.results.streams.out.as_bytes()
     }
 
     /// How many results there were of each code since the unit of the last one began.

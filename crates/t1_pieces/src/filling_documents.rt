@@ -62,7 +62,7 @@ fn open<'a>(
     ensures opened { IfOk result (λ writer. (state : SarifState) (mark : Marks)
         → StandsFor (subject_for request.now walk.old.font waivers.now) reached.now state mark
         → (sarif_state writer.results.formatter ≡ state) × (walk.new.mark ≡ mark)) }
-    ensures text { IfOk result (λ writer. reached.now.stage ≡ Nothing → writer.results.out.bytes.items ≡ opening (pages_value request.now.pages)) }
+    ensures text { IfOk result (λ writer. reached.now.stage ≡ Nothing → writer.results.streams.out.bytes.items ≡ opening (pages_value request.now.pages)) }
     ensures request { IfOk result (λ writer. writer.request.now ≡ request.now) }
     ensures reasons { IfOk result (λ writer. writer.reasons ≡ reasons.entry) }
     ensures font { walk.new.font ≡ walk.old.font }
@@ -97,7 +97,7 @@ fn fill_opened(
     requires font { walk.font.value ≡ font.now }
     requires reasons { writer.reasons ≡ walk.font }
     requires waivers { walk.waivers ≡ waivers.now }
-    requires text { reached.old.stage ≡ Nothing → writer.results.out.bytes.items ≡ opening (pages_value writer.request.now.pages) }
+    requires text { reached.old.stage ≡ Nothing → writer.results.streams.out.bytes.items ≡ opening (pages_value writer.request.now.pages) }
     ensures piece { StandsFor (subject_for writer.entry.request.now walk.entry.font waivers.now) reached.old
         (sarif_state writer.entry.results.formatter) walk.entry.mark
         → IsPartOf (start_at (subject_for writer.entry.request.now walk.entry.font waivers.now) reached.old

@@ -16,6 +16,7 @@ use t1_printers::{Formatted, JsonLines};
 use t1_reasons::ReportReasons;
 use t1_report::{Fault, Waivers, write_fault};
 use t1_rules::Sidebearings;
+use t1_run::Streams;
 
 /// Writes one line after another, each in the place of the one before.
 #[derive(Drop)]
@@ -39,11 +40,13 @@ impl<'a> LineWriter<'a> {
         ensures form { result.form ≡ form.entry }
         ensures reasons { result.reasons ≡ checked font.now sidebearings.now.edition }
     {
-        let out = Text::new(alloc);
-        let errors = Text::new(alloc);
+        let streams = Streams {
+            out: Text::new(alloc),
+            errors: Text::new(alloc),
+        };
         LineWriter {
             form,
-            objects: Formatted::new(alloc, JsonLines { clean: false }, out, errors, true),
+            objects: Formatted::new(alloc, JsonLines { clean: false }, streams, true),
             reasons: ReportReasons::new(font, sidebearings),
         }
     }
@@ -57,14 +60,14 @@ impl<'a> LineWriter<'a> {
     ) -> Result<(), AllocError>
         requires in_font { IsInFont font.now waivers.now (fault_value fault.now) }
         requires font { self.old.reasons.value ≡ font.now }
-        ensures line { IfOk result (λ _. self.new.objects.out.bytes.items
+        ensures line { IfOk result (λ _. self.new.objects.streams.out.bytes.items
             ≡ line_as self.old.form self.old.reasons waivers.now (fault_value fault.now)) }
         ensures form { self.new.form ≡ self.old.form }
         ensures reasons { self.new.reasons ≡ self.old.reasons }
     {
-        self.objects.out.clear();
+        self.objects.streams.out.clear();
         let is_written = match self.form {
-            Form::Text => write_fault(&mut self.objects.out, font, waivers, fault).is_ok(),
+            Form::Text => write_fault(&mut self.objects.streams.out, font, waivers, fault).is_ok(),
             Form::Object(name) => self
                 .objects
                 .line(name, font, waivers, fault, &mut self.reasons)
@@ -75,8 +78,8 @@ impl<'a> LineWriter<'a> {
 
     /// What is written.
     pub(crate) fn as_bytes(&self) -> &[u8]
-        ensures { result.now ≡ self.now.objects.out.bytes.items }
+        ensures { result.now ≡ self.now.objects.streams.out.bytes.items }
     {
-        self.objects.out.as_bytes()
+        self.objects.streams.out.as_bytes()
     }
 }

@@ -7,7 +7,8 @@ use Rattle.t1_forms.specs.declared.sarif.Sarif.{Sarif}
 use Rattle.t1_io.specs.Devices.{AppendsFront}
 use Rattle.t1_many.specs.Handing.{Handed, HandsOn, done, failure, line}
 use Rattle.t1_many.specs.declared.policy.Lost.{Lost}
-use Rattle.t1_printers.proofs.Streams.{Moves, afters, front-first, kept_at_last, out-none, out-put, seen, takes, written}
+use Rattle.t1_many.proofs.PlainLines.{front-first}
+use Rattle.t1_printers.proofs.Streams.{Moves, afters, kept_at_last, out-none, out-put, seen, takes, written}
 use Rattle.t1_printers.specs.Documents.{IsDocumentOf, all_values, telling_written}
 use Rattle.t1_printers.specs.Formatting.{FormattedTakes, Formatting, Output, nothing_ends, told_fault}
 use Rattle.t1_printers.specs.Streams.{IsKept, Stream, failure_value, texts_of}
@@ -62,21 +63,17 @@ module _ (reasons : Bool) where
       → HandsOn (FormattedTakes (record { reasons = reasons; writes = telling_written; ends = nothing_ends })) old new handed lost
       → IsDocumentOf reasons old new handed lost
   document old new handed None hands =
-      let (out, errors) = written (stream reasons) sarif_state telling_written nothing_ends writing ending old new handed None hands in
       let text : List ℕ = texts_of (stream reasons) (sarif_state old.formatter) handed in (
-        (
-          text,
-          ap (λ (state : SarifState). text ++ closing state)
-              (kept_at_last (stream reasons) sarif_state telling_written nothing_ends writing ending old new handed hands)
-              ∙ texts-are (sarif_state old.formatter) handed,
-          out,
-        ),
-        errors,
+        text,
+        ap (λ (state : SarifState). text ++ closing state)
+            (kept_at_last (stream reasons) sarif_state telling_written nothing_ends writing ending old new handed hands)
+            ∙ texts-are (sarif_state old.formatter) handed,
+        written (stream reasons) sarif_state telling_written nothing_ends writing ending old new handed None hands,
       )
   document old new handed (Some reason) hands =
       let (out, errors, why) = written (stream reasons) sarif_state telling_written nothing_ends writing ending old new handed (Some reason) hands in (
-        subst (AppendsFront old.out.written new.out.written) (texts-are (sarif_state old.formatter) handed)
-            (front-first old.out.written new.out.written (texts_of (stream reasons) (sarif_state old.formatter) handed)
+        subst (AppendsFront old.sinks.out.written new.sinks.out.written) (texts-are (sarif_state old.formatter) handed)
+            (front-first old.sinks.out.written new.sinks.out.written (texts_of (stream reasons) (sarif_state old.formatter) handed)
             (closing (last (sarif_state old.formatter) handed)) out),
         errors,
         why,

@@ -38,7 +38,7 @@ module _ {F : Type 0} (told_with : F → Bool) (view : F → Formatting JsonLine
       (view old) (view new) handed lost (seen told_with view object_written clean_written old new handed lost hands)
 
   pub seen-flushed : (old new : F) (handed : List Handed) (name : List ℕ) (found : FontClass)
-      → HandsOn (takes told_with view object_written clean_written) old new (handed ++ done name found ∷ []) None → (view new).out.flushed ≡ true
+      → HandsOn (takes told_with view object_written clean_written) old new (handed ++ done name found ∷ []) None → (view new).sinks.out.flushed ≡ true
   seen-flushed old new handed name found hands =
       flushed (object_stream (told_with old)) (λ json. json) object_written clean_written (writing (told_with old)) (ending (told_with old))
       (view old) (view new) handed name found

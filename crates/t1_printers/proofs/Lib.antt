@@ -6,6 +6,7 @@ pub mod Fitting
 pub mod FontCases
 pub mod Greatest
 pub mod GroupTails
+pub mod HandedSeen
 pub mod HeldGroups
 pub mod JsonTexts
 pub mod Kept

@@ -5,34 +5,18 @@ use Rattle.std.proofs.lemmas.Option.{none-some}
 use Rattle.std.specs.Io.KnownBytes.{Appends}
 use Rattle.t1_forms.specs.Tellings.{ToldValue}
 use Rattle.t1_io.specs.Devices.{AppendsFront, SinkState}
+use Rattle.t1_many.proofs.PlainLines.{front-all, front-none, line_printed, none-same, none_printed, stopped_printed, then_printed}
 use Rattle.t1_many.specs.FontErrors.{reason_of}
 use Rattle.t1_many.specs.Handing.{Handed, HandsOn, done, failure, line}
-use Rattle.t1_many.specs.Plain.{IsFlushed, IsLinePut, tellings, told_of}
+use Rattle.t1_many.specs.Plain.{ArePrinted, IsFlushed, IsLinePut, tellings, told_of}
 use Rattle.t1_many.specs.Unchecked.{unchecked_line}
 use Rattle.t1_many.specs.declared.font_error.FontError.TheVariants.{Refused, Unchecked}
 use Rattle.t1_many.specs.declared.policy.Lost.{Lost}
 use Rattle.t1_many.specs.declared.policy.Lost.TheVariants.{Device, Memory}
+use Rattle.t1_printers.proofs.HandedSeen.{handed_seen}
 use Rattle.t1_printers.specs.Formatting.{EndsFont, Form, FormattedTakes, Formatting, Gives, GivesUnchecked, Output, ended, given, no_memory, output_of, told, told_fault, told_refusal, told_unchecked, unended, untold}
 use Rattle.t1_printers.specs.Streams.{IsKept, IsStreamed, Stream, after_one, text_of_one, texts_of}
 use Rattle.t1_summary.specs.declared.found.FontClass.{FontClass}
-
--- ---- prefixes
-
-pub front-all : (a b : Option (List ℕ)) (x : List ℕ) → Appends a b x → AppendsFront a b x
-front-all a b x all = (x, ([], (sym (append-nil x), all)))
-
-pub front-none : (a b : Option (List ℕ)) (x : List ℕ) → Appends a b [] → AppendsFront a b x
-front-none a b x none = ([], (x, (refl, none)))
-
-pub front-first : (a b : Option (List ℕ)) (x y : List ℕ) → AppendsFront a b x → AppendsFront a b (x ++ y)
-front-first a b x y (front, (rest, (split, out))) = (front, (rest ++ y, (ap (λ l. l ++ y) split ∙ append_assoc front rest y, out)))
-
-pub front-second : (a b c : Option (List ℕ)) (x y : List ℕ) → Appends a b x → AppendsFront b c y → AppendsFront a c (x ++ y)
-front-second a b c x y before (front, (rest, (split, out))) =
-    (x ++ front, (rest, (ap (λ l. x ++ l) split ∙ sym (append_assoc x front rest), Appends-trans a b c x front before out)))
-
-pub none-same : (a b : SinkState) → b ≡ a → Appends a.written b.written []
-none-same a b same = subst (λ (s : SinkState). Appends a.written s.written []) (sym same) (Appends-nil a.written)
 
 -- ---- the output
 
@@ -69,32 +53,25 @@ module _ {T S : Type 0} (stream : Stream S) (state : T → S) (writes : Output T
   abbrev form : Form T
   form = record { reasons = stream.reasons; writes = writes; ends = ends }
 
-  -- This was written, kept and reported, or prefixes of it were written and reported where it stopped.
+  -- This was printed, and this is kept.
   abbrev IsStep : Formatting T → Formatting T → List ℕ → S → List ℕ → Option Lost → Type 0
-  IsStep old new text kept tells None =
-      Appends old.out.written new.out.written text × (state new.formatter ≡ kept) × Appends old.errors.written new.errors.written tells
-  IsStep old new text kept tells (Some lost) =
-      AppendsFront old.out.written new.out.written text × AppendsFront old.errors.written new.errors.written tells
-      × ((lost ≡ Memory) ⊎ (new.out.failed ≡ true) ⊎ (new.errors.failed ≡ true))
+  IsStep old new text kept tells lost = ArePrinted old.sinks new.sinks text tells lost × IsKept (state new.formatter) kept lost
 
   moved : (old new : Formatting T) (text : List ℕ) (kept : S) (tells : List ℕ) (lost : Option Lost)
-      → Moves state (output_of old) (output_of new) text kept lost → Appends old.errors.written new.errors.written tells
+      → Moves state (output_of old) (output_of new) text kept lost → Appends old.sinks.errors.written new.sinks.errors.written tells
       → IsStep old new text kept tells lost
-  moved old new text kept tells None (out, is) errors = (out, is, errors)
+  moved old new text kept tells None (out, is) errors = ((out, errors), is)
   moved old new text kept tells (Some lost) ((front, why), is) errors =
-      (front, front-all old.errors.written new.errors.written tells errors, cause lost new.out new.errors why)
+      ((front, front-all old.sinks.errors.written new.sinks.errors.written tells errors, cause lost new.sinks.out new.sinks.errors why), is)
 
   given-one : (old new : Formatting T) (t : ToldValue) (tells : List ℕ) (lost : Option Lost) → Gives writes old new t lost
-      → Appends old.errors.written new.errors.written tells
+      → Appends old.sinks.errors.written new.sinks.errors.written tells
       → IsStep old new (stream.telling (state old.formatter) t) (stream.after (state old.formatter) t) tells lost
   given-one old new t tells lost (given wrote) errors =
       moved old new _ _ tells lost (writing (output_of old) (output_of new) t lost wrote) errors
   given-one old new t tells lost (no_memory is formatter same) errors =
-      subst (IsStep old new (stream.telling (state old.formatter) t) (stream.after (state old.formatter) t) tells) (sym is) (
-        front-none old.out.written new.out.written (stream.telling (state old.formatter) t) (none-same old.out new.out same),
-        front-all old.errors.written new.errors.written tells errors,
-        inl refl,
-      )
+      subst (IsStep old new (stream.telling (state old.formatter) t) (stream.after (state old.formatter) t) tells) (sym is)
+      (line_printed old.sinks new.sinks (stream.telling (state old.formatter) t) tells (Some Memory) same errors, tt)
 
   unchecked-one : (old new : Formatting T) (name reason : List ℕ) (lost : Option Lost) → GivesUnchecked writes old new name reason lost
       → IsStep old new (stream.telling (state old.formatter) (told_unchecked name reason))
@@ -104,80 +81,69 @@ module _ {T S : Type 0} (stream : Stream S) (state : T → S) (writes : Output T
   unchecked-one old new name reason lost (untold broke formatter same why) =
       subst (IsStep old new (stream.telling (state old.formatter) (told_unchecked name reason))
       (stream.after (state old.formatter) (told_unchecked name reason)) (unchecked_line name reason)) (sym why) (
-        front-none old.out.written new.out.written (stream.telling (state old.formatter) (told_unchecked name reason))
-            (none-same old.out new.out same),
-        broke.front,
-        inr (inr broke.failed),
+        (
+          front-none old.sinks.out.written new.sinks.out.written (stream.telling (state old.formatter) (told_unchecked name reason))
+              (none-same old.sinks.out new.sinks.out same),
+          broke.front,
+          inr (inr broke.failed),
+        ),
+        tt,
       )
 
   flushed-one : (old new : Formatting T) (behind : SinkState) (text : List ℕ) (kept : S) (lost : Option Lost)
-      → Moves state (output_of old) (record { formatter = new.formatter; out = behind }) text kept None → IsFlushed behind new.out lost
-      → new.errors ≡ old.errors → IsStep old new text kept [] lost
+      → Moves state (output_of old) (record { formatter = new.formatter; out = behind }) text kept None → IsFlushed behind new.sinks.out lost
+      → new.sinks.errors ≡ old.sinks.errors → IsStep old new text kept [] lost
   flushed-one old new behind text kept None (out, is) flushed same = (
-    Appends-kept old.out.written behind.written new.out.written text out flushed.bytes,
+    (
+      Appends-kept old.sinks.out.written behind.written new.sinks.out.written text out flushed.bytes,
+      none-same old.sinks.errors new.sinks.errors same,
+    ),
     is,
-    none-same old.errors new.errors same,
   )
   flushed-one old new behind text kept (Some Device) (out, is) broke same = (
-    front-all old.out.written new.out.written text (Appends-kept old.out.written behind.written new.out.written text out broke.bytes),
-    front-all old.errors.written new.errors.written [] (none-same old.errors new.errors same),
-    inr (inl broke.failed),
+    (
+      front-all old.sinks.out.written new.sinks.out.written text
+          (Appends-kept old.sinks.out.written behind.written new.sinks.out.written text out broke.bytes),
+      front-all old.sinks.errors.written new.sinks.errors.written [] (none-same old.sinks.errors new.sinks.errors same),
+      inr (inl broke.failed),
+    ),
+    tt,
   )
   flushed-one old new behind text kept (Some Memory) moves never same = absurd never
 
   ended-one : (old new : Formatting T) (name : List ℕ) (found : FontClass) (lost : Option Lost) → EndsFont ends old new name found lost
-      → new.errors ≡ old.errors
+      → new.sinks.errors ≡ old.sinks.errors
       → IsStep old new (stream.ending (state old.formatter) name found) (stream.after_font (state old.formatter) name found) [] lost
   ended-one old new name found lost (ended behind wrote flushed) same =
       flushed-one old new behind (stream.ending (state old.formatter) name found) (stream.after_font (state old.formatter) name found) lost (ending (output_of old) (record { formatter = new.formatter; out = behind }) name found None wrote) flushed same
   ended-one old new name found lost (unended reason wrote is) same =
       subst (IsStep old new (stream.ending (state old.formatter) name found) (stream.after_font (state old.formatter) name found) []) (sym is)
-      (moved old new (stream.ending (state old.formatter) name found) (stream.after_font (state old.formatter) name found) [] (Some reason) (ending (output_of old) (output_of new) name found (Some reason) wrote) (none-same old.errors new.errors same))
+      (moved old new (stream.ending (state old.formatter) name found) (stream.after_font (state old.formatter) name found) [] (Some reason) (ending (output_of old) (output_of new) name found (Some reason) wrote) (none-same old.sinks.errors new.sinks.errors same))
 
   one : (old new : Formatting T) (handed : Handed) (lost : Option Lost) → FormattedTakes form old new handed lost
       → IsStep old new (text_of_one stream (state old.formatter) handed) (after_one stream (state old.formatter) handed) (told_of handed) lost
   one old new (line name font waivers fault) lost (gives, same) =
-      given-one old new (told_fault stream.reasons name font waivers fault) [] lost gives (none-same old.errors new.errors same)
+      given-one old new (told_fault stream.reasons name font waivers fault) [] lost gives (none-same old.sinks.errors new.sinks.errors same)
   one old new (failure name (Refused code)) lost (gives, same) =
-      given-one old new (told_refusal name code) [] lost gives (none-same old.errors new.errors same)
+      given-one old new (told_refusal name code) [] lost gives (none-same old.sinks.errors new.sinks.errors same)
   one old new (failure name (Unchecked why)) lost gives = unchecked-one old new name (reason_of why) lost gives
   one old new (done name found) lost (ends_font, same) = ended-one old new name found lost ends_font same
 
   -- ---- things that are handed on
 
-  more : (a b c : Formatting T) (handed : Handed) (rest : List Handed) (lost : Option Lost)
-      → IsStep a b (text_of_one stream (state a.formatter) handed) (after_one stream (state a.formatter) handed) (told_of handed) None
-      → IsStreamed stream state b c rest lost → IsStreamed stream state a c (handed ∷ rest) lost
-  more a b c handed rest None (first, after, first_told) (out, errors) =
-      let text = text_of_one stream (state a.formatter) handed in (
-        subst (λ (s : S). Appends a.out.written c.out.written (text ++ texts_of stream s rest)) after
-            (Appends-trans a.out.written b.out.written c.out.written text (texts_of stream (state b.formatter) rest) first out),
-        Appends-trans a.errors.written b.errors.written c.errors.written (told_of handed) (tellings rest) first_told errors,
-      )
-  more a b c handed rest (Some reason) (first, after, first_told) (out, errors, failed) =
-      let text = text_of_one stream (state a.formatter) handed in (
-        subst (λ (s : S). AppendsFront a.out.written c.out.written (text ++ texts_of stream s rest)) after
-            (front-second a.out.written b.out.written c.out.written text (texts_of stream (state b.formatter) rest) first out),
-        front-second a.errors.written b.errors.written c.errors.written (told_of handed) (tellings rest) first_told errors,
-        failed,
-      )
-
   pub written : (old new : Formatting T) (handed : List Handed) (lost : Option Lost) → HandsOn (FormattedTakes form) old new handed lost
       → IsStreamed stream state old new handed lost
-  written old new [] lost (same, none) =
-      subst (IsStreamed stream state old new []) (sym none)
-      (subst (λ (d : Formatting T). IsStreamed stream state old d [] None) (sym same)
-      (Appends-nil old.out.written, Appends-nil old.errors.written))
+  written old new [] lost (same, none) = none_printed old.sinks new.sinks lost (ap (λ (d : Formatting T). d.sinks) same) none
   written old new (handed ∷ rest) lost (inl (next, took, later)) =
-      more old next new handed rest lost (one old next handed None took) (written next new rest lost later)
+      let first = one old next handed None took in
+      then_printed old.sinks next.sinks new.sinks (text_of_one stream (state old.formatter) handed)
+      (texts_of stream (after_one stream (state old.formatter) handed) rest) (told_of handed) (tellings rest) lost first.0
+      (subst (λ (s : S). ArePrinted next.sinks new.sinks (texts_of stream s rest) (tellings rest) lost) first.1 (written next new rest lost later))
   written old new (handed ∷ rest) lost (inr (reason, took, is)) =
-      let (out, errors, why) = one old new handed (Some reason) took in
-      subst (IsStreamed stream state old new (handed ∷ rest)) (sym is) (
-        front-first old.out.written new.out.written (text_of_one stream (state old.formatter) handed)
-            (texts_of stream (after_one stream (state old.formatter) handed) rest) out,
-        front-first old.errors.written new.errors.written (told_of handed) (tellings rest) errors,
-        why,
-      )
+      subst (IsStreamed stream state old new (handed ∷ rest)) (sym is)
+      (stopped_printed old.sinks new.sinks (text_of_one stream (state old.formatter) handed)
+      (texts_of stream (after_one stream (state old.formatter) handed) rest) (told_of handed) (tellings rest) reason
+      (one old new handed (Some reason) took).0)
 
   -- What is kept at last.
   abbrev pub afters : S → List Handed → S
@@ -188,13 +154,13 @@ module _ {T S : Type 0} (stream : Stream S) (state : T → S) (writes : Output T
       → state new.formatter ≡ afters (state old.formatter) handed
   kept_at_last old new [] (same, none) = ap (λ (d : Formatting T). state d.formatter) same
   kept_at_last old new (handed ∷ rest) (inl (next, took, later)) =
-      let (out, is, errors) = one old next handed None took in kept_at_last next new rest later ∙ ap (λ (kept : S). afters kept rest) is
+      kept_at_last next new rest later ∙ ap (λ (kept : S). afters kept rest) (one old next handed None took).1
   kept_at_last old new (handed ∷ rest) (inr (reason, took, is)) = absurd (none-some reason is)
 
   pub flushed : (old new : Formatting T) (handed : List Handed) (name : List ℕ) (found : FontClass)
-      → HandsOn (FormattedTakes form) old new (handed ++ done name found ∷ []) None → new.out.flushed ≡ true
+      → HandsOn (FormattedTakes form) old new (handed ++ done name found ∷ []) None → new.sinks.out.flushed ≡ true
   flushed old new [] name found (inl (next, (ended behind wrote flush, errors), (same, none))) =
-      subst (λ (d : Formatting T). d.out.flushed ≡ true) (sym same) flush.waits
+      subst (λ (d : Formatting T). d.sinks.out.flushed ≡ true) (sym same) flush.waits
   flushed old new [] name found (inl (next, (unended reason wrote is, errors), (same, none))) = absurd (none-some reason is)
   flushed old new [] name found (inr (reason, took, is)) = absurd (none-some reason is)
   flushed old new (handed ∷ rest) name found (inl (next, took, later)) = flushed next new rest name found later
@@ -211,12 +177,4 @@ module _ {F T : Type 0} (told_with : F → Bool) (view : F → Formatting T) (wr
 
   pub seen : (old new : F) (handed : List Handed) (lost : Option Lost) → HandsOn takes old new handed lost
       → HandsOn (FormattedTakes (record { reasons = told_with old; writes = writes; ends = ends })) (view old) (view new) handed lost
-  seen old new [] lost (same, none) = (ap view same, none)
-  seen old new (handed ∷ rest) lost (inl (next, (same, took), later)) =
-      inl (
-        view next,
-        took,
-        subst (λ (r : Bool). HandsOn (FormattedTakes (record { reasons = r; writes = writes; ends = ends })) (view next) (view new) rest lost) same
-            (seen next new rest lost later),
-      )
-  seen old new (handed ∷ rest) lost (inr (reason, (same, took), is)) = inr (reason, took, is)
+  seen = handed_seen (λ reasons. FormattedTakes (record { reasons = reasons; writes = writes; ends = ends })) told_with (λ reasons. view)

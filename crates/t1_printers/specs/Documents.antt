@@ -1,16 +1,14 @@
 -- A document of SARIF: what is written of things that are handed on.
-use Rattle.std.specs.Prelude.{◌≡◌, ◌⊎◌, ℕ, Bool, true, List, [], ◌∷◌, ◌++◌, Option, None, Some}
-use Rattle.std.specs.Io.KnownBytes.{Appends}
+use Rattle.std.specs.Prelude.{◌≡◌, ℕ, Bool, List, [], ◌∷◌, ◌++◌, Option, None, Some}
 use Rattle.std.specs.List.{flat_map}
 use Rattle.t1_forms.specs.Sarif.{after_telling, closing, sarif_state, telling_text}
 use Rattle.t1_forms.specs.SarifDocuments.{tellings_text}
 use Rattle.t1_forms.specs.Tellings.{ToldValue, what_spelled}
 use Rattle.t1_forms.specs.declared.sarif.Sarif.{Sarif}
-use Rattle.t1_io.specs.Devices.{AppendsFront, SinkState}
+use Rattle.t1_io.specs.Devices.{SinkState}
 use Rattle.t1_many.specs.Handing.{Handed, done, failure, line}
-use Rattle.t1_many.specs.Plain.{IsLinePut, tellings}
+use Rattle.t1_many.specs.Plain.{ArePrinted, IsLinePut, tellings}
 use Rattle.t1_many.specs.declared.policy.Lost.{Lost}
-use Rattle.t1_many.specs.declared.policy.Lost.TheVariants.{Memory}
 use Rattle.t1_printers.specs.Formatting.{Formatting, Output, told_fault}
 use Rattle.t1_printers.specs.Streams.{IsKept, failure_value}
 
@@ -37,10 +35,7 @@ all_values reasons handed = flat_map (values_of reasons) handed
 -- form. Or a prefix of it was, since memory ran out or a device failed.
 abbrev pub IsDocumentOf : Bool → Formatting Sarif → Formatting Sarif → List Handed → Option Lost → Type 0
 IsDocumentOf reasons old new handed None =
-    ((text : List ℕ) × (text ++ closing (sarif_state new.formatter) ≡ tellings_text (sarif_state old.formatter) (all_values reasons handed))
-    × Appends old.out.written new.out.written text)
-    × Appends old.errors.written new.errors.written (tellings handed)
+    (text : List ℕ) × (text ++ closing (sarif_state new.formatter) ≡ tellings_text (sarif_state old.formatter) (all_values reasons handed))
+    × ArePrinted old.sinks new.sinks text (tellings handed) None
 IsDocumentOf reasons old new handed (Some lost) =
-    AppendsFront old.out.written new.out.written (tellings_text (sarif_state old.formatter) (all_values reasons handed))
-    × AppendsFront old.errors.written new.errors.written (tellings handed)
-    × ((lost ≡ Memory) ⊎ (new.out.failed ≡ true) ⊎ (new.errors.failed ≡ true))
+    ArePrinted old.sinks new.sinks (tellings_text (sarif_state old.formatter) (all_values reasons handed)) (tellings handed) (Some lost)

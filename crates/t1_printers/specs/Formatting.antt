@@ -16,6 +16,7 @@ use Rattle.t1_report.specs.Waivers.{Waiver}
 use Rattle.t1_many.specs.FontErrors.{reason_of}
 use Rattle.t1_many.specs.Unchecked.{unchecked_line}
 use Rattle.t1_many.specs.declared.font_error.FontError.TheVariants.{Refused, Unchecked}
+use Rattle.t1_run.specs.Opening.{Sinks}
 use Rattle.t1_summary.specs.declared.found.FontClass.{FontClass}
 
 -- Beside what is reported is its line, as it is spelled, where lines are shown.
@@ -46,26 +47,25 @@ pub record Output (T : Type 0) : Type 0 where
 -- The same with standard error.
 pub record Formatting (T : Type 0) : Type 0 where
   pub formatter : T
-  pub out : SinkState
-  pub errors : SinkState
+  pub sinks : Sinks
 
 abbrev pub output_of : {T : Type 0} → Formatting T → Output T
-output_of f = record { formatter = f.formatter; out = f.out }
+output_of f = record { formatter = f.formatter; out = f.sinks.out }
 
 -- This was given to the formatter, which took it or stopped; or memory ran out before.
 pub data Gives {T : Type 0} (writes : Output T → Output T → ToldValue → Option Lost → Type 0) (old new : Formatting T) (told : ToldValue)
     (lost : Option Lost) : Type 0 where
   given : writes (output_of old) (output_of new) told lost → Gives writes old new told lost
-  no_memory : lost ≡ Some Memory → new.formatter ≡ old.formatter → new.out ≡ old.out → Gives writes old new told lost
+  no_memory : lost ≡ Some Memory → new.formatter ≡ old.formatter → new.sinks.out ≡ old.sinks.out → Gives writes old new told lost
 
 -- That a font wasn't checked was printed on standard error, and then given; or standard error failed.
 pub data GivesUnchecked {T : Type 0} (writes : Output T → Output T → ToldValue → Option Lost → Type 0) (old new : Formatting T)
     (name reason : List ℕ) (lost : Option Lost) : Type 0 where
   told :
-      Wrote old.errors new.errors (unchecked_line name reason) → Gives writes old new (told_unchecked name reason) lost
+      Wrote old.sinks.errors new.sinks.errors (unchecked_line name reason) → Gives writes old new (told_unchecked name reason) lost
       → GivesUnchecked writes old new name reason lost
   untold :
-      PutFailed old.errors new.errors (unchecked_line name reason) → new.formatter ≡ old.formatter → new.out ≡ old.out
+      PutFailed old.sinks.errors new.sinks.errors (unchecked_line name reason) → new.formatter ≡ old.formatter → new.sinks.out ≡ old.sinks.out
       → lost ≡ Some Device → GivesUnchecked writes old new name reason lost
 
 -- The formatter wrote what is after all that is reported of a font, which was found so, and the output was flushed; or one of these failed.
@@ -73,7 +73,7 @@ pub data EndsFont {T : Type 0} (ends : Output T → Output T → List ℕ → Fo
     (found : FontClass) (lost : Option Lost) : Type 0 where
   ended :
       (behind : SinkState) → ends (output_of old) (record { formatter = new.formatter; out = behind }) name found None
-      → IsFlushed behind new.out lost → EndsFont ends old new name found lost
+      → IsFlushed behind new.sinks.out lost → EndsFont ends old new name found lost
   unended :
       (reason : Lost) → ends (output_of old) (output_of new) name found (Some reason) → lost ≡ Some reason
       → EndsFont ends old new name found lost
@@ -91,8 +91,8 @@ pub record Form (T : Type 0) : Type 1 where
 -- One thing that is handed on. The output is flushed after each font.
 abbrev pub FormattedTakes : {T : Type 0} → Form T → Formatting T → Formatting T → Handed → Option Lost → Type 0
 FormattedTakes form old new (line name font waivers fault) lost =
-    Gives form.writes old new (told_fault form.reasons name font waivers fault) lost × (new.errors ≡ old.errors)
+    Gives form.writes old new (told_fault form.reasons name font waivers fault) lost × (new.sinks.errors ≡ old.sinks.errors)
 FormattedTakes form old new (failure name (Refused code)) lost =
-    Gives form.writes old new (told_refusal name code) lost × (new.errors ≡ old.errors)
+    Gives form.writes old new (told_refusal name code) lost × (new.sinks.errors ≡ old.sinks.errors)
 FormattedTakes form old new (failure name (Unchecked why)) lost = GivesUnchecked form.writes old new name (reason_of why) lost
-FormattedTakes form old new (done name found) lost = EndsFont form.ends old new name found lost × (new.errors ≡ old.errors)
+FormattedTakes form old new (done name found) lost = EndsFont form.ends old new name found lost × (new.sinks.errors ≡ old.sinks.errors)

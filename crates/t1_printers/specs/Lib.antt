@@ -9,6 +9,7 @@ pub mod Grouping
 pub mod Held
 pub mod JsonLines
 pub mod Laws
+pub mod Printing
 pub mod Private
 pub mod RuleGroups
 pub mod Streams

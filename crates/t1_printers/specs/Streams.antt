@@ -1,15 +1,12 @@
 -- What a formatter writes of things that are handed on, where it may keep something from one to the next.
-use Rattle.std.specs.Prelude.{◌≡◌, ◌⊎◌, ℕ, Bool, true, List, [], ◌∷◌, ◌++◌, Option, None, Some}
-use Rattle.std.specs.Io.KnownBytes.{Appends}
+use Rattle.std.specs.Prelude.{◌≡◌, ℕ, Bool, List, [], ◌∷◌, ◌++◌, Option, None, Some}
 use Rattle.t1_forms.specs.Tellings.{ToldValue}
-use Rattle.t1_io.specs.Devices.{AppendsFront}
 use Rattle.t1_many.specs.FontErrors.{reason_of}
 use Rattle.t1_many.specs.Handing.{Handed, done, failure, line}
-use Rattle.t1_many.specs.Plain.{tellings}
+use Rattle.t1_many.specs.Plain.{ArePrinted, tellings}
 use Rattle.t1_many.specs.declared.font_error.FontError.{FontError}
 use Rattle.t1_many.specs.declared.font_error.FontError.TheVariants.{Refused, Unchecked}
 use Rattle.t1_many.specs.declared.policy.Lost.{Lost}
-use Rattle.t1_many.specs.declared.policy.Lost.TheVariants.{Memory}
 use Rattle.t1_printers.specs.Formatting.{Formatting, told_fault, told_refusal, told_unchecked}
 use Rattle.t1_summary.specs.declared.found.FontClass.{FontClass}
 
@@ -44,13 +41,8 @@ texts_of stream state (handed ∷ more) = text_of_one stream state handed ++ tex
 
 -- All of it was written, and reported as in the plain form; or a prefix of it was, since memory ran out or a device failed.
 abbrev pub IsStreamed : {T S : Type 0} → Stream S → (T → S) → Formatting T → Formatting T → List Handed → Option Lost → Type 0
-IsStreamed stream state old new handed None =
-    Appends old.out.written new.out.written (texts_of stream (state old.formatter) handed)
-    × Appends old.errors.written new.errors.written (tellings handed)
-IsStreamed stream state old new handed (Some lost) =
-    AppendsFront old.out.written new.out.written (texts_of stream (state old.formatter) handed)
-    × AppendsFront old.errors.written new.errors.written (tellings handed)
-    × ((lost ≡ Memory) ⊎ (new.out.failed ≡ true) ⊎ (new.errors.failed ≡ true))
+IsStreamed stream state old new handed lost =
+    ArePrinted old.sinks new.sinks (texts_of stream (state old.formatter) handed) (tellings handed) lost
 
 -- What is kept, unless it stopped.
 abbrev pub IsKept : {S : Type 0} → S → S → Option Lost → Type 0

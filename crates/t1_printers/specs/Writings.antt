@@ -1,16 +1,13 @@
 -- What is written of things that are handed on, in a form of groups.
-use Rattle.std.specs.Prelude.{◌≡◌, ◌⊎◌, ℕ, true, List, [], ◌∷◌, ◌++◌, Bool, Option, None, Some}
-use Rattle.std.specs.Io.KnownBytes.{Appends}
+use Rattle.std.specs.Prelude.{ℕ, List, [], ◌∷◌, ◌++◌, Bool, Option, None, Some}
 use Rattle.t1_printers.specs.Commands.{command_line_of, refusal_command, unchecked_command}
 use Rattle.t1_printers.specs.Grouping.{Grouping}
 use Rattle.t1_printers.specs.Held.{HeldLine, held_line, held_text}
 use Rattle.t1_printers.specs.Terminals.{terminal_lines_of, terminal_refusal}
-use Rattle.t1_io.specs.Devices.{AppendsFront}
 use Rattle.t1_font.specs.declared.unread.RefusalCode.{RefusalCode}
 use Rattle.t1_many.specs.Handing.{Handed, done, failure, line}
-use Rattle.t1_many.specs.Plain.{tellings}
+use Rattle.t1_many.specs.Plain.{ArePrinted, tellings}
 use Rattle.t1_many.specs.declared.policy.Lost.{Lost}
-use Rattle.t1_many.specs.declared.policy.Lost.TheVariants.{Memory}
 use Rattle.t1_rules.specs.declared.rule.Rule.{Rule}
 use Rattle.t1_many.specs.FontErrors.{reason_of}
 use Rattle.t1_many.specs.declared.font_error.FontError.{FontError}
@@ -62,13 +59,6 @@ abbrev pub text_after : Wording → List HeldLine → List Handed → List ℕ
 text_after wording held [] = []
 text_after wording held (handed ∷ more) = text_of_one wording held handed ++ text_after wording (held_after wording.reasons held handed) more
 
--- One text was written, and another reported; or a prefix of each was, since memory ran out or a device failed.
-abbrev pub IsWritten : Grouping → Grouping → List ℕ → List ℕ → Option Lost → Type 0
-IsWritten old new text told None = Appends old.out.written new.out.written text × Appends old.errors.written new.errors.written told
-IsWritten old new text told (Some lost) =
-    AppendsFront old.out.written new.out.written text × AppendsFront old.errors.written new.errors.written told
-    × ((lost ≡ Memory) ⊎ (new.out.failed ≡ true) ⊎ (new.errors.failed ≡ true))
-
 -- All of these was written, and reported as in the plain form.
 abbrev pub AreWritten : Wording → Grouping → Grouping → List Handed → Option Lost → Type 0
-AreWritten wording old new handed lost = IsWritten old new (text_after wording [] handed) (tellings handed) lost
+AreWritten wording old new handed lost = ArePrinted old.sinks new.sinks (text_after wording [] handed) (tellings handed) lost

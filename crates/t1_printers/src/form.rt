@@ -2,7 +2,7 @@
 
 ghost use Rattle.std.specs.Prelude.{◌≡◌, ◌++◌, OnOk};
 ghost use Rattle.t1_printers.specs.GroupLines.{Writing};
-ghost use Rattle.t1_printers.specs.Grouping.{IsTextPut};
+ghost use Rattle.t1_many.specs.Plain.{IsLinePut};
 ghost use Rattle.t1_printers.specs.Groups.{group_value};
 ghost use Rattle.t1_many.specs.Handing.{lost_of};
 
@@ -47,7 +47,7 @@ pub trait GroupForm {
         name: &str,
         code: RefusalCode,
     ) -> Result<(), Lost>
-        ensures { IsTextPut (W.state sink.old) (W.state sink.new) ((writing self.now).refusal name.now code) (lost_of result) };
+        ensures { IsLinePut (W.state sink.old) (W.state sink.new) ((writing self.now).refusal name.now code) (lost_of result) };
 
     /// Writes why the font of this name wasn't checked, which was printed on standard error.
     fn put_unchecked<W: Sink>(
@@ -57,5 +57,5 @@ pub trait GroupForm {
         name: &str,
         reason: &str,
     ) -> Result<(), Lost>
-        ensures { IsTextPut (W.state sink.old) (W.state sink.new) ((writing self.now).unchecked name.now reason.now) (lost_of result) };
+        ensures { IsLinePut (W.state sink.old) (W.state sink.new) ((writing self.now).unchecked name.now reason.now) (lost_of result) };
 }

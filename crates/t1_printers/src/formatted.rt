@@ -4,6 +4,7 @@ ghost use Rattle.std.specs.Prelude.{◌≡◌, Option};
 ghost use Rattle.t1_many.specs.Handing.{Handed, failure, lost_of};
 ghost use Rattle.t1_many.specs.declared.font_error.FontError.TheVariants.{Refused};
 ghost use Rattle.t1_printers.specs.Formatting.{FormattedTakes, GivesUnchecked};
+ghost use Rattle.t1_printers.specs.Printing.{formatting_by};
 
 use crate::formatter::Formatter;
 use crate::line_text::{set_fault, set_refusal, set_unchecked};
@@ -16,6 +17,7 @@ use t1_lines::{Line, fault_line};
 use t1_many::{FontError, Lost, Printer, tell_unchecked, told_reason};
 use t1_reasons::ReportReasons;
 use t1_report::{Fault, Waivers};
+use t1_run::Streams;
 use t1_summary::FontClass;
 
 /// Lines, refusals, fonts that weren't checked, and how each font was found are given to a formatter, which writes them on the output. A font
@@ -24,10 +26,8 @@ use t1_summary::FontClass;
 pub struct Formatted<T: Formatter, W: Sink, E: Sink> {
     /// What writes them.
     pub formatter: T,
-    /// Standard output.
-    pub out: W,
-    /// Standard error.
-    pub errors: E,
+    /// The output and standard error.
+    pub streams: Streams<W, E>,
     /// Whether reasons are reported.
     pub reasons: bool,
     alloc: Global,
@@ -36,47 +36,35 @@ pub struct Formatted<T: Formatter, W: Sink, E: Sink> {
 
 impl<T: Formatter, W: Sink, E: Sink> Formatted<T, W, E> {
     /// A form that was given nothing yet. The formatter has written what is before all else.
-    pub fn new(alloc: Global, formatter: T, out: W, errors: E, reasons: bool) -> Formatted<T, W, E>
+    pub fn new(alloc: Global, formatter: T, streams: Streams<W, E>, reasons: bool) -> Formatted<T, W, E>
         ensures formatter { result.formatter ≡ formatter }
-        ensures out { result.out ≡ out }
-        ensures errors { result.errors ≡ errors }
+        ensures streams { result.streams ≡ streams }
         ensures reasons { result.reasons ≡ reasons }
     {
         Formatted {
             formatter,
-            out,
-            errors,
+            streams,
             reasons,
             alloc,
             text: Text::new(alloc),
         }
     }
 
-    /// The formatter, the output and standard error, once all was handed on: the formatter can then write what is after all else.
-    pub fn into_parts(self) -> (T, W, E)
-        ensures formatter { result.0 ≡ self.formatter }
-        ensures out { result.1 ≡ self.out }
-        ensures errors { result.2 ≡ self.errors }
-    {
-        (self.formatter, self.out, self.errors)
-    }
-
     /// Prints on standard error that what has this name wasn't checked, as `NAME: t1check: REASON`, and then gives it to the formatter.
     pub fn unchecked(&mut self, name: &str, reason: &str) -> Result<(), Lost>
         ensures given { GivesUnchecked T.writes
-            (record { formatter = self.old.formatter; out = W.state self.old.out; errors = E.state self.old.errors })
-            (record { formatter = self.new.formatter; out = W.state self.new.out; errors = E.state self.new.errors })
+            (formatting_by W.state E.state self.old) (formatting_by W.state E.state self.new)
             name.now reason.now (lost_of result) }
         ensures reasons { self.new.reasons ≡ self.old.reasons }
     {
-        tell_unchecked(&mut self.errors, name, reason)?;
+        tell_unchecked(&mut self.streams.errors, name, reason)?;
         if T::shows_lines() {
             set_unchecked(&mut self.text, reason)?;
         }
         give(
             self.alloc,
             &mut self.formatter,
-            &mut self.out,
+            &mut self.streams.out,
             name.as_bytes(),
             What::Unchecked(reason.as_bytes()),
             self.text.as_bytes(),
@@ -87,8 +75,7 @@ impl<T: Formatter, W: Sink, E: Sink> Formatted<T, W, E> {
     /// Gives a refusal to the formatter.
     fn refused(&mut self, name: &str, code: RefusalCode) -> Result<(), Lost>
         ensures given { FormattedTakes (record { reasons = self.old.reasons; writes = T.writes; ends = T.ends })
-            (record { formatter = self.old.formatter; out = W.state self.old.out; errors = E.state self.old.errors })
-            (record { formatter = self.new.formatter; out = W.state self.new.out; errors = E.state self.new.errors })
+            (formatting_by W.state E.state self.old) (formatting_by W.state E.state self.new)
             (failure name.now (Refused code)) (lost_of result) }
         ensures reasons { self.new.reasons ≡ self.old.reasons }
     {
@@ -98,7 +85,7 @@ impl<T: Formatter, W: Sink, E: Sink> Formatted<T, W, E> {
         give(
             self.alloc,
             &mut self.formatter,
-            &mut self.out,
+            &mut self.streams.out,
             name.as_bytes(),
             What::Line(Line::Refusal(code)),
             self.text.as_bytes(),
@@ -111,8 +98,7 @@ impl<T: Formatter, W: Sink, E: Sink> Printer for Formatted<T, W, E> {
     ghost use Rattle.t1_many.specs.declared.policy.Lost.{Lost};
 
     ghost takes = { λ old new handed lost. (new.reasons ≡ old.reasons) × FormattedTakes (record { reasons = old.reasons; writes = T.writes; ends = T.ends })
-        (record { formatter = old.formatter; out = W.state old.out; errors = E.state old.errors })
-        (record { formatter = new.formatter; out = W.state new.out; errors = E.state new.errors }) handed lost };
+        (formatting_by W.state E.state old) (formatting_by W.state E.state new) handed lost };
 
     fn line(
         &mut self,
@@ -132,7 +118,7 @@ impl<T: Formatter, W: Sink, E: Sink> Printer for Formatted<T, W, E> {
         give(
             self.alloc,
             &mut self.formatter,
-            &mut self.out,
+            &mut self.streams.out,
             name.as_bytes(),
             What::Line(Line::Fault(fault_line(font, waivers, fault))),
             self.text.as_bytes(),
@@ -149,8 +135,8 @@ impl<T: Formatter, W: Sink, E: Sink> Printer for Formatted<T, W, E> {
 
     fn done(&mut self, name: &str, found: FontClass) -> Result<(), Lost> {
         self.formatter
-            .end_font(self.alloc, &mut self.out, name, found)?;
-        self.out.flush()?;
+            .end_font(self.alloc, &mut self.streams.out, name, found)?;
+        self.streams.out.flush()?;
         Ok(())
     }
 }

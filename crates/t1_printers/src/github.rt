@@ -6,7 +6,7 @@ ghost use Rattle.t1_forms.specs.Tellings.{what_value};
 ghost use Rattle.t1_printers.specs.Commands.{command_writing, command_written, group_message, message_reason, message_room};
 ghost use Rattle.t1_printers.specs.Formatting.{nothing_ends};
 ghost use Rattle.t1_printers.specs.GroupLines.{rule_tail};
-ghost use Rattle.t1_printers.specs.Grouping.{IsTextPut};
+ghost use Rattle.t1_many.specs.Plain.{IsLinePut};
 ghost use Rattle.t1_printers.specs.Groups.{group_value};
 ghost use Rattle.t1_many.specs.Handing.{lost_of};
 
@@ -144,7 +144,7 @@ fn put_told<'a, W: Sink>(
     what: What<'a>,
     line: &'a [u8],
 ) -> Result<(), Lost>
-    ensures { IsTextPut (W.state sink.old) (W.state sink.new)
+    ensures { IsLinePut (W.state sink.old) (W.state sink.new)
         (command_of (record { font = Some name.now; what = what_value what.entry; reason = None }) line.now) (lost_of result) }
 {
     let told = Told {

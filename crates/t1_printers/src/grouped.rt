@@ -4,6 +4,7 @@ ghost use Rattle.std.specs.Prelude.{◌≡◌, ◌++◌, ◌==◌, ◌&&◌, IfO
 ghost use Rattle.t1_printers.specs.Grouping.{GroupedTakes, TellsUnchecked, WritesGroups};
 ghost use Rattle.t1_printers.specs.GroupLines.{group_lines};
 ghost use Rattle.t1_printers.specs.Held.{held_line};
+ghost use Rattle.t1_printers.specs.Printing.{grouping_by};
 ghost use Rattle.t1_printers.specs.RuleGroups.{group_of, group_values, values_of, with_line};
 ghost use Rattle.t1_many.specs.Handing.{lost_of};
 ghost use Rattle.t1_report.specs.Faults.{fault_value};
@@ -19,6 +20,7 @@ use t1_many::{FontError, Lost, Printer, tell_unchecked, told_text};
 use t1_reasons::ReportReasons;
 use t1_report::{Fault, Waivers};
 use t1_rules::Rule;
+use t1_run::Streams;
 use t1_summary::FontClass;
 
 /// Keeps the lines of a font in groups, and writes these once the font is done. A refusal is written, and why a font wasn't checked is also
@@ -27,68 +29,53 @@ use t1_summary::FontClass;
 pub struct Grouped<T: GroupForm, W: Sink, E: Sink> {
     /// How groups are written.
     pub form: T,
-    /// Standard output.
-    pub out: W,
-    /// Standard error.
-    pub errors: E,
+    /// The output and standard error.
+    pub streams: Streams<W, E>,
     alloc: Global,
     groups: Option<Groups>,
 }
 
 impl<T: GroupForm, W: Sink, E: Sink> Grouped<T, W, E> {
     /// A form that was given nothing yet.
-    pub fn new(alloc: Global, form: T, out: W, errors: E) -> Grouped<T, W, E>
+    pub fn new(alloc: Global, form: T, streams: Streams<W, E>) -> Grouped<T, W, E>
         ensures form { result.form ≡ form }
-        ensures out { result.out ≡ out }
-        ensures errors { result.errors ≡ errors }
+        ensures streams { result.streams ≡ streams }
         ensures groups { result.groups ≡ None }
     {
         Grouped {
             form,
-            out,
-            errors,
+            streams,
             alloc,
             groups: None,
         }
-    }
-
-    /// The form, the output and standard error, once all was handed on.
-    pub fn into_parts(self) -> (T, W, E)
-        ensures form { result.0 ≡ self.form }
-        ensures out { result.1 ≡ self.out }
-        ensures errors { result.2 ≡ self.errors }
-    {
-        (self.form, self.out, self.errors)
     }
 
     /// Prints on standard error that what has this name wasn't checked, as `NAME: t1check: REASON`, and then writes what the form writes of
     /// it.
     pub fn unchecked(&mut self, name: &str, reason: &str) -> Result<(), Lost>
         ensures told { TellsUnchecked (T.writing self.old.form)
-            (record { out = W.state self.old.out; errors = E.state self.old.errors; groups = values_of (T.writing self.old.form).room self.old.groups })
-            (record { out = W.state self.new.out; errors = E.state self.new.errors; groups = values_of (T.writing self.old.form).room self.new.groups })
+            (grouping_by W.state E.state (T.writing self.old.form).room self.old) (grouping_by W.state E.state (T.writing self.old.form).room self.new)
             name.now reason.now (lost_of result) }
         ensures form { self.new.form ≡ self.old.form }
         ensures groups { self.new.groups ≡ self.old.groups }
     {
-        tell_unchecked(&mut self.errors, name, reason)?;
+        tell_unchecked(&mut self.streams.errors, name, reason)?;
         self.form
-            .put_unchecked(self.alloc, &mut self.out, name, reason)
+            .put_unchecked(self.alloc, &mut self.streams.out, name, reason)
     }
 
     /// Writes the groups of a font, and empties them.
     fn write_groups(&mut self, name: &str) -> Result<(), Lost>
         ensures form { self.new.form ≡ self.old.form }
         ensures written { WritesGroups (T.writing self.old.form)
-            (record { out = W.state self.old.out; errors = E.state self.old.errors; groups = values_of (T.writing self.old.form).room self.old.groups })
-            (record { out = W.state self.new.out; errors = E.state self.new.errors; groups = values_of (T.writing self.old.form).room self.new.groups })
+            (grouping_by W.state E.state (T.writing self.old.form).room self.old) (grouping_by W.state E.state (T.writing self.old.form).room self.new)
             name.now (lost_of result) }
     {
         let groups = self.groups.take();
         let Ok(text) = lines_of(self.alloc, &self.form, groups, name) else {
             return Err(Lost::Memory);
         };
-        deliver(&mut self.out, text.as_slice())?;
+        deliver(&mut self.streams.out, text.as_slice())?;
         Ok(())
     }
 }
@@ -97,8 +84,7 @@ impl<T: GroupForm, W: Sink, E: Sink> Printer for Grouped<T, W, E> {
     ghost use Rattle.t1_many.specs.declared.policy.Lost.{Lost};
 
     ghost takes = { λ old new handed lost. (new.form ≡ old.form) × GroupedTakes (T.writing old.form)
-        (record { out = W.state old.out; errors = E.state old.errors; groups = values_of (T.writing old.form).room old.groups })
-        (record { out = W.state new.out; errors = E.state new.errors; groups = values_of (T.writing old.form).room new.groups }) handed lost };
+        (grouping_by W.state E.state (T.writing old.form).room old) (grouping_by W.state E.state (T.writing old.form).room new) handed lost };
 
     fn line(
         &mut self,
@@ -123,7 +109,7 @@ impl<T: GroupForm, W: Sink, E: Sink> Printer for Grouped<T, W, E> {
     fn failure(&mut self, name: &str, reason: FontError) -> Result<(), Lost> {
         match reason {
             FontError::Refused(code) => {
-                self.form.put_refusal(self.alloc, &mut self.out, name, code)
+                self.form.put_refusal(self.alloc, &mut self.streams.out, name, code)
             }
             FontError::Unchecked(why) => self.unchecked(name, why.text().as_str()),
         }

@@ -6,7 +6,7 @@ ghost use Rattle.t1_printers.specs.Commands.{message_room};
 ghost use Rattle.t1_printers.specs.Documents.{IsDocumentOf};
 ghost use Rattle.t1_printers.specs.JsonLines.{AreObjects};
 ghost use Rattle.t1_printers.specs.Laws.{CountsSumToLines, LinesAreInTheirGroups, LinesAreThoseOfReports, LinesFitTerminals, NoMoreNamesFit, ReasonsAreOfFirstLines};
-ghost use Rattle.t1_printers.specs.RuleGroups.{values_of};
+ghost use Rattle.t1_printers.specs.Printing.{formatting_by, grouping_by};
 ghost use Rattle.t1_printers.specs.Writings.{AreWritten, command_wording, terminal_wording};
 ghost use Rattle.t1_forms.specs.declared.junit.JUnit.{JUnit as JUnitValue};
 ghost use Rattle.t1_forms.specs.declared.sarif.Sarif.{Sarif as SarifValue};
@@ -49,8 +49,7 @@ pub fn terminal_lines_are_written<W: Sink, E: Sink>()
     ensures { (old new : GroupedValue TerminalValue W E) (handed : List Handed) (lost : Option LostValue) → old.groups ≡ None
         → HandsOn ⟦<Grouped<Terminal, W, E> as Printer>⟧.takes old new handed lost
         → AreWritten (terminal_wording old.form.width old.form.has_colours old.form.reasons)
-        (record { out = W.state old.out; errors = E.state old.errors; groups = values_of old.form.width old.groups })
-        (record { out = W.state new.out; errors = E.state new.errors; groups = values_of old.form.width new.groups }) handed lost }
+        (grouping_by W.state E.state old.form.width old) (grouping_by W.state E.state old.form.width new) handed lost }
 {}
 
 /// What is handed on is written as commands of GitHub, one for each font and rule, and reported as in the plain form. Where a device fails,
@@ -59,15 +58,14 @@ pub fn group_commands_are_written<W: Sink, E: Sink>()
     ensures { (old new : GroupedValue GitHubValue W E) (handed : List Handed) (lost : Option LostValue) → old.groups ≡ None
         → HandsOn ⟦<Grouped<GitHubGroups, W, E> as Printer>⟧.takes old new handed lost
         → AreWritten (command_wording old.form.reasons)
-        (record { out = W.state old.out; errors = E.state old.errors; groups = values_of message_room old.groups })
-        (record { out = W.state new.out; errors = E.state new.errors; groups = values_of message_room new.groups }) handed lost }
+        (grouping_by W.state E.state message_room old) (grouping_by W.state E.state message_room new) handed lost }
 {}
 
 /// After the last font the output is flushed.
 pub fn grouped_lines_are_flushed<T: GroupForm, W: Sink, E: Sink>()
     ensures { (old new : GroupedValue T W E) (handed : List Handed) (name : List ℕ) (found : FoundValue)
         → HandsOn ⟦<Grouped<T, W, E> as Printer>⟧.takes old new (handed ++ done name found ∷ []) None
-        → (W.state new.out).flushed ≡ true }
+        → (W.state new.streams.out).flushed ≡ true }
 {}
 
 /// The line beside what is reported of a fault is its line of the report, without the line's end.
@@ -80,11 +78,10 @@ pub fn lines_are_those_of_reports()
 pub fn json_lines_are_written<W: Sink, E: Sink>()
     ensures written { (old new : FormattedValue JsonLinesValue W E) (handed : List Handed) (lost : Option LostValue)
         → HandsOn ⟦<Formatted<JsonLines, W, E> as Printer>⟧.takes old new handed lost
-        → AreObjects old.reasons (record { formatter = old.formatter; out = W.state old.out; errors = E.state old.errors })
-        (record { formatter = new.formatter; out = W.state new.out; errors = E.state new.errors }) handed lost }
+        → AreObjects old.reasons (formatting_by W.state E.state old) (formatting_by W.state E.state new) handed lost }
     ensures flushed { (old new : FormattedValue JsonLinesValue W E) (handed : List Handed) (name : List ℕ) (found : FoundValue)
         → HandsOn ⟦<Formatted<JsonLines, W, E> as Printer>⟧.takes old new (handed ++ done name found ∷ []) None
-        → (W.state new.out).flushed ≡ true }
+        → (W.state new.streams.out).flushed ≡ true }
 {}
 
 /// What is handed on as a document of SARIF is written as the text of what it reports, up to the end of the document, and reported as in the
@@ -92,8 +89,7 @@ pub fn json_lines_are_written<W: Sink, E: Sink>()
 pub fn documents_are_written<'a, W: Sink, E: Sink>()
     ensures { (old new : FormattedValue SarifValue W E) (handed : List Handed) (lost : Option LostValue)
         → HandsOn ⟦<Formatted<Sarif<'a>, W, E> as Printer>⟧.takes old new handed lost
-        → IsDocumentOf old.reasons (record { formatter = old.formatter; out = W.state old.out; errors = E.state old.errors })
-        (record { formatter = new.formatter; out = W.state new.out; errors = E.state new.errors }) handed lost }
+        → IsDocumentOf old.reasons (formatting_by W.state E.state old) (formatting_by W.state E.state new) handed lost }
 {}
 
 /// What is handed on as a document of JUnit's form is written as cases, one after another, and reported as in the plain form. Where a device fails,
@@ -101,8 +97,7 @@ pub fn documents_are_written<'a, W: Sink, E: Sink>()
 pub fn cases_are_written<W: Sink, E: Sink>()
     ensures { (old new : FormattedValue JUnitValue W E) (handed : List Handed) (lost : Option LostValue)
         → HandsOn ⟦<Formatted<JUnit, W, E> as Printer>⟧.takes old new handed lost
-        → AreCases old.reasons (record { formatter = old.formatter; out = W.state old.out; errors = E.state old.errors })
-        (record { formatter = new.formatter; out = W.state new.out; errors = E.state new.errors }) handed lost }
+        → AreCases old.reasons (formatting_by W.state E.state old) (formatting_by W.state E.state new) handed lost }
 {}
 
 /// Each font is one case: a failure exactly where one of its lines fails, by the first such line, and an error where it was refused or wasn't

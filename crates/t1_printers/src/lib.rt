@@ -34,7 +34,7 @@
 //!
 //! ```
 //! let form = Terminal { width: 80, has_colours: false, reasons: false };
-//! let mut grouped = Grouped::new(alloc, form, out, errors)?;
+//! let mut grouped = Grouped::new(alloc, form, streams)?;
 //! ```
 #![tactic(auto)]
 

@@ -2,6 +2,7 @@
 use Rattle.std.specs.Prelude.{◌≡◌, ℕ, List, Option, None, Result, Ok, Err}
 use Rattle.clap.specs.Words.{Text}
 use Rattle.t1_io.specs.Devices.{SinkState, SourceState}
+use Rattle.t1_run.specs.declared.streams.Streams.{Streams}
 
 -- A way to open files by their names: one of the name is opened and these bytes are left in it, where they are known,
 -- or it can't be opened.
@@ -33,6 +34,10 @@ NoneIsOpened files = (files.font.left ≡ None) × (files.waivers.left ≡ None)
 pub record Sinks : Type 0 where
   pub out : SinkState
   pub errors : SinkState
+
+-- Those of a program, by what is known of a device.
+abbrev pub sinks_by : {Out Errors : Type 0} → (Out → SinkState) → (Errors → SinkState) → Streams Out Errors → Sinks
+sinks_by out errors streams = record { out = out streams.out; errors = errors streams.errors }
 
 -- A state before a run and after it.
 pub record Transition (State : Type 0) : Type 0 where

@@ -3,13 +3,14 @@
 ghost use Rattle.std.specs.Prelude.{◌≡◌, Some, false, map, option_map};
 ghost use Rattle.std.specs.Fn.{FnOnceReturnsAt};
 ghost use Rattle.t1_run.specs.Answering.{Answers, NamesFont, NamesWaivers, RunsOn};
-ghost use Rattle.t1_run.specs.Opening.{opening_by};
+ghost use Rattle.t1_run.specs.Opening.{opening_by, sinks_by};
 
 use crate::answered::Answered;
 use crate::failure::Failure;
 use crate::program::Program;
 use crate::running::run;
 use crate::status::Status;
+use crate::streams::Streams;
 use crate::telling::tell_failure;
 use crate::usage::explain;
 use std::alloc::Global;
@@ -28,8 +29,7 @@ pub fn answer<P, S, I, F, O, Q, W, E>(
     input: &mut I,
     open_font: O,
     open_waivers: Q,
-    out: &mut W,
-    errors: &mut E,
+    streams: &mut Streams<W, E>,
 ) -> Answered<F>
 where
     P: Program,
@@ -55,23 +55,20 @@ where
           };
         })
         (record { old = I.state input.old; new = I.state input.new })
-        (record {
-          old = record { out = W.state out.old; errors = E.state errors.old };
-          new = record { out = W.state out.new; errors = E.state errors.new };
-        }) result.status }
+        (record { old = sinks_by W.state E.state streams.old; new = sinks_by W.state E.state streams.new }) result.status }
 {
     let options = match P::read_words(alloc, words) {
         Ok(options) => options,
         Err(error) => {
             return Answered {
-                status: explain(P::name(), &error, out, errors),
+                status: explain(P::name(), &error, streams),
                 font: None,
                 waivers: None,
             };
         }
     };
     let Some(name) = options.font() else {
-        let (status, waivers) = run_on(alloc, &options, input, open_waivers, out, errors);
+        let (status, waivers) = run_on(alloc, &options, input, open_waivers, streams);
         return Answered {
             status,
             font: None,
@@ -81,7 +78,7 @@ where
     match open_font(name) {
         Ok(file) => {
             let mut source = In::new(file);
-            let (status, waivers) = run_on(alloc, &options, &mut source, open_waivers, out, errors);
+            let (status, waivers) = run_on(alloc, &options, &mut source, open_waivers, streams);
             Answered {
                 status,
                 font: Some(source),
@@ -89,7 +86,7 @@ where
             }
         }
         Err(_) => Answered {
-            status: tell_failure(P::name(), Failure::Broken, errors),
+            status: tell_failure(P::name(), Failure::Broken, &mut streams.errors),
             font: None,
             waivers: None,
         },
@@ -102,8 +99,7 @@ fn run_on<P, R, F, Q, W, E>(
     options: &P,
     source: &mut R,
     open_waivers: Q,
-    out: &mut W,
-    errors: &mut E,
+    streams: &mut Streams<W, E>,
 ) -> (Status, Option<In<F>>)
 where
     P: Program,
@@ -120,23 +116,20 @@ where
           left = option_map (λ s. ⟦<In<F> as Source>⟧.state s) result.1;
         })
         (record { old = R.state source.old; new = R.state source.new })
-        (record {
-          old = record { out = W.state out.old; errors = E.state errors.old };
-          new = record { out = W.state out.new; errors = E.state errors.new };
-        }) result.0 }
+        (record { old = sinks_by W.state E.state streams.old; new = sinks_by W.state E.state streams.new }) result.0 }
 {
     match options.waivers() {
         Some(name) => match open_waivers(name) {
             Ok(file) => {
                 let mut waivers = In::new(file);
-                let status = run(alloc, options, source, &mut waivers, out, errors);
+                let status = run(alloc, options, source, &mut waivers, streams);
                 (status, Some(waivers))
             }
-            Err(_) => (tell_failure(P::name(), Failure::Broken, errors), None),
+            Err(_) => (tell_failure(P::name(), Failure::Broken, &mut streams.errors), None),
         },
         None => {
             let mut none = In::new(io::empty());
-            (run(alloc, options, source, &mut none, out, errors), None)
+            (run(alloc, options, source, &mut none, streams), None)
         }
     }
 }

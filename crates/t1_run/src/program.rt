@@ -1,9 +1,11 @@
 //! What programs that read one font differ in.
 
 ghost use Rattle.t1_font.specs.Bounds.{most_glyphs};
+ghost use Rattle.t1_run.specs.Opening.{sinks_by};
 ghost use Rattle.t1_run.specs.Programs.{Meaning};
 
 use crate::status::Status;
+use crate::streams::Streams;
 use crate::usage::UsageError;
 use std::alloc::Global;
 use std::convert::AsStr;
@@ -47,11 +49,8 @@ pub trait Program: Drop {
         alloc: Global,
         font: &Font<'_>,
         waivers: &Waivers<'_>,
-        out: &mut W,
-        errors: &mut E,
+        streams: &mut Streams<W, E>,
     ) -> Status
         requires { length font.now.glyphs ≤ most_glyphs }
-        ensures { meaning.Shows self.now font.now waivers.now
-            (record { out = W.state out.old; errors = E.state errors.old })
-            (record { out = W.state out.new; errors = E.state errors.new }) result };
+        ensures { meaning.Shows self.now font.now waivers.now (sinks_by W.state E.state streams.old) (sinks_by W.state E.state streams.new) result };
 }

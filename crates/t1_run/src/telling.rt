@@ -4,10 +4,12 @@ ghost use Rattle.std.specs.Prelude.{[], ◌∷◌};
 ghost use Rattle.std.specs.List.{concat};
 ghost use Rattle.t1_io.specs.Devices.{whole_of};
 ghost use Rattle.t1_run.specs.Failures.{failure_line, failure_status, no_glyph_line, write_failed_line};
+ghost use Rattle.t1_run.specs.Opening.{sinks_by};
 ghost use Rattle.t1_run.specs.Telling.{Gives, Tells};
 
 use crate::failure::Failure;
 use crate::status::Status;
+use crate::streams::Streams;
 use t1_font::refusal_text;
 use t1_io::{Sink, deliver, put_all, put_parts};
 
@@ -72,13 +74,11 @@ fn tell_of<E: Sink>(program: &str, what: &[u8], errors: &mut E) -> Status
 }
 
 /// Prints a text on the output and flushes it. If that fails, it is reported on standard error.
-pub fn give<W: Sink, E: Sink>(program: &str, text: &[u8], out: &mut W, errors: &mut E) -> Status
-    ensures { Gives program.now text.now Status.Clean
-        (record { out = W.state out.old; errors = E.state errors.old })
-        (record { out = W.state out.new; errors = E.state errors.new }) result }
+pub fn give<W: Sink, E: Sink>(program: &str, text: &[u8], streams: &mut Streams<W, E>) -> Status
+    ensures { Gives program.now text.now Status.Clean (sinks_by W.state E.state streams.old) (sinks_by W.state E.state streams.new) result }
 {
-    match deliver(out, text) {
+    match deliver(&mut streams.out, text) {
         Ok(()) => Status::Clean,
-        Err(_) => tell_write_failed(program, errors),
+        Err(_) => tell_write_failed(program, &mut streams.errors),
     }
 }

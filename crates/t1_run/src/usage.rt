@@ -1,11 +1,13 @@
 //! Why the words of a command line yield no options, and what is printed then.
 
 ghost use Rattle.std.specs.Prelude.{◌≡◌};
+ghost use Rattle.t1_run.specs.Opening.{sinks_by};
 ghost use Rattle.t1_run.specs.Telling.{Explains};
 ghost use Rattle.t1_run.specs.declared.usage.UsageError.TheVariants.{Memory};
 
 use crate::failure::Failure;
 use crate::status::Status;
+use crate::streams::Streams;
 use crate::telling::{give, tell, tell_failure};
 use std::alloc::AllocError;
 use t1_io::Sink;
@@ -38,16 +40,13 @@ impl From<AllocError> for UsageError {
 pub fn explain<W: Sink, E: Sink>(
     program: &str,
     error: &UsageError,
-    out: &mut W,
-    errors: &mut E,
+    streams: &mut Streams<W, E>,
 ) -> Status
-    ensures { Explains program.now error.now
-        (record { out = W.state out.old; errors = E.state errors.old })
-        (record { out = W.state out.new; errors = E.state errors.new }) result }
+    ensures { Explains program.now error.now (sinks_by W.state E.state streams.old) (sinks_by W.state E.state streams.new) result }
 {
     match error {
-        UsageError::Help(text) => give(program, text.as_bytes(), out, errors),
-        UsageError::Usage(text) => tell(errors, text.as_str(), Status::Failed),
-        UsageError::Memory => tell_failure(program, Failure::Memory, errors),
+        UsageError::Help(text) => give(program, text.as_bytes(), streams),
+        UsageError::Usage(text) => tell(&mut streams.errors, text.as_str(), Status::Failed),
+        UsageError::Memory => tell_failure(program, Failure::Memory, &mut streams.errors),
     }
 }

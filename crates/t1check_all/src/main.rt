@@ -28,7 +28,7 @@ use t1_answer_all::{PROGRAM, answer};
 use t1_forms::VERSION;
 use t1_io::Out;
 use t1_pages::pages;
-use t1_run::{Failure, Status, tell_failure};
+use t1_run::{Failure, Status, Streams, tell_failure};
 
 fn main(rt: HostRuntime) -> Status {
     let alloc = rt.alloc();
@@ -44,17 +44,17 @@ fn main(rt: HostRuntime) -> Status {
         return tell_failure(PROGRAM, Failure::Memory, &mut errors);
     };
     let mut system = System::new(&rt, &progress);
+    let out = Out::new(out);
     let answered = answer(
         alloc,
         words.as_slice(),
         version.as_bytes(),
         &pages(),
         &mut system,
-        Out::new(out),
-        errors,
+        Streams { out, errors },
     );
     progress.clear();
-    answered.status
+    answered.value
 }
 
 /// The version, with the commit that the script names, if it does.

@@ -21,8 +21,8 @@ use t1_io::Sink;
 use t1_picture::Extent;
 use t1_report::Waivers;
 use t1_run::{
-    Argument, ArgumentKind, Program, Status, UsageError, borrowed, edition, number, owned, parse,
-    with_arguments,
+    Argument, ArgumentKind, Program, Status, Streams, UsageError, borrowed, edition, number, owned,
+    parse, with_arguments,
 };
 
 const ABOUT: &str = "\
@@ -128,10 +128,9 @@ impl Program for DrawOptions {
         alloc: Global,
         font: &Font<'_>,
         waivers: &Waivers<'_>,
-        out: &mut W,
-        errors: &mut E,
+        streams: &mut Streams<W, E>,
     ) -> Status {
-        show(alloc, self, font, waivers, out, errors)
+        show(alloc, self, font, waivers, streams)
     }
 }
 

@@ -35,7 +35,7 @@ use std::fs;
 use std::io::BufWriter;
 use t1_forms::VERSION;
 use t1_io::{In, Out, Sink};
-use t1_run::{Failure, Status, answer, explain, give, tell_failure, words_given};
+use t1_run::{Failure, Status, Streams, answer, explain, give, tell_failure, words_given};
 
 /// The program's name, before what it prints.
 const PROGRAM: &str = "t1draw";
@@ -59,23 +59,27 @@ fn main(rt: HostRuntime) -> Status {
     let mut errors = Out::new(rt.stderr());
     let words = match words_given(&rt, NOT_UTF8) {
         Ok(words) => words,
-        Err(error) => return explain(PROGRAM, &error, &mut Out::new(rt.stdout()), &mut errors),
+        Err(error) => {
+            let out = Out::new(rt.stdout());
+            return explain(PROGRAM, &error, &mut Streams { out, errors });
+        }
     };
     if let Some(folder) = folder_of(alloc, words.as_slice()) {
-        let mut files = Out::new(Files::of(&rt, folder.as_str()));
-        return run(&rt, words.as_slice(), &mut files, &mut errors);
+        let out = Out::new(Files::of(&rt, folder.as_str()));
+        return run(&rt, words.as_slice(), &mut Streams { out, errors });
     }
     let Ok(writer) = BufWriter::new(alloc, rt.stdout()) else {
         return tell_failure(PROGRAM, Failure::Memory, &mut errors);
     };
-    let mut out = Out::new(writer);
+    let out = Out::new(writer);
+    let mut streams = Streams { out, errors };
     if asks_version(words.as_slice()) {
         return match format!(in alloc; "{PROGRAM} {VERSION}\n") {
-            Ok(text) => give(PROGRAM, text.as_bytes(), &mut out, &mut errors),
-            Err(_) => tell_failure(PROGRAM, Failure::Memory, &mut errors),
+            Ok(text) => give(PROGRAM, text.as_bytes(), &mut streams),
+            Err(_) => tell_failure(PROGRAM, Failure::Memory, &mut streams.errors),
         };
     }
-    run(&rt, words.as_slice(), &mut out, &mut errors)
+    run(&rt, words.as_slice(), &mut streams)
 }
 
 /// The folder that the words name, if their output is files.
@@ -98,8 +102,7 @@ fn folder_in(asked: Asked) -> Option<String> {
 fn run<W: Sink, E: Sink>(
     rt: &HostRuntime,
     words: &[String],
-    out: &mut W,
-    errors: &mut E,
+    streams: &mut Streams<W, E>,
 ) -> Status {
     let answered = answer::<DrawOptions, _, _, _, _, _, _, _>(
         rt.alloc(),
@@ -107,8 +110,7 @@ fn run<W: Sink, E: Sink>(
         &mut In::new(rt.stdin()),
         |name| fs::open(rt, name),
         |name| fs::open(rt, name),
-        out,
-        errors,
+        streams,
     );
     answered.status
 }

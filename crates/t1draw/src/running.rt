@@ -3,6 +3,7 @@
 ghost use Rattle.std.specs.Prelude.{◌<◌, IfSome, length};
 ghost use Rattle.t1_picture.specs.Extents.{CanBeShown};
 ghost use Rattle.t1_picture.specs.Subjects.{fault_in, shown_value};
+ghost use Rattle.t1_run.specs.Opening.{sinks_by};
 ghost use Rattle.t1draw.specs.Draws.{Draws, DrawsFolder, DrawsGlyph};
 ghost use Rattle.t1draw.specs.Private.Sheets.{DrawsAs, IsSound, TellsNoFault, edition_of, font_of, waivers_of};
 
@@ -19,7 +20,7 @@ use t1_io::Sink;
 use t1_picture::{Extent, Shown, shown_by};
 use t1_report::Waivers;
 use t1_rules::{Sidebearings, glyph_named};
-use t1_run::{Failure, Status, give, tell_failure, tell_no_glyph, tell_parts};
+use t1_run::{Failure, Status, Streams, give, tell_failure, tell_no_glyph, tell_parts};
 
 /// Writes the picture of the glyph that the options name, or those of all glyphs with faults. Where there is none, the reason is reported, and
 /// nothing is put on the output.
@@ -28,15 +29,12 @@ pub(crate) fn show<W: Sink, E: Sink>(
     options: &DrawOptions,
     font: &Font<'_>,
     waivers: &Waivers<'_>,
-    out: &mut W,
-    errors: &mut E,
+    streams: &mut Streams<W, E>,
 ) -> Status
-    ensures { Draws options.now font.now waivers.now
-        (record { out = W.state out.old; errors = E.state errors.old })
-        (record { out = W.state out.new; errors = E.state errors.new }) result }
+    ensures { Draws options.now font.now waivers.now (sinks_by W.state E.state streams.old) (sinks_by W.state E.state streams.new) result }
 {
     let Ok(sidebearings) = Sidebearings::prepare(alloc, font, options.edition) else {
-        return tell_failure(PROGRAM, Failure::Memory, errors);
+        return tell_failure(PROGRAM, Failure::Memory, &mut streams.errors);
     };
     let sheet = Sheet {
         font: &*font,
@@ -45,9 +43,9 @@ pub(crate) fn show<W: Sink, E: Sink>(
     };
     match &options.asked {
         Asked::Glyph { name, extent } => {
-            show_glyph(alloc, &sheet, name.as_slice(), *extent, out, errors)
+            show_glyph(alloc, &sheet, name.as_slice(), *extent, streams)
         }
-        Asked::Faulty { .. } => show_folder(alloc, &sheet, out, errors),
+        Asked::Faulty { .. } => show_folder(alloc, &sheet, streams),
     }
 }
 
@@ -57,23 +55,21 @@ fn show_glyph<W: Sink, E: Sink>(
     sheet: &Sheet<'_>,
     name: &[u8],
     extent: Extent,
-    out: &mut W,
-    errors: &mut E,
+    streams: &mut Streams<W, E>,
 ) -> Status
     requires { IsSound sheet.now }
     ensures { DrawsGlyph (font_of sheet.now) (edition_of sheet.now) (waivers_of sheet.now) name.now extent
-        (record { out = W.state out.old; errors = E.state errors.old })
-        (record { out = W.state out.new; errors = E.state errors.new }) result }
+        (sinks_by W.state E.state streams.old) (sinks_by W.state E.state streams.new) result }
 {
     let Some(glyph) = glyph_named(sheet.font, name) else {
         return match shown(alloc, name) {
-            Ok(name) => tell_no_glyph(PROGRAM, name.as_str(), errors),
-            Err(_) => tell_failure(PROGRAM, Failure::Memory, errors),
+            Ok(name) => tell_no_glyph(PROGRAM, name.as_str(), &mut streams.errors),
+            Err(_) => tell_failure(PROGRAM, Failure::Memory, &mut streams.errors),
         };
     };
     match shown_by(sheet.font, sheet.sidebearings, sheet.waivers, glyph, extent) {
-        Ok(shown) => give_picture(alloc, sheet, glyph, shown, out, errors),
-        Err(none) => tell_no_fault(alloc, name, none.number, errors),
+        Ok(shown) => give_picture(alloc, sheet, glyph, shown, streams),
+        Err(none) => tell_no_fault(alloc, name, none.number, &mut streams.errors),
     }
 }
 
@@ -104,19 +100,16 @@ fn give_picture<W: Sink, E: Sink>(
     sheet: &Sheet<'_>,
     glyph: usize,
     shown: Shown,
-    out: &mut W,
-    errors: &mut E,
+    streams: &mut Streams<W, E>,
 ) -> Status
     requires sound { IsSound sheet.now }
     requires glyph { glyph < length sheet.now.font.now.glyphs }
     requires fault { IfSome (fault_in (shown_value shown)) (CanBeShown (font_of sheet.now) (waivers_of sheet.now) glyph) }
-    ensures { DrawsAs sheet.now glyph (shown_value shown)
-        (record { out = W.state out.old; errors = E.state errors.old })
-        (record { out = W.state out.new; errors = E.state errors.new }) result }
+    ensures { DrawsAs sheet.now glyph (shown_value shown) (sinks_by W.state E.state streams.old) (sinks_by W.state E.state streams.new) result }
 {
     match drawn(alloc, sheet, glyph, shown) {
-        Ok(text) => give(PROGRAM, text.as_bytes(), out, errors),
-        Err(_) => tell_failure(PROGRAM, Failure::Memory, errors),
+        Ok(text) => give(PROGRAM, text.as_bytes(), streams),
+        Err(_) => tell_failure(PROGRAM, Failure::Memory, &mut streams.errors),
     }
 }
 
@@ -124,16 +117,14 @@ fn give_picture<W: Sink, E: Sink>(
 fn show_folder<W: Sink, E: Sink>(
     alloc: Global,
     sheet: &Sheet<'_>,
-    out: &mut W,
-    errors: &mut E,
+    streams: &mut Streams<W, E>,
 ) -> Status
     requires { IsSound sheet.now }
     ensures { DrawsFolder (font_of sheet.now) (edition_of sheet.now) (waivers_of sheet.now)
-        (record { out = W.state out.old; errors = E.state errors.old })
-        (record { out = W.state out.new; errors = E.state errors.new }) result }
+        (sinks_by W.state E.state streams.old) (sinks_by W.state E.state streams.new) result }
 {
     match folder_text(alloc, sheet) {
-        Ok(text) => give(PROGRAM, text.as_bytes(), out, errors),
-        Err(_) => tell_failure(PROGRAM, Failure::Memory, errors),
+        Ok(text) => give(PROGRAM, text.as_bytes(), streams),
+        Err(_) => tell_failure(PROGRAM, Failure::Memory, &mut streams.errors),
     }
 }

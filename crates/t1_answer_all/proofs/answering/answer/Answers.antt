@@ -7,10 +7,10 @@ returns-in-Ok-Check g c = checks c.in-Ok-Check.options (rw c.in-Ok-Check.field-0
 
 pub returns-in-Ok-Explain : goal.returns-in-Ok-Explain
 returns-in-Ok-Explain g c = explains_pages c.in-Ok-Explain.codes (rw c.in-Ok-Explain.field-0-is at c.in-Ok-Explain.ensures.taken)
-    (rw c.as_slice.ensures.value at c.explain_pages.ensures) refl
+    (rw c.as_slice.ensures.value at c.explain_pages-value.ensures) refl
 
 pub returns-in-Ok-Version : goal.returns-in-Ok-Version
-returns-in-Ok-Version g c = gives_version (rw c.in-Ok-Version.field-0-is at c.in-Ok-Version.ensures.taken) c.give_text.ensures refl
+returns-in-Ok-Version g c = gives_version (rw c.in-Ok-Version.field-0-is at c.in-Ok-Version.ensures.taken) c.give-value.ensures refl
 
 pub returns-in-Err : goal.returns-in-Err
-returns-in-Err g c = explained c.in-Err.error c.in-Err.ensures.refused c.explained.ensures refl
+returns-in-Err g c = explained c.in-Err.error c.in-Err.ensures.refused c.explain-value.ensures refl

@@ -1,12 +1,10 @@
-use Rattle.std.proofs.Common.{ap, refl}
+use Rattle.std.proofs.Common.{refl}
 use Rattle.t1_answer_all.proofs.writing.write_commands.Goals as goal
 use Rattle.t1_answer_all.specs.Writing.WritesCommands.{unflushed, unlistable, written}
 use Rattle.t1_many.specs.declared.policy.Lost.TheVariants.{Device}
 
 pub returns-in-Err : goal.returns-in-Err
-returns-in-Err g c =
-    unlistable _ c.give_unlisted.new.formatter c.in-Err.lost (rw c.unwritten.ensures.out c.in-Err.ensures) (ap g.E.Sink.state c.unwritten.ensures.errors)
-    refl c.unwritten.ensures.found
+returns-in-Err g c = rw c.unwritten.ensures (unlistable _ c.give_unlisted.new.formatter c.in-Err.lost c.in-Err.ensures refl refl refl)
 
 pub returns-in-Ok : goal.returns-in-Ok
 returns-in-Ok g c =
@@ -14,6 +12,5 @@ returns-in-Ok g c =
 
 pub returns-in-Err-flush : goal.returns-in-Err-flush
 returns-in-Err-flush g c =
-    unflushed _ _ c.in_default.ensures Device
-    (rw c.unwritten-in-Err-flush.ensures.out c.in-Err-flush.ensures.flushes.0) (ap g.E.Sink.state c.unwritten-in-Err-flush.ensures.errors)
-    refl c.unwritten-in-Err-flush.ensures.found
+    rw c.unwritten-in-Err-flush.ensures
+    (unflushed _ _ c.in_default.ensures Device c.in-Err-flush.ensures.flushes.0 refl refl refl)

@@ -1,32 +1,20 @@
-use Rattle.std.proofs.Common.{Bool, ap, refl, sym}
-use Rattle.t1_answer_all.proofs.FormMaps.{fonts-kept}
-use Rattle.t1_answer_all.proofs.FormattedRuns.{formatted_ends}
+use Rattle.std.proofs.Common.{Bool, ap, refl}
+use Rattle.t1_answer_all.proofs.FormMaps.{fonts_seen}
 use Rattle.t1_answer_all.proofs.writing.write_formatted.Goals as goal
-use Rattle.t1_answer_all.specs.Writing.WritesFormatted.{unlistable}
+use Rattle.t1_answer_all.specs.Writing.WritesFormatted.{unlistable, written}
 use Rattle.t1_printers.specs.Formatting.{FormattedTakes}
+use Rattle.t1_printers.specs.Printing.{formatting_by}
 
 pub returns-in-Err : goal.returns-in-Err
-returns-in-Err g c =
-    unlistable c.give_unlisted.new.formatter c.in-Err.lost (rw c.unwritten.ensures.out c.in-Err.ensures) (ap g.E.Sink.state c.unwritten.ensures.errors)
-    refl c.unwritten.ensures.found
+returns-in-Err g c = rw c.unwritten.ensures (unlistable c.give_unlisted.new.formatter c.in-Err.lost c.in-Err.ensures refl refl refl)
 
 pub returns : goal.returns
 returns g c =
-    formatted_ends (record { reasons = c.args.reasons; writes = g.T.Formatter.writes; ends = g.T.Formatter.ends }) g.T.Formatter.finishes _ _ _
-    (record {
-      formatter = c.new-form.result.formatter;
-      out = g.W.Sink.state c.new-form.result.out;
-      errors = g.E.Sink.state c.new-form.result.errors;
-    })
-    (record {
-      formatter = c.check_fonts-checked.result.printer.formatter;
-      out = g.W.Sink.state c.check_fonts-checked.result.printer.out;
-      errors = g.E.Sink.state c.check_fonts-checked.result.printer.errors;
-    })
-    (rw (c.new-form.ensures.formatter, c.new-form.ensures.out) c.in_default.ensures)
-    (ap g.E.Sink.state c.new-form.ensures.errors) (ap g.E.Sink.state c.into_parts-formatter.ensures.errors) _ _
-    (rw c.new-form.ensures.reasons at
-    (fonts-kept (λ (reasons : Bool). FormattedTakes (record { reasons = reasons; writes = g.T.Formatter.writes; ends = g.T.Formatter.ends })) (λ form. form.reasons)
-    (λ form. record { formatter = form.formatter; out = g.W.Sink.state form.out; errors = g.E.Sink.state form.errors }) _ _ _ _
-    c.check_fonts-checked.ensures))
-    (rw (sym c.into_parts-formatter.ensures.formatter, sym c.into_parts-formatter.ensures.out) c.finish_checked-found.ensures)
+    let new = c.new-form.ensures in
+    written (formatting_by g.W.Sink.state g.E.Sink.state c.new-form.result)
+    (formatting_by g.W.Sink.state g.E.Sink.state c.check_fonts-checked.result.output)
+    (rw (new.formatter, new.streams) c.in_default.ensures) (ap (λ s. g.E.Sink.state s.errors) new.streams) c.check_fonts-checked.result.value
+    (rw new.reasons at
+    (fonts_seen (λ (reasons : Bool). FormattedTakes (record { reasons = reasons; writes = g.T.Formatter.writes; ends = g.T.Formatter.ends }))
+    (λ form. form.reasons) (λ reasons. formatting_by g.W.Sink.state g.E.Sink.state) _ _ _ _ c.check_fonts-checked.ensures))
+    c.finish-value.ensures refl

@@ -3,16 +3,16 @@ use Rattle.std.specs.Result.{IsErrAnd}
 use Rattle.t1_forms.specs.Commands.{command_of}
 use Rattle.t1_forms.specs.Tellings.{what_value}
 use Rattle.t1_printers.proofs.github.put_told.Goals as goal
-use Rattle.t1_printers.specs.Grouping.{IsTextPut}
+use Rattle.t1_many.specs.Plain.{IsLinePut}
 use Rattle.t1_io.specs.Devices.{PutFailed, SinkState, Wrote}
 use Rattle.t1_many.specs.Handing.{lost_of}
 use Rattle.t1_many.specs.declared.policy.Lost.{Lost}
 use Rattle.t1_many.specs.declared.policy.Lost.TheVariants.{Device}
 
 text_failed : {T : Type 0} (result : Result T Lost) (a b : SinkState) (text : List ℕ) → IsErrAnd result (λ lost. lost ≡ Device)
-    → PutFailed a b text → IsTextPut a b text (lost_of result)
+    → PutFailed a b text → IsLinePut a b text (lost_of result)
 text_failed (Ok value) a b text is broke = absurd is
-text_failed (Err lost) a b text is broke = subst (λ (l : Lost). IsTextPut a b text (Some l)) (sym is) broke
+text_failed (Err lost) a b text is broke = subst (λ (l : Lost). IsLinePut a b text (Some l)) (sym is) broke
 
 pub returns-in_err-write_command : goal.returns-in_err-write_command
 returns-in_err-write_command g c =

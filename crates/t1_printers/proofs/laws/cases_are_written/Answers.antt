@@ -1,5 +1,6 @@
 use Rattle.t1_printers.proofs.CaseTexts.{seen-cases}
 use Rattle.t1_printers.proofs.laws.cases_are_written.Goals as goal
+use Rattle.t1_printers.specs.Printing.{formatting_by}
 
 pub returns : goal.returns
-returns g c = seen-cases (λ f. f.reasons) (λ f. record { formatter = f.formatter; out = g.W.Sink.state f.out; errors = g.E.Sink.state f.errors })
+returns g c = seen-cases (λ f. f.reasons) (formatting_by g.W.Sink.state g.E.Sink.state)

@@ -14,7 +14,7 @@ use Rattle.t1_report.specs.Lines.{line_of}
 pub returns-in_err-put_line-clause-took : goal.returns-in_err-put_line-clause-took
 returns-in_err-put_line-clause-took g c =
     let fault = fault_value c.args.fault.now in
-    let before = g.W.Sink.state c.args.self.now.out in
+    let before = g.W.Sink.state c.args.self.now.streams.out in
     let behind = g.W.Sink.state c.put_line.new.sink in
     let lost = c.in_err-put_line.field-0.0 in (
       refl,
@@ -33,7 +33,7 @@ returns-in_err-put_line-clause-took g c =
 pub returns-clause-took : goal.returns-clause-took
 returns-clause-took g c =
     let fault = fault_value c.args.fault.now in
-    let before = g.W.Sink.state c.args.self.now.out in
+    let before = g.W.Sink.state c.args.self.now.streams.out in
     let between = g.W.Sink.state c.put_line.new.sink in
     let behind = g.W.Sink.state c.put_behind.new.sink in (
       refl,

@@ -2,7 +2,7 @@ use Rattle.std.proofs.Common.{◌≡◌, ◌++◌, ◌∙◌, None, Some, ap, co
 use Rattle.t1_forms.specs.Commands.{command_of}
 use Rattle.t1_forms.specs.Tellings.{of_line}
 use Rattle.t1_printers.proofs.github.GitHubGroupsGroupForm.put_refusal.Goals as goal
-use Rattle.t1_printers.specs.Grouping.{IsTextPut}
+use Rattle.t1_many.specs.Plain.{IsLinePut}
 use Rattle.t1_lines.specs.Lines.{of_refusal, spelled}
 use Rattle.t1_many.specs.Handing.{lost_of}
 
@@ -14,5 +14,5 @@ returns g c =
     let from = g.W.Sink.state c.args.sink.now in
     let to = g.W.Sink.state c.put_told.new.sink in
     subst
-    (λ l. IsTextPut from to (command_of (record { font = Some c.args.name.now; what = of_line refusal; reason = None }) l) (lost_of c.put_told.result))
+    (λ l. IsLinePut from to (command_of (record { font = Some c.args.name.now; what = of_line refusal; reason = None }) l) (lost_of c.put_told.result))
     line c.put_told.ensures
