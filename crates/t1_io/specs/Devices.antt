@@ -1,5 +1,5 @@
 -- What is known of a device, and what a call does to it.
-use Rattle.std.specs.Prelude.{◌≡◌, ◌⊎◌, if◌then◌else◌, ℕ, ◌+◌, ◌-◌, ◌^◌, ◌==◌, ◌≤◌, ◌<◌, min, length, take, List, ◌++◌, Bool, true, ◌&&◌, Option, Result, Ok, Err}
+use Rattle.std.specs.Prelude.{◌≡◌, ◌⊎◌, if◌then◌else◌, ℕ, ◌+◌, ◌-◌, ◌^◌, ◌==◌, ◌≤◌, ◌<◌, min, length, take, List, ◌++◌, Bool, true, not, ◌&&◌, ◌||◌, Option, Result, Ok, Err}
 use Rattle.std.specs.Borrow.{Bor}
 use Rattle.std.specs.List.{flat_map}
 use Rattle.std.specs.Io.KnownBytes.{Appends, Consumes, IsAtEnd, Keeps}
@@ -14,14 +14,24 @@ pub record SourceState : Type 0 where
   pub left : Option (List ℕ)
   -- How many calls of take there were.
   pub takes : ℕ
-  -- How many of them came after a call that failed.
+  -- How many of them came after a call that failed or found the end.
   pub late_takes : ℕ
   -- Whether a call has failed.
   pub failed : Bool
+  -- Whether a call has found the end: it brought no byte although the buffer had room.
+  pub ended : Bool
 
--- The calls of take after a failed one, with one call more.
+-- A call has failed or found the end, so there is no reason for another one.
+abbrev pub is_over : SourceState → Bool
+is_over source = source.failed || source.ended
+
+-- The calls of take after such a one, with one call more.
 abbrev pub late_takes_behind : SourceState → ℕ
-late_takes_behind old = if old.failed then one_more old.late_takes else old.late_takes
+late_takes_behind old = if is_over old then one_more old.late_takes else old.late_takes
+
+-- A call that brought so many bytes into a buffer of this length found the end.
+abbrev pub finds_end : ℕ → ℕ → Bool
+finds_end count room = count == 0 && not (room == 0)
 
 -- A read put so many bytes at the beginning of the buffer: none only at the end or without room.
 pub record Took (old new : SourceState) (buffer : List ℕ) (count : ℕ) : Type 0 where
@@ -31,6 +41,7 @@ pub record Took (old new : SourceState) (buffer : List ℕ) (count : ℕ) : Type
   pub takes : new.takes ≡ one_more old.takes
   pub late_takes : new.late_takes ≡ late_takes_behind old
   pub failed : new.failed ≡ old.failed
+  pub ended : new.ended ≡ (old.ended || finds_end count (length buffer))
 
 -- A read failed: no byte was taken.
 pub record TookNone (old new : SourceState) : Type 0 where
@@ -38,6 +49,7 @@ pub record TookNone (old new : SourceState) : Type 0 where
   pub takes : new.takes ≡ one_more old.takes
   pub late_takes : new.late_takes ≡ late_takes_behind old
   pub failed : new.failed ≡ true
+  pub ended : new.ended ≡ old.ended
 
 -- What a call of take does.
 abbrev pub Takes : {E : Type 0} → SourceState → SourceState → List ℕ → Result ℕ E → Type 0

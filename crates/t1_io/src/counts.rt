@@ -2,15 +2,16 @@
 
 ghost use Rattle.std.specs.Prelude.{◌≡◌, true};
 ghost use Rattle.t1_io.specs.Devices.{one_more};
-ghost use Rattle.t1_io.specs.Private.Counts.{take_counted};
+ghost use Rattle.t1_io.specs.Private.Counts.{take_brought, take_counted};
 
-/// The calls of take, and whether one has failed.
+/// The calls of take, and whether one has failed or found the end.
 #[derive(Clone, Copy)]
 pub(crate) struct TakeCounts {
     pub(crate) takes: u64,
-    /// Those after a failed one.
+    /// Those after one that failed or found the end.
     pub(crate) late_takes: u64,
     pub(crate) failed: bool,
+    pub(crate) ended: bool,
 }
 
 impl TakeCounts {
@@ -19,9 +20,16 @@ impl TakeCounts {
         ensures { self.new ≡ take_counted self.old }
     {
         self.takes = self.takes.saturating_add(1);
-        if self.failed {
+        if self.failed || self.ended {
             self.late_takes = self.late_takes.saturating_add(1);
         }
+    }
+
+    /// It brought so many bytes into a buffer of this length. None although there is room is the end.
+    pub(crate) fn bring(&mut self, count: usize, room: usize)
+        ensures { self.new ≡ take_brought self.old count room }
+    {
+        self.ended = self.ended || (count == 0 && room != 0);
     }
 }
 

@@ -30,13 +30,14 @@ pub struct In<R: Read> {
 }
 
 impl<R: Read> In<R> {
-    /// A source over a reader, of which no byte was taken and no call has failed.
+    /// A source over a reader of which no byte was taken.
     pub fn new(reader: R) -> In<R>
         ensures { ⟦<In<R> as Source>⟧.state result ≡ record {
           left = R.remaining reader;
           takes = 0;
           late_takes = 0;
           failed = false;
+          ended = false;
         } }
     {
         In {
@@ -45,6 +46,7 @@ impl<R: Read> In<R> {
                 takes: 0,
                 late_takes: 0,
                 failed: false,
+                ended: false,
             },
         }
     }
@@ -56,12 +58,16 @@ impl<R: Read> Source for In<R> {
       takes = source.counts.takes;
       late_takes = source.counts.late_takes;
       failed = source.counts.failed;
+      ended = source.counts.ended;
     } };
 
     fn take(&mut self, buffer: &mut [u8]) -> Result<usize, Broken> {
         self.counts.count();
         match self.reader.read(buffer) {
-            Ok(count) => Ok(count),
+            Ok(count) => {
+                self.counts.bring(count, buffer.len());
+                Ok(count)
+            }
             Err(_) => {
                 self.counts.failed = true;
                 Err(Broken)

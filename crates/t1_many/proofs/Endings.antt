@@ -1,11 +1,11 @@
 -- How the check of a font ends, by what is known of its files.
-use Rattle.std.proofs.Common.{◌≡◌, ℕ, Bool, false, List, Option, Result, Ok, Err, Some, inl, inr, refl, sym, ap, subst, ◌∙◌}
+use Rattle.std.proofs.Common.{◌≡◌, ◌||◌, ℕ, Bool, true, false, true≢false, List, Option, Result, Ok, Err, Some, inl, inr, refl, sym, ap, subst, ◌∙◌}
 use Rattle.t1_font.specs.declared.unread.RefusalCode.TheVariants.{E05}
 use Rattle.t1_char.specs.declared.edition.Edition.{Edition}
 use Rattle.t1_font.specs.FontFiles.{IsUnread, font_in}
 use Rattle.t1_font.specs.Fonts.{FontValue}
 use Rattle.t1_font.specs.declared.unread.Unread.{Unread}
-use Rattle.t1_io.specs.Devices.{SourceState}
+use Rattle.t1_io.specs.Devices.{SourceState, is_over}
 use Rattle.t1_report.specs.Refusals.{Refusal}
 use Rattle.t1_report.specs.Refusals.Refusal.{Font, FontTooLarge, Waivers, WaiversTooLarge}
 use Rattle.t1_many.specs.Files.{Given, IsFound, given_by}
@@ -92,6 +92,14 @@ text_unread value edition font text Malformed none = waivers_refused font refl (
 text_unread value edition font text Memory any = no_memory refl
 
 -- ---- its file
+
+-- a source of which no call has failed or found the end
+neither-left : (failed ended : Bool) → (failed || ended) ≡ false → failed ≡ false
+neither-left true ended is = absurd (true≢false is)
+neither-left false ended is = refl
+
+pub not_failed : (source : SourceState) → is_over source ≡ false → source.failed ≡ false
+not_failed source going = neither-left source.failed source.ended going
 
 pub file_unread : (edition : Edition) (font : FontValue) (asked : Bool) (old new : SourceState) (failure : Failure)
     → IsNoWaiverText asked old new failure → IsFound edition (of_font edition font asked old new) (ended failure)

@@ -70,6 +70,11 @@ pub record Files : Type 1 where
 abbrev pub files_by : {F : Type 0} → Calls F → WaiverFiles → F → F → Files
 files_by {F} calls beside old new = record { Store = F; calls = calls; beside = beside; old = old; new = new }
 
+-- At most so many bytes of a file were read. No read came after one that failed or found the end.
+pub record ReadsUpTo (most : ℕ) (old new : SourceState) : Type 0 where
+  pub reads : ReadsAtMost most old new
+  pub none_late : new.late_takes ≡ old.late_takes
+
 -- Nothing was done to the files.
 abbrev pub AreUntouched : Files → Type 0
 AreUntouched files = files.new ≡ files.old
@@ -93,7 +98,7 @@ pub data ChecksIn (files : Files) (edition : Edition) (name : List ℕ) (outcome
   without_waivers :
       has_line_end name ≡ false → (opened asked : files.Store) → (source source' waivers waivers' : SourceState)
       → files.calls.Opens files.old opened name (Ok source) → HasNoWaivers files.calls (asks files.beside name) name opened asked
-      → files.calls.Leaves asked files.new name source' → ReadsAtMost (largest_file + 1) source source'
+      → files.calls.Leaves asked files.new name source' → ReadsUpTo (largest_file + 1) source source'
       → IsFound edition (given_by edition source source' false waivers waivers') outcome
       → ChecksIn files edition name outcome
   with_waivers :
@@ -101,6 +106,6 @@ pub data ChecksIn (files : Files) (edition : Edition) (name : List ℕ) (outcome
       → files.calls.Opens files.old opened name (Ok source) → asks files.beside name ≡ true
       → files.calls.OpensWaivers opened asked name (Some (Ok waivers))
       → files.calls.Leaves asked left name source' → files.calls.LeavesWaivers left files.new name waivers'
-      → ReadsAtMost (largest_file + 1) source source' → ReadsAtMost (largest_waivers + 1) waivers waivers'
+      → ReadsUpTo (largest_file + 1) source source' → ReadsUpTo (largest_waivers + 1) waivers waivers'
       → IsFound edition (given_by edition source source' true waivers waivers') outcome
       → ChecksIn files edition name outcome

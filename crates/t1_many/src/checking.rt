@@ -1,6 +1,7 @@
 //! Checks fonts one after another.
 
-ghost use Rattle.std.specs.Prelude.{◌≡◌, map, option_map, string_bytes};
+ghost use Rattle.std.specs.Prelude.{◌≡◌, IfOk, IfSome, false, map, option_map, string_bytes};
+ghost use Rattle.t1_io.specs.Devices.{is_over};
 ghost use Rattle.t1_many.specs.Calls.{opened_in};
 ghost use Rattle.t1_many.specs.Ends.{Ends};
 ghost use Rattle.t1_many.specs.Files.{files_by};
@@ -113,8 +114,9 @@ fn open_asked<F: FontFiles>(
     are_asked: bool,
     files: &mut F,
 ) -> Option<io::Result<F::Waivers>>
-    ensures { AsksWaivers (recipient_by F.calls.OpensWaivers files.old files.new) are_asked name.now
+    ensures asks { AsksWaivers (recipient_by F.calls.OpensWaivers files.old files.new) are_asked name.now
         (option_map (opened_in F.Waivers.state) result) }
+    ensures unread { IfSome result (λ opened. IfOk opened (λ file. is_over (F.Waivers.state file) ≡ false)) }
 {
     if are_asked {
         files.open_waivers(name)

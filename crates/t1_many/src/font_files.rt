@@ -9,7 +9,8 @@ use t1_names::is_input;
 
 /// The files of fonts and of their waivers, by the fonts' names. Each call is told: what a run did to the files is known by what it left.
 pub trait FontFiles {
-    ghost use Rattle.std.specs.Prelude.{◌≡◌, false, IfOk, option_map};
+    ghost use Rattle.std.specs.Prelude.{◌≡◌, false, IfOk, IfSome, option_map};
+    ghost use Rattle.t1_io.specs.Devices.{is_over};
     ghost use Rattle.t1_many.specs.Calls.{Calls, opened_in};
 
     /// An open file of a font.
@@ -21,14 +22,15 @@ pub trait FontFiles {
     // What each call does.
     ghost calls: { Calls Self };
 
-    /// Opens the file of a font. No read of it has failed so far.
+    /// Opens the file of a font. So far no read of it has failed or found its end.
     fn open_font(&mut self, name: &str) -> io::Result<Self::Font>
         ensures opens { calls.Opens self.old self.new name.now (opened_in Self.Font.state result) }
-        ensures unbroken { IfOk result (λ file. (Self.Font.state file).failed ≡ false) };
+        ensures unread { IfOk result (λ file. is_over (Self.Font.state file) ≡ false) };
 
-    /// Opens the file of a font's waivers, if there is one.
+    /// Opens the file of a font's waivers, if there is one. The same holds of it.
     fn open_waivers(&mut self, name: &str) -> Option<io::Result<Self::Waivers>>
-        ensures { calls.OpensWaivers self.old self.new name.now (option_map (opened_in Self.Waivers.state) result) };
+        ensures opens { calls.OpensWaivers self.old self.new name.now (option_map (opened_in Self.Waivers.state) result) }
+        ensures unread { IfSome result (λ opened. IfOk opened (λ file. is_over (Self.Waivers.state file) ≡ false)) };
 
     /// Leaves the file of a font, which isn't read any further.
     fn leave_font(&mut self, name: &str, file: Self::Font)

@@ -2,7 +2,8 @@
 
 ghost use Rattle.std.specs.Prelude.{◌≡◌, ◌≤◌, ◌+◌, false, length};
 ghost use Rattle.t1_font.specs.Bounds.{most_glyphs};
-ghost use Rattle.t1_many.specs.Files.{given_by};
+ghost use Rattle.t1_io.specs.Devices.{is_over};
+ghost use Rattle.t1_many.specs.Files.{ReadsUpTo, given_by};
 ghost use Rattle.t1_many.specs.Private.Checking.{Checks, IsFont, of_bytes, of_font, of_text};
 ghost use Rattle.t1_many.specs.Recipients.{recipient_by};
 ghost use Rattle.t1_report.specs.Waivers.{largest_waivers};
@@ -29,11 +30,12 @@ pub(crate) fn check_opened<R: Source, V: Source, T: Policy>(
     edition: Edition,
     policy: &mut T,
 ) -> Result<Taken, Failure>
-    requires { (R.state source.old).failed ≡ false }
+    requires font { is_over (R.state source.old) ≡ false }
+    requires waivers { is_over (V.state waivers.old) ≡ false }
     ensures checks { Checks (recipient_by T.takes policy.old policy.new) edition name.now
         (given_by edition (R.state source.old) (R.state source.new) has_waivers (V.state waivers.old) (V.state waivers.new)) result }
-    ensures font { ReadsAtMost (largest_file + 1) (R.state source.old) (R.state source.new) }
-    ensures waivers { ReadsAtMost (largest_waivers + 1) (V.state waivers.old) (V.state waivers.new) }
+    ensures font { ReadsUpTo (largest_file + 1) (R.state source.old) (R.state source.new) }
+    ensures waivers { ReadsUpTo (largest_waivers + 1) (V.state waivers.old) (V.state waivers.new) }
 {
     let bytes = read_font_file(alloc, source)?;
     check_bytes(alloc, name, bytes, waivers, has_waivers, edition, policy)

@@ -1,10 +1,10 @@
 -- Bytes that were read one part after another.
-use Rattle.std.proofs.Common.{◌≡◌, Bool, ℕ, ◌+◌, ◌≤◌, List, ◌++◌, Option, Result, Ok, Err, false, if◌then◌else◌, length, take, ap, ◌∙◌, subst, sym, arith, length-append}
+use Rattle.std.proofs.Common.{◌≡◌, Bool, ℕ, ◌+◌, ◌≤◌, List, ◌++◌, ◌||◌, Option, Result, Ok, Err, false, if◌then◌else◌, length, take, ap, ◌∙◌, subst, sym, arith, length-append}
 use Rattle.std.proofs.lemmas.List.{take-append-le}
 use Rattle.std.specs.Result.{is_ok, is_err}
 use Rattle.std.specs.Io.KnownBytes.{Consumes, Keeps}
 use Rattle.std.proofs.KnownBytes.{Consumes-kept, Consumes-trans}
-use Rattle.t1_io.specs.Devices.{SourceState, late_takes_behind, one_more}
+use Rattle.t1_io.specs.Devices.{SourceState, is_over, late_takes_behind, one_more}
 use Rattle.t1_run.specs.Input.{TakesAtMost}
 
 -- a read more, behind those that brought a byte or more each
@@ -30,11 +30,15 @@ none_read most turn a b c bytes first kept few before long one = record {
 pub Consumes-more : (a b c : Option (List ℕ)) (bytes more all : List ℕ) → Consumes a b bytes → Consumes b c more → all ≡ bytes ++ more → Consumes a c all
 Consumes-more a b c bytes more all first second e = subst (Consumes a c) (sym e) (Consumes-trans a b c bytes more first second)
 
--- a call of take with no failed one before isn't late
-pub not_late : (old new : SourceState) → new.late_takes ≡ late_takes_behind old → old.failed ≡ false
+-- a call of take that follows neither a failed one nor the end isn't late
+pub not_late : (old new : SourceState) → new.late_takes ≡ late_takes_behind old → is_over old ≡ false
     → new.late_takes ≡ old.late_takes
 not_late old new is sound =
-    is ∙ ap (λ (failed : Bool). if failed then one_more old.late_takes else old.late_takes) sound
+    is ∙ ap (λ (over : Bool). if over then one_more old.late_takes else old.late_takes) sound
+
+-- what goes on as before
+pub over_kept : (old new : SourceState) → new.failed ≡ old.failed → new.ended ≡ old.ended → is_over new ≡ is_over old
+over_kept old new failed ended = ap (λ (is : Bool). is || new.ended) failed ∙ ap (λ (is : Bool). old.failed || is) ended
 
 -- a vector that took the first bytes of a buffer, whose beginning was written
 pub items-extended : {E : Type 0} (r : Result (Unit {0}) E) (old new front rest : List ℕ) (count : ℕ) → false ≡ is_err r

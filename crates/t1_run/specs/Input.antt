@@ -2,23 +2,22 @@
 use Rattle.std.specs.Prelude.{◌≡◌, true, ℕ, ◌<◌, ◌≤◌, ◌+◌, List, length, false}
 use Rattle.std.specs.Io.KnownBytes.{Consumes, IsAtEnd}
 use Rattle.t1_font.specs.declared.unread.RefusalCode.{RefusalCode}
-use Rattle.t1_io.specs.Devices.{SourceState}
+use Rattle.t1_io.specs.Devices.{SourceState, is_over}
 use Rattle.t1_run.specs.declared.failure.Failure.{Failure}
 use Rattle.t1_run.specs.declared.failure.Failure.TheVariants.{Broken, Memory, Refused}
 
--- Known bytes lose at most so many at their beginning, by as many reads as these bytes are, or one more. As a read may bring a single byte, each
--- brought some but the last, and none followed that one.
+-- Known bytes lose at most so many at their beginning, by as many reads as these bytes are, or one more.
 pub record TakesAtMost (most : ℕ) (old new : SourceState) : Type 0 where
   pub bytes : List ℕ
   pub consumed : Consumes old.left new.left bytes
   pub few : length bytes ≤ most
   pub needed : new.takes ≤ old.takes + (length bytes + 1)
 
--- At most so many reads were made and so many bytes taken, none of them after the end, and no read came after one that failed.
+-- At most so many reads were made and so many bytes taken. No read came after one that failed or found the end.
 pub record ReadsAtMost (most : ℕ) (old new : SourceState) : Type 0 where
   pub reads : new.takes ≤ old.takes + most
   pub taken : TakesAtMost most old new
-  pub stops : old.failed ≡ false → new.late_takes ≡ old.late_takes
+  pub stops : is_over old ≡ false → new.late_takes ≡ old.late_takes
 
 -- Where reading a source stops: at its end, past so many bytes, at a failed read, or where memory ran out, of which
 -- this is said.

@@ -2,6 +2,7 @@
 
 ghost use Rattle.std.specs.Prelude.{◌≡◌, ◌≤◌, ◌+◌, false, MatchResult};
 ghost use Rattle.t1_font.specs.declared.unread.RefusalCode.TheVariants.{E05};
+ghost use Rattle.t1_io.specs.Devices.{is_over};
 ghost use Rattle.t1_report.specs.Waivers.{largest_waivers};
 ghost use Rattle.t1_run.specs.FontFiles.{largest_file};
 ghost use Rattle.t1_run.specs.Input.{AreAll, AreUnread, ReadsAtMost, TakesAtMost};
@@ -25,7 +26,7 @@ pub fn read_font_file<R: Source>(alloc: Global, source: &mut R) -> Result<Vec<u8
         (AreUnread largest_file E05 (R.state source.old) (R.state source.new)) }
     ensures takes { (R.state source.new).takes ≤ (R.state source.old).takes + (largest_file + 1) }
     ensures taken { TakesAtMost (largest_file + 1) (R.state source.old) (R.state source.new) }
-    ensures stops { (R.state source.old).failed ≡ false
+    ensures stops { is_over (R.state source.old) ≡ false
         → (R.state source.new).late_takes ≡ (R.state source.old).late_takes }
 {
     read_all(alloc, source, LARGEST_FILE, RefusalCode::E05)
@@ -62,7 +63,7 @@ fn read_all<R: Source>(
         (AreUnread most past (R.state source.old) (R.state source.new)) }
     ensures takes { (R.state source.new).takes ≤ (R.state source.old).takes + (most + 1) }
     ensures taken { TakesAtMost (most + 1) (R.state source.old) (R.state source.new) }
-    ensures stops { (R.state source.old).failed ≡ false
+    ensures stops { is_over (R.state source.old) ≡ false
         → (R.state source.new).late_takes ≡ (R.state source.old).late_takes }
 {
     let mut bytes = Vec::new(alloc);

@@ -1,6 +1,6 @@
 //! Devices that fail on purpose.
 
-ghost use Rattle.std.specs.Prelude.{◌≡◌, ◌≤◌, true, length, IfOk};
+ghost use Rattle.std.specs.Prelude.{◌≡◌, ◌≤◌, false, true, length, IfOk};
 ghost use Rattle.t1_io.specs.Devices.{Flushes, Puts, Takes};
 ghost use Rattle.t1_samples.specs.Limits.{Burns, count_of, held, let_through, lets_some_through};
 
@@ -20,6 +20,7 @@ pub struct Fuse<D> {
     late_takes: u64,
     failed_puts: u64,
     failed: bool,
+    ended: bool,
     ghost moves: { lets_some_through limit ≡ true },
 }
 
@@ -32,6 +33,7 @@ impl<D: Source> Fuse<D> {
         ensures state { ⟦<Fuse<D> as Source>⟧.state result ≡ record (D.state device) {
           takes = 0;
           late_takes = 0;
+          ended = false;
         } }
     {
         let read_failed = device.has_failed();
@@ -62,6 +64,7 @@ impl<D> Fuse<D> {
         ensures late_takes { result.late_takes ≡ 0 }
         ensures failed_puts { result.failed_puts ≡ 0 }
         ensures failed { result.failed ≡ failed }
+        ensures ended { result.ended ≡ false }
     {
         Fuse {
             device,
@@ -70,6 +73,7 @@ impl<D> Fuse<D> {
             late_takes: 0,
             failed_puts: 0,
             failed,
+            ended: false,
         }
     }
 }
@@ -79,6 +83,7 @@ impl<D: Source> Source for Fuse<D> {
       takes = fuse.takes;
       late_takes = fuse.late_takes;
       failed = fuse.failed;
+      ended = fuse.ended;
     } };
 
     fn take(&mut self, buffer: &mut [u8]) -> Result<usize, Broken>
@@ -90,7 +95,7 @@ impl<D: Source> Source for Fuse<D> {
         ensures moved { IfOk result (λ n. n ≤ let_through self.old.limit (length buffer.new)) }
     {
         self.takes = self.takes.saturating_add(1);
-        if self.failed {
+        if self.failed || self.ended {
             self.late_takes = self.late_takes.saturating_add(1);
         }
         if self.limit.has_blown() {
@@ -102,6 +107,7 @@ impl<D: Source> Source for Fuse<D> {
         match self.device.take(&mut buffer[..room]) {
             Ok(count) => {
                 self.limit = self.limit.burnt(count);
+                self.ended = self.ended || (count == 0 && !buffer.is_empty());
                 Ok(count)
             }
             Err(broken) => {

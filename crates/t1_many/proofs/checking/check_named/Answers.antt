@@ -16,14 +16,14 @@ returns-in-None g c =
     rw c.or_error.ensures
     (named_by g.T.Policy.takes g.F.FontFiles.calls c.args.beside c.args.edition c.args.name.now _ _ _ _ _ c.check_opened-taken.result
     (λ outcome found. without_waivers (sym c.has_line_end.ensures ∙ c.if-has_line_end.false) _ _ _ _ _ _ c.in-Ok.ensures.opens
-    (has_none g.F.FontFiles.calls _ c.args.name.now _ _ _ refl (rw c.asks.ensures at c.in-None.ensures))
+    (has_none g.F.FontFiles.calls _ c.args.name.now _ _ _ refl (rw c.asks.ensures at c.in-None.ensures.asks))
     c.leave_font.ensures c.check_opened-taken.ensures.font found)
     c.check_opened-taken.ensures.checks)
 
 pub returns-in-Some-Ok : goal.returns-in-Some-Ok
 returns-in-Some-Ok g c =
     let asked = was_asked g.F.FontFiles.calls _ c.args.name.now _ _ _ _
-    (ap (λ (opened : _). Some (opened_in g.F.Waivers.Source.state opened)) c.in-Some-Ok.field-0-is) (rw c.asks.ensures at c.in-Some-Ok.ensures) in
+    (ap (λ (opened : _). Some (opened_in g.F.Waivers.Source.state opened)) c.in-Some-Ok.field-0-is) (rw c.asks.ensures at c.in-Some-Ok.ensures.asks) in
     rw c.or_error-in-Some-Ok.ensures
     (named_by g.T.Policy.takes g.F.FontFiles.calls c.args.beside c.args.edition c.args.name.now _ _ _ _ _ c.check_opened-taken-in-Some-Ok.result
     (λ outcome found. with_waivers (sym c.has_line_end.ensures ∙ c.if-has_line_end.false) _ _ _ _ _ _ _ c.in-Ok.ensures.opens asked.0 asked.1
@@ -34,7 +34,7 @@ returns-in-Some-Ok g c =
 pub returns-in-Some-Err : goal.returns-in-Some-Err
 returns-in-Some-Err g c =
     let asked = was_asked g.F.FontFiles.calls _ c.args.name.now _ _ _ _
-    (ap (λ (opened : _). Some (opened_in g.F.Waivers.Source.state opened)) c.in-Some-Err.field-0-is) (rw c.asks.ensures at c.in-Some-Err.ensures) in
+    (ap (λ (opened : _). Some (opened_in g.F.Waivers.Source.state opened)) c.in-Some-Err.field-0-is) (rw c.asks.ensures at c.in-Some-Err.ensures.asks) in
     rw c.of-in-Some-Err.ensures (
       cannot_open_waivers (sym c.has_line_end.ensures ∙ c.if-has_line_end.false) _ _ _ c.in-Ok.ensures.opens asked.0 _ asked.1
           c.leave_font-in-Some-Err.ensures refl,

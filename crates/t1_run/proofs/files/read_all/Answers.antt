@@ -2,7 +2,7 @@ use Rattle.std.proofs.lemmas.Grind.{common_steps}
 use Rattle.std.proofs.Common.{arith, ◌≡◌, ◌++◌, ◌∙◌, ℕ, length, take, drop, ap, vec_len, length-append, ◌+◌, refl}
 use Rattle.std.proofs.lemmas.List.{length-take}
 use Rattle.t1_run.specs.Input.AreUnread.{too_large}
-use Rattle.t1_run.proofs.InputLemmas.{Consumes-more, items-extended, none_read, not_late, one_read}
+use Rattle.t1_run.proofs.InputLemmas.{Consumes-more, items-extended, none_read, not_late, one_read, over_kept}
 use Rattle.t1_run.proofs.files.read_all.Goals as goal
 
 pub returns-then-is_err-clause-taken : goal.returns-then-is_err-clause-taken
@@ -24,9 +24,12 @@ loop-turn-preserved g c =
       consumed = Consumes-more _ _ _ c.loop-turn.bytes.items _ _ c.loop-turn.invariant.consumed c.in-Ok.ensures.takes.bytes items;
       counted = omega (arith, c.in-Ok.ensures.takes.takes);
       kept = c.in-Ok.ensures.takes.failed ∙ c.loop-turn.invariant.kept;
+      goes_on = grind (arith, common_steps);
       stops = λ sound.
-          not_late (g.R.Source.state c.loop-turn.source) (g.R.Source.state c.take.new.self)
-          c.in-Ok.ensures.takes.late_takes (c.loop-turn.invariant.kept ∙ sound) ∙ c.loop-turn.invariant.stops sound;
+          not_late (g.R.Source.state c.loop-turn.source) (g.R.Source.state c.take.new.self) c.in-Ok.ensures.takes.late_takes
+          (over_kept (g.R.Source.state c.args.source.now) (g.R.Source.state c.loop-turn.source) c.loop-turn.invariant.kept
+          c.loop-turn.invariant.goes_on ∙ sound)
+          ∙ c.loop-turn.invariant.stops sound;
       long = omega (arith, ap length items, c.in-Ok.ensures.takes.bound, length-append {A = ℕ}, length-take {A = ℕ});
       short = omega arith;
     }
