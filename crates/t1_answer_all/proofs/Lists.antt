@@ -3,9 +3,10 @@ use Rattle.std.proofs.Common.{◌≡◌, ◌≢◌, ◌+◌, ◌<◌, ℕ, ◌==
 use Rattle.std.proofs.lemmas.List.{map-append}
 use Rattle.std.specs.List.{AllZip}
 use Rattle.t1_answer_all.specs.Listing.{AreNamedBy, IsGlobOf}
-use Rattle.t1_answer_all.specs.Places.{ListsGiven}
+use Rattle.t1_names.specs.Questions.{Questions}
+use Rattle.t1_options.specs.Settings.Finding.{system_by}
 use Rattle.t1_answer_all.specs.Private.Words.{AreWordsOf}
-use Rattle.t1_answer_all.specs.Words.{undecoded_of, words_of}
+use Rattle.t1_answer_all.specs.Words.{AreRead, undecoded_of, words_of}
 use Rattle.t1_names.specs.declared.lists.Words.{Words}
 use Rattle.t1_names.proofs.NamedLemmas.{names_next, zip-push}
 use Rattle.t1_names.specs.GlobValues.{glob_of}
@@ -36,22 +37,23 @@ some_names [] len is some none = absurd (grind (arith, is, some))
 some_names (name ∷ names) len is some none = cc
 
 -- the whole list
-pub named_by : (given : ListsGiven) (options : Options) (paths files excluded : List (List ℕ)) → paths ≡ map string_bytes options.paths.items
+pub named_by : {F : Type 0} (asks : Questions F) (old between new : F) (options : Options) (paths files excluded : List (List ℕ)) → paths ≡ map string_bytes options.paths.items
     → files ≡ map string_bytes options.files_from.items → excluded ≡ map string_bytes options.exclude.items
-    → (words : Words) → AreWordsOf given.texts paths files words
+    → (words : Words) → AreWordsOf (system_by asks old between) paths files words
     → (globs : List GlobValue) → AllZip IsGlobOf excluded (map glob_of globs)
     → (looked : List (List ℕ)) → looked ≡ map string_bytes words.words.items → (left : List GlobValue) → left ≡ globs
-    → (names unsearched : List (List ℕ)) → AreNamed given.IsFolder given.Lists looked (map glob_of left) names unsearched
-    → AreNamedBy given options (record { names = names; unsearched = unsearched; undecoded = words.undecoded })
-named_by given options paths files excluded paths_are files_are excluded_are words are globs globs_are looked looked_is left left_is names unsearched
+    → (names unsearched : List (List ℕ)) → AreNamed asks.Leads asks.Lists between new looked (map glob_of left) names unsearched
+    → AreNamedBy (system_by asks old new) options (record { names = names; unsearched = unsearched; undecoded = words.undecoded })
+named_by asks old between new options paths files excluded paths_are files_are excluded_are words are globs globs_are looked looked_is left left_is names unsearched
     named = record {
       texts = are.texts;
-      read = subst (λ (fs : List (List ℕ)). AllZip given.texts.Has fs are.texts) files_are are.read;
+      between = between;
+      read = subst (λ (fs : List (List ℕ)). AreRead asks.ReadsList old between fs are.texts) files_are are.read;
       globs = map glob_of globs;
       globs_are = subst (λ (es : List (List ℕ)). AllZip IsGlobOf es (map glob_of globs)) excluded_are globs_are;
       named =
-          subst (λ (ws : List (List ℕ)). AreNamed given.IsFolder given.Lists ws (map glob_of globs) names unsearched)
+          subst (λ (ws : List (List ℕ)). AreNamed asks.Leads asks.Lists between new ws (map glob_of globs) names unsearched)
           (looked_is ∙ are.words_are ∙ ap (λ ps. words_of ps are.texts) paths_are)
-          (subst (λ (gs : List GlobValue). AreNamed given.IsFolder given.Lists looked (map glob_of gs) names unsearched) left_is named);
+          (subst (λ (gs : List GlobValue). AreNamed asks.Leads asks.Lists between new looked (map glob_of gs) names unsearched) left_is named);
       undecoded_is = are.undecoded_is ∙ ap (λ ps. undecoded_of ps are.texts) paths_are;
     }

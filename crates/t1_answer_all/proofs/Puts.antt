@@ -43,7 +43,7 @@ module _ {F : Type 0} (store : Replacing F) (overwrites : Bool) where
       and-assoc false y z = refl
 
   -- whether waivers are kept back, by what is there
-  pub kept_back : (files : F) (name : List ℕ) (there : Bool) → overwrites ≡ false → store.Has files name there
-      → IsKeptBack store.Has overwrites files name there
-  kept_back files name true kept has = (kept, has)
-  kept_back files name false kept has = inr has
+  pub kept_back : (old new : F) (name : List ℕ) (there : Bool) → overwrites ≡ false → store.Has old new name there
+      → IsKeptBack store.Has overwrites old new name there
+  kept_back old new name true kept has = (kept, has)
+  kept_back old new name false kept has = inr (kept, has)

@@ -11,7 +11,7 @@ use Rattle.t1_run.specs.declared.status.Status.{Status}
 use Rattle.t1_run.specs.declared.usage.UsageError.{UsageError}
 use Rattle.t1_answer_all.specs.Known.{IsKnownText, IsNotKnownText, IsWrong, file_of}
 use Rattle.t1_answer_all.specs.Listing.{AreFonts, FontsValue, HasNoFonts}
-use Rattle.t1_answer_all.specs.Places.{ListsGiven, Texts}
+use Rattle.t1_options.specs.Settings.Finding.{IsUnasked, System, since, until}
 use Rattle.t1_answer_all.specs.Plans.{AskedValue, Run, beside_of, is_quiet, plan_by}
 use Rattle.t1_answer_all.specs.Endings.{LeftValue, nothing_left}
 use Rattle.t1_answer_all.specs.Runs.{Runs, program}
@@ -52,24 +52,23 @@ TellsAndChecks {F} store listed c left =
 
 -- Given the text of the file of known faults: its rows are read, and fonts are listed and checked; or one of these can't be done, and no file is
 -- opened.
-pub data ChecksKnown {F : Type 0} (lists : ListsGiven) (store : Fonts F) (asked : AskedValue) (text : List ℕ) (c : Change F) (left : LeftValue)
+pub data ChecksKnown {F : Type 0} (system : System) (store : Fonts F) (asked : AskedValue) (text : List ℕ) (c : Change F) (left : LeftValue)
     : Type 0 where
   checked :
-      (rows : List RowValue) → IsReadAs text (Ok rows) → (fonts : FontsValue) → AreFonts lists asked.options fonts
-      → TellsAndChecks store (record { asked = asked; rows = rows; fonts = fonts }) c left → ChecksKnown lists store asked text c left
+      (rows : List RowValue) → IsReadAs text (Ok rows) → (fonts : FontsValue) → AreFonts system asked.options fonts
+      → TellsAndChecks store (record { asked = asked; rows = rows; fonts = fonts }) c left → ChecksKnown system store asked text c left
   no_rows :
       (error : UsageError) → IsToldSo (IsWrong (file_of asked.options.known_faults) text) error → Stops error c.old c.new left → c.files' ≡ c.files
-      → ChecksKnown lists store asked text c left
+      → IsUnasked system → ChecksKnown system store asked text c left
   no_fonts :
-      (rows : List RowValue) → IsReadAs text (Ok rows) → (error : UsageError) → IsToldSo (HasNoFonts lists asked.options) error
-      → Stops error c.old c.new left → c.files' ≡ c.files → ChecksKnown lists store asked text c left
+      (rows : List RowValue) → IsReadAs text (Ok rows) → (error : UsageError) → IsToldSo (HasNoFonts system asked.options) error
+      → Stops error c.old c.new left → c.files' ≡ c.files → ChecksKnown system store asked text c left
 
 -- The file of known faults is read first.
-pub data ChecksBy {F : Type 0} (known : Texts) (lists : ListsGiven) (store : Fonts F) (asked : AskedValue) (c : Change F) (left : LeftValue)
-    : Type 0 where
+pub data ChecksBy {F : Type 0} (system : System) (store : Fonts F) (asked : AskedValue) (c : Change F) (left : LeftValue) : Type 0 where
   checked :
-      (text : List ℕ) → IsKnownText known asked.options.known_faults text → ChecksKnown lists store asked text c left
-      → ChecksBy known lists store asked c left
+      (text : List ℕ) → (read : system.State) → IsKnownText (until system read) asked.options.known_faults text
+      → ChecksKnown (since system read) store asked text c left → ChecksBy system store asked c left
   no_text :
-      (error : UsageError) → IsToldSo (IsNotKnownText known asked.options.known_faults) error → Stops error c.old c.new left → c.files' ≡ c.files
-      → ChecksBy known lists store asked c left
+      (error : UsageError) → IsToldSo (IsNotKnownText system asked.options.known_faults) error → Stops error c.old c.new left → c.files' ≡ c.files
+      → ChecksBy system store asked c left

@@ -1,27 +1,33 @@
 -- The file of known faults, as the options name it.
-use Rattle.std.specs.Prelude.{◌≡◌, ◌⊎◌, ℕ, List, [], string_bytes}
+use Rattle.std.specs.Global.{Global}
+use Rattle.std.specs.Prelude.{◌≡◌, ◌⊎◌, ℕ, List, [], Option, None, Some, Result, Ok, Err, string_bytes}
+use Rattle.std.specs.declared.string.String.{String}
 use Rattle.t1_known.specs.Reads.{HasKeyTwice, HasNoRow}
 use Rattle.t1_options.specs.declared.asked.Baseline.{Baseline}
 use Rattle.t1_options.specs.declared.asked.Baseline.TheVariants.{Compared, Unnamed, Updated}
-use Rattle.t1_answer_all.specs.Places.{Texts}
+use Rattle.t1_options.specs.Settings.Finding.{IsUnasked, System}
 use Rattle.t1_answer_all.specs.Usage.{no_row_text, two_rows_text, unreadable_text}
 use Rattle.t1_names.specs.declared.causes.Cause.{Cause}
 use Rattle.t1_names.specs.declared.causes.Cause.TheVariants.{NoFile}
 
+-- The file is read, once: it has this text, or can't be read for this cause, or there is no such file.
+abbrev pub Reads : System → String Global → Option (Result (List ℕ) Cause) → Type 0
+Reads system file result = system.asks.ReadsText system.old system.new (string_bytes file) result
+
 -- Its text: empty where none is named, or where one is made that isn't there yet.
-abbrev pub IsKnownText : Texts → Baseline → List ℕ → Type 0
-IsKnownText texts Unnamed text = text ≡ []
-IsKnownText texts (Compared file) text = texts.Has (string_bytes file) text
-IsKnownText texts (Updated file) text = texts.Has (string_bytes file) text ⊎ (texts.HasNone (string_bytes file) × (text ≡ []))
+abbrev pub IsKnownText : System → Baseline → List ℕ → Type 0
+IsKnownText system Unnamed text = (text ≡ []) × IsUnasked system
+IsKnownText system (Compared file) text = Reads system file (Some (Ok text))
+IsKnownText system (Updated file) text = Reads system file (Some (Ok text)) ⊎ (Reads system file None × (text ≡ []))
 
 -- It can't be read, and this is printed.
-abbrev pub IsNotKnownText : Texts → Baseline → List ℕ → Type 0
-IsNotKnownText texts Unnamed told = ⊥
-IsNotKnownText texts (Compared file) told =
-    (cause : Cause) × (texts.CannotRead (string_bytes file) cause ⊎ (texts.HasNone (string_bytes file) × (cause ≡ NoFile)))
+abbrev pub IsNotKnownText : System → Baseline → List ℕ → Type 0
+IsNotKnownText system Unnamed told = ⊥
+IsNotKnownText system (Compared file) told =
+    (cause : Cause) × (Reads system file (Some (Err cause)) ⊎ (Reads system file None × (cause ≡ NoFile)))
     × (told ≡ unreadable_text (string_bytes file) cause)
-IsNotKnownText texts (Updated file) told =
-    (cause : Cause) × texts.CannotRead (string_bytes file) cause × (told ≡ unreadable_text (string_bytes file) cause)
+IsNotKnownText system (Updated file) told =
+    (cause : Cause) × Reads system file (Some (Err cause)) × (told ≡ unreadable_text (string_bytes file) cause)
 
 -- The name of the file: empty where none is named.
 abbrev pub file_of : Baseline → List ℕ

@@ -8,7 +8,6 @@ pub mod Laws
 pub mod Layouts
 pub mod Listing
 pub mod Modes
-pub mod Places
 pub mod Plans
 pub mod Private
 pub mod Replacing

@@ -66,19 +66,19 @@ overwrites waivers.LeftAside = false
 overwrites waivers.Written = false
 overwrites waivers.Overwritten = true
 
--- They are kept back where there is such a file already, unless it is overwritten.
-abbrev pub IsKeptBack : {F : Type 0} → (F → List ℕ → Bool → Type 0) → Bool → F → List ℕ → Bool → Type 0
-IsKeptBack Has overwrites files name true = (overwrites ≡ false) × Has files name true
-IsKeptBack Has overwrites files name false = (overwrites ≡ true) ⊎ Has files name false
+-- They are kept back where there is such a file already, unless it is overwritten. Then nothing is asked.
+abbrev pub IsKeptBack : {F : Type 0} → (F → F → List ℕ → Bool → Type 0) → Bool → F → F → List ℕ → Bool → Type 0
+IsKeptBack Has overwrites old new name true = (overwrites ≡ false) × Has old new name true
+IsKeptBack Has overwrites old new name false = ((overwrites ≡ true) × (new ≡ old)) ⊎ ((overwrites ≡ false) × Has old new name false)
 
 -- The waivers of a font are put into their file; or they are kept back, or memory runs out, and that is printed.
 pub data TriesToPut {F : Type 0} (store : Replacing F) (overwrites : Bool) (font text : List ℕ) (p : Putting F) (done : Bool) : Type 0 where
   tried :
-      IsKeptBack store.Has overwrites p.files (waivers_name font) false → PutsFile store (waivers_name font) text p done
-      → TriesToPut store overwrites font text p done
+      (asked : F) → IsKeptBack store.Has overwrites p.files asked (waivers_name font) false
+      → PutsFile store (waivers_name font) text (record p { files = asked }) done → TriesToPut store overwrites font text p done
   there_already :
-      IsKeptBack store.Has overwrites p.files (waivers_name font) true → p.files' ≡ p.files → TellsFailure (there_line font) p.errors p.errors'
-      → done ≡ false → TriesToPut store overwrites font text p done
+      IsKeptBack store.Has overwrites p.files p.files' (waivers_name font) true → TellsFailure (there_line font) p.errors p.errors' → done ≡ false
+      → TriesToPut store overwrites font text p done
   no_memory :
       p.files' ≡ p.files → TellsFailure (out_of_memory_line program) p.errors p.errors' → done ≡ false
       → TriesToPut store overwrites font text p done

@@ -10,7 +10,7 @@ pub record Store (F : Type 0) : Type 1 where
   pub calls : Calls F
   pub Expects : F → F → ℕ → Type 0
   pub Puts : F → F → List ℕ → List ℕ → Option Cause → Type 0
-  pub Has : F → List ℕ → Bool → Type 0
+  pub Has : F → F → List ℕ → Bool → Type 0
 
 -- What those do that open fonts, and the one that says how many there are.
 pub record Fonts (F : Type 0) : Type 1 where
@@ -20,7 +20,7 @@ pub record Fonts (F : Type 0) : Type 1 where
 -- What those do that replace files.
 pub record Replacing (F : Type 0) : Type 1 where
   pub Puts : F → F → List ℕ → List ℕ → Option Cause → Type 0
-  pub Has : F → List ℕ → Bool → Type 0
+  pub Has : F → F → List ℕ → Bool → Type 0
 
 abbrev pub fonts_of : {F : Type 0} → Store F → Fonts F
 fonts_of store = record { calls = store.calls; Expects = store.Expects }

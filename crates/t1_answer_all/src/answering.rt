@@ -1,11 +1,10 @@
 //! From the words of the command line to lines, files and a status.
 
 ghost use Rattle.std.specs.Prelude.{map, string_bytes};
-ghost use Rattle.t1_answer_all.specs.Answers.{Answers, Checks};
+ghost use Rattle.t1_answer_all.specs.Answers.{Answers, AnswersWords, Checks, FlushesLast};
 ghost use Rattle.t1_answer_all.specs.Explaining.{ExplainsPages};
-ghost use Rattle.t1_answer_all.specs.Places.{known_by, lists_by};
 ghost use Rattle.t1_forms.specs.PageValues.{page_value};
-ghost use Rattle.t1_options.specs.Settings.Finding.{files_by};
+ghost use Rattle.t1_options.specs.Settings.Finding.{system_by};
 ghost use Rattle.t1_run.specs.Opening.{sinks_by};
 
 use crate::checking::check_by;
@@ -26,32 +25,65 @@ use t1_run::{Status, Streams, explain, give};
 
 /// Answers the words of the command line, the program's name first: with help, with what is wrong, with the version, whose text is given, with
 /// pages of these, or with a check of the fonts that they name, after which the files are replaced that are to be. A document of SARIF has all pages.
-pub fn answer<S, F, W, E>(
+/// The system is asked for settings, known faults and lists. Standard error is flushed last.
+pub fn answer<S, Y, F, W, E>(
     alloc: Global,
     words: &[S],
     version: &[u8],
     pages: &[Page],
+    system: &mut Y,
     files: &mut F,
     streams: Streams<W, E>,
 ) -> Outcome<Status, Streams<W, E>>
 where
     S: AsStr,
-    F: FileSystem + FontFiles + FileStore + ShowsProgress,
+    Y: FileSystem,
+    F: FontFiles + FileStore + ShowsProgress,
     W: Sink + Drop,
     E: Sink + Drop,
-    ensures { Answers (record {
-      help = HELP.now;
-      version = version.now;
-      pages = map page_value pages.now;
-      settings = files_by (F.leads files.old) (F.has_text files.old);
-      known = known_by (F.has_text files.old);
-      lists = lists_by (F.has_list files.old) (F.leads files.old) (F.lists files.old);
-    }) (map S.text words.now) (record { calls = F.calls; Expects = F.expects; Puts = F.puts; Has = F.has })
+    ensures { Answers (record { help = HELP.now; version = version.now; pages = map page_value pages.now }) (map S.text words.now)
+        (system_by Y.asks system.old system.new) (record { calls = F.calls; Expects = F.expects; Puts = F.puts; Has = F.has })
+        (record { files = files.old; files' = files.new; old = sinks_by W.state E.state streams; new = sinks_by W.state E.state result.output }) result.value }
+{
+    let answered = answer_words(alloc, words, version, pages, system, files, streams);
+    let mut output = answered.output;
+    let value = flush_last(answered.value, &mut output.errors);
+    Outcome { value, output }
+}
+
+/// Flushes standard error, and returns the status, or that of a failure if that fails.
+fn flush_last<E: Sink>(status: Status, errors: &mut E) -> Status
+    ensures { FlushesLast (E.state errors.old) (E.state errors.new) status result }
+{
+    match errors.flush() {
+        Ok(()) => status,
+        Err(_) => Status::Failed,
+    }
+}
+
+/// Answers the words.
+fn answer_words<S, Y, F, W, E>(
+    alloc: Global,
+    words: &[S],
+    version: &[u8],
+    pages: &[Page],
+    system: &mut Y,
+    files: &mut F,
+    streams: Streams<W, E>,
+) -> Outcome<Status, Streams<W, E>>
+where
+    S: AsStr,
+    Y: FileSystem,
+    F: FontFiles + FileStore + ShowsProgress,
+    W: Sink + Drop,
+    E: Sink + Drop,
+    ensures { AnswersWords (record { help = HELP.now; version = version.now; pages = map page_value pages.now }) (map S.text words.now)
+        (system_by Y.asks system.old system.new) (record { calls = F.calls; Expects = F.expects; Puts = F.puts; Has = F.has })
         (record { files = files.old; files' = files.new; old = sinks_by W.state E.state streams; new = sinks_by W.state E.state result.output }) result.value }
 {
     let mut output = streams;
-    match options(alloc, words, files) {
-        Ok(Request::Check(options)) => check(alloc, options, pages, files, output),
+    match options(alloc, words, system) {
+        Ok(Request::Check(options)) => check(alloc, options, pages, system, files, output),
         Ok(Request::Explain(codes)) => {
             let value = explain_pages(alloc, pages, codes.as_slice(), &mut output);
             Outcome { value, output }
@@ -68,14 +100,20 @@ where
 }
 
 /// Checks the fonts that the options name, and replaces the files that are left to be.
-fn check<F: FileSystem + FontFiles + FileStore + ShowsProgress, W: Sink + Drop, E: Sink + Drop>(
+fn check<Y, F, W, E>(
     alloc: Global,
     options: Options,
     pages: &[Page],
+    system: &mut Y,
     files: &mut F,
     streams: Streams<W, E>,
 ) -> Outcome<Status, Streams<W, E>>
-    ensures { Checks (known_by (F.has_text files.old)) (lists_by (F.has_list files.old) (F.leads files.old) (F.lists files.old))
+where
+    Y: FileSystem,
+    F: FontFiles + FileStore + ShowsProgress,
+    W: Sink + Drop,
+    E: Sink + Drop,
+    ensures { Checks (system_by Y.asks system.old system.new)
         (record { calls = F.calls; Expects = F.expects; Puts = F.puts; Has = F.has }) (record { options = options; pages = map page_value pages.now })
         (record { files = files.old; files' = files.new; old = sinks_by W.state E.state streams; new = sinks_by W.state E.state result.output }) result.value }
 {
@@ -83,7 +121,7 @@ fn check<F: FileSystem + FontFiles + FileStore + ShowsProgress, W: Sink + Drop, 
         options: &options,
         pages,
     };
-    let ran = check_by(alloc, asked, files, streams);
+    let ran = check_by(alloc, asked, system, files, streams);
     let mut output = ran.output;
     let value = replace_files(alloc, &options, &ran.value, files, &mut output.errors);
     Outcome { value, output }

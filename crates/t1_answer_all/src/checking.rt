@@ -3,8 +3,8 @@
 ghost use Rattle.t1_answer_all.specs.Checking.{ChecksBy, ChecksKnown, ExpectsIf, Stops, TellsAndChecks};
 ghost use Rattle.t1_answer_all.specs.Endings.{left_value};
 ghost use Rattle.t1_answer_all.specs.Listing.{fonts_value};
-ghost use Rattle.t1_answer_all.specs.Places.{known_by, lists_by};
 ghost use Rattle.t1_answer_all.specs.Plans.{asked_value};
+ghost use Rattle.t1_options.specs.Settings.Finding.{system_by};
 ghost use Rattle.t1_run.specs.Opening.{sinks_by};
 
 use crate::ending::Left;
@@ -24,38 +24,50 @@ use t1_run::{Streams, UsageError, explain};
 
 /// Lists the fonts that the options name, prints what couldn't be listed, and checks the fonts; or prints why they can't be listed. What is wrong
 /// first, in this order, is printed: the file of known faults, a list that can't be read, and a list without a font.
-pub(crate) fn check_by<F: FileSystem + FontFiles + ShowsProgress, W: Sink + Drop, E: Sink + Drop>(
+pub(crate) fn check_by<Y, F, W, E>(
     alloc: Global,
     asked: Asked<'_>,
+    system: &mut Y,
     files: &mut F,
     streams: Streams<W, E>,
 ) -> Outcome<Left, Streams<W, E>>
-    ensures { ChecksBy (known_by (F.has_text files.old)) (lists_by (F.has_list files.old) (F.leads files.old) (F.lists files.old))
+where
+    Y: FileSystem,
+    F: FontFiles + ShowsProgress,
+    W: Sink + Drop,
+    E: Sink + Drop,
+    ensures { ChecksBy (system_by Y.asks system.old system.new)
         (record { calls = F.calls; Expects = F.expects }) (asked_value asked.entry)
         (record { files = files.old; files' = files.new; old = sinks_by W.state E.state streams; new = sinks_by W.state E.state result.output })
         (left_value result.value) }
 {
-    match text_of_known(alloc, &asked.options.known_faults, files) {
-        Ok(text) => check_known(alloc, asked, text.as_slice(), files, streams),
+    match text_of_known(alloc, &asked.options.known_faults, system) {
+        Ok(text) => check_known(alloc, asked, text.as_slice(), system, files, streams),
         Err(error) => stopped(&error, streams),
     }
 }
 
 /// The same, given the text of the file of known faults.
-fn check_known<F: FileSystem + FontFiles + ShowsProgress, W: Sink + Drop, E: Sink + Drop>(
+fn check_known<Y, F, W, E>(
     alloc: Global,
     asked: Asked<'_>,
     text: &[u8],
+    system: &mut Y,
     files: &mut F,
     streams: Streams<W, E>,
 ) -> Outcome<Left, Streams<W, E>>
-    ensures { ChecksKnown (lists_by (F.has_list files.old) (F.leads files.old) (F.lists files.old))
+where
+    Y: FileSystem,
+    F: FontFiles + ShowsProgress,
+    W: Sink + Drop,
+    E: Sink + Drop,
+    ensures { ChecksKnown (system_by Y.asks system.old system.new)
         (record { calls = F.calls; Expects = F.expects }) (asked_value asked.entry) text.now
         (record { files = files.old; files' = files.new; old = sinks_by W.state E.state streams; new = sinks_by W.state E.state result.output })
         (left_value result.value) }
 {
     match read_known(alloc, file_of(&asked.options.known_faults), text) {
-        Ok(known) => match fonts_of(alloc, asked.options, files) {
+        Ok(known) => match fonts_of(alloc, asked.options, system) {
             Ok(fonts) => tell_and_check(alloc, asked, &known, &fonts, files, streams),
             Err(error) => stopped(&error, streams),
         },

@@ -2,7 +2,7 @@
 
 ghost use Rattle.std.specs.Prelude.{◌≡◌, IfErr, IfOk};
 ghost use Rattle.t1_answer_all.specs.Known.{IsKnownText, IsNotKnownText, IsWrong, file_of};
-ghost use Rattle.t1_answer_all.specs.Places.{known_by};
+ghost use Rattle.t1_options.specs.Settings.Finding.{system_by};
 ghost use Rattle.t1_answer_all.specs.Usage.{IsToldSo};
 ghost use Rattle.t1_known.specs.Reads.{IsReadAs};
 
@@ -17,19 +17,19 @@ use t1_run::UsageError;
 pub(crate) fn text_of_known<F: FileSystem>(
     alloc: Global,
     file: &Baseline,
-    files: &F,
+    system: &mut F,
 ) -> Result<Vec<u8>, UsageError>
-    ensures text { IfOk result (λ bytes. IsKnownText (known_by (F.has_text files.now)) file.now bytes.items) }
-    ensures none { IfErr result (IsToldSo (IsNotKnownText (known_by (F.has_text files.now)) file.now)) }
+    ensures text { IfOk result (λ bytes. IsKnownText (system_by F.asks system.old system.new) file.now bytes.items) }
+    ensures none { IfErr result (IsToldSo (IsNotKnownText (system_by F.asks system.old system.new) file.now)) }
 {
     match file {
         Baseline::Unnamed => Ok(Vec::new(alloc)),
-        Baseline::Compared(name) => match files.text(name.as_str()) {
+        Baseline::Compared(name) => match system.text(name.as_str()) {
             Some(Ok(text)) => Ok(text),
             Some(Err(error)) => Err(unreadable(alloc, name.as_str(), Cause::of(&error))),
             None => Err(unreadable(alloc, name.as_str(), Cause::NoFile)),
         },
-        Baseline::Updated(name) => match files.text(name.as_str()) {
+        Baseline::Updated(name) => match system.text(name.as_str()) {
             Some(Ok(text)) => Ok(text),
             Some(Err(error)) => Err(unreadable(alloc, name.as_str(), Cause::of(&error))),
             None => Ok(Vec::new(alloc)),

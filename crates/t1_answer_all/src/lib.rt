@@ -1,15 +1,15 @@
 //! What t1check-all answers to the words of its command line, and which files it replaces then.
 //!
 //! [`answer`] is a whole run: words and settings become options, fonts are listed and checked, what is chosen of them is written, and files are
-//! replaced. What the system has it asks of one value, which is a [`FileSystem`](t1_names::FileSystem) for lists, settings and known faults,
+//! replaced. A [`FileSystem`](t1_names::FileSystem) is asked for settings, known faults, lists and folders. A second value is
 //! [`FontFiles`](t1_many::FontFiles) for fonts and their waivers, a [`FileStore`](t1_names::FileStore) for the files that are replaced, and
-//! [`ShowsProgress`].
+//! [`ShowsProgress`]. Contracts count each call of both.
 //!
 //! What is promised:
 //!
 //! - [`answer`]: words get help, a usage error, the version, pages of rules and refusals, or a check by the options that they and the settings mean.
 //!   Pages are given if each word is a code; else the first that is none is the usage error. Fonts are checked if the known faults and the lists can be
-//!   read and there is a font; else the first thing wrong is the usage error.
+//!   read and there is a font; else the first thing wrong is the usage error. Each folder, list and text is asked for once, in this order.
 //! - [`run`]: the listed fonts are checked in order, what is chosen of their lines is written in the layout that is requested, and what comes after
 //!   all fonts is printed. Each font is opened once and its waivers at most once, and none of them where they are ignored or written; nothing is read
 //!   of a file behind its end or a failed read.

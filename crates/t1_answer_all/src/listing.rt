@@ -3,7 +3,7 @@
 ghost use Rattle.std.specs.Prelude.{◌≡◌, IfErr, IfOk, map, string_bytes};
 ghost use Rattle.std.specs.List.{AllZip};
 ghost use Rattle.t1_answer_all.specs.Listing.{AreFonts, HasNoFonts, IsGlobOf, IsPartOf, fonts_value};
-ghost use Rattle.t1_answer_all.specs.Places.{lists_by};
+ghost use Rattle.t1_options.specs.Settings.Finding.{system_by};
 ghost use Rattle.t1_answer_all.specs.Usage.{IsToldSo};
 ghost use Rattle.t1_names.specs.GlobValues.{glob_of};
 
@@ -44,20 +44,20 @@ impl Fonts {
 pub(crate) fn fonts_of<F: FileSystem>(
     alloc: Global,
     options: &Options,
-    files: &F,
+    system: &mut F,
 ) -> Result<Fonts, UsageError>
-    ensures fonts { IfOk result (λ fonts. AreFonts (lists_by (F.has_list files.now) (F.leads files.now) (F.lists files.now)) options.now
+    ensures fonts { IfOk result (λ fonts. AreFonts (system_by F.asks system.old system.new) options.now
         (fonts_value fonts)) }
-    ensures none { IfErr result (IsToldSo (HasNoFonts (lists_by (F.has_list files.now) (F.leads files.now) (F.lists files.now)) options.now)) }
+    ensures none { IfErr result (IsToldSo (HasNoFonts (system_by F.asks system.old system.new) options.now)) }
 {
     let words = all_words(
         alloc,
         options.paths.as_slice(),
         options.files_from.as_slice(),
-        files,
+        system,
     )?;
     let globs = globs_of(alloc, options.exclude.as_slice())?;
-    let named = fonts_named(alloc, words.words.as_slice(), files, globs.as_slice())?;
+    let named = fonts_named(alloc, words.words.as_slice(), system, globs.as_slice())?;
     if named.names.is_empty() {
         return Err(no_font(alloc));
     }

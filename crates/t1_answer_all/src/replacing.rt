@@ -162,8 +162,8 @@ fn put_text<F: FileStore, E: Sink>(
 }
 
 /// Whether waivers are kept back, since there are some already.
-fn is_kept_back<F: FileStore>(overwrites: bool, name: &str, files: &F) -> bool
-    ensures { IsKeptBack F.has overwrites files.now name.now result }
+fn is_kept_back<F: FileStore>(overwrites: bool, name: &str, files: &mut F) -> bool
+    ensures { IsKeptBack F.has overwrites files.old files.new name.now result }
 {
     if overwrites {
         return false;

@@ -1,9 +1,9 @@
 //! The words that name fonts and folders: those of the command line, and those of lists.
 
-ghost use Rattle.std.specs.Prelude.{◌≡◌, ◌+◌, ◌-◌, ◌^◌, ◌++◌, IfErr, IfOk, OnOk, map, min, string_bytes};
-ghost use Rattle.t1_answer_all.specs.Places.{texts_by};
+ghost use Rattle.std.specs.Prelude.{◌≡◌, ◌+◌, ◌-◌, ◌^◌, ◌++◌, IfErr, IfOk, Ok, OnOk, map, min, string_bytes};
+ghost use Rattle.t1_options.specs.Settings.Finding.{system_by};
 ghost use Rattle.t1_answer_all.specs.Usage.{IsToldSo};
-ghost use Rattle.t1_answer_all.specs.Private.Words.{AddsList, AreWordsOf, IsText, IsNoText};
+ghost use Rattle.t1_answer_all.specs.Private.Words.{AddsList, AreWordsOf, IsNoText};
 ghost use Rattle.t1_answer_all.specs.Words.{CannotReadOne, given_words, undecoded_in};
 
 use crate::usage::unreadable;
@@ -17,14 +17,14 @@ pub(crate) fn all_words<F: FileSystem>(
     alloc: Global,
     paths: &[String],
     lists: &[String],
-    files: &F,
+    system: &mut F,
 ) -> Result<Words, UsageError>
-    ensures words { IfOk result (AreWordsOf (texts_by (F.has_list files.now)) (map string_bytes paths.now) (map string_bytes lists.now)) }
-    ensures none { IfErr result (IsToldSo (CannotReadOne (texts_by (F.has_list files.now)) (map string_bytes lists.now))) }
+    ensures words { IfOk result (AreWordsOf (system_by F.asks system.old system.new) (map string_bytes paths.now) (map string_bytes lists.now)) }
+    ensures none { IfErr result (IsToldSo (CannotReadOne (system_by F.asks system.old system.new) (map string_bytes lists.now))) }
 {
     let mut words = words_given(alloc, paths)?;
     for list in lists {
-        let text = text_of(alloc, list.as_str(), files)?;
+        let text = text_of(alloc, list.as_str(), system)?;
         add_list(alloc, &mut words, text.as_slice())?;
     }
     Ok(words)
@@ -55,11 +55,11 @@ fn count_marked(paths: &[String]) -> usize
 }
 
 /// The text of a list.
-fn text_of<F: FileSystem>(alloc: Global, list: &str, files: &F) -> Result<Vec<u8>, UsageError>
-    ensures text { IfOk result (IsText (texts_by (F.has_list files.now)) list.now) }
-    ensures none { IfErr result (IsToldSo (IsNoText (texts_by (F.has_list files.now)) list.now)) }
+fn text_of<F: FileSystem>(alloc: Global, list: &str, system: &mut F) -> Result<Vec<u8>, UsageError>
+    ensures text { IfOk result (λ text. F.asks.ReadsList system.old system.new list.now (Ok text.items)) }
+    ensures none { IfErr result (IsToldSo (IsNoText (system_by F.asks system.old system.new) list.now)) }
 {
-    match files.list_text(list) {
+    match system.list_text(list) {
         Ok(text) => Ok(text),
         Err(error) => Err(unreadable(alloc, list, Cause::of(&error))),
     }

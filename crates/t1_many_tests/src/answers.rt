@@ -1,6 +1,6 @@
 //! What t1check-all returns for its words, and which files are replaced.
 
-use crate::files::{File, Files, Folder};
+use crate::files::{File, Files, Folder, System};
 use crate::fonts::{FOUR_FAULTS, font_with, names_of};
 use std::alloc::{AllocError, Global};
 use std::test::Fail;
@@ -57,7 +57,12 @@ const PAGES: &[Page] = &[
 
 /// Whether words are answered so over these fonts.
 fn is_answered<'a>(alloc: Global, fonts: &'a [File<'a>], case: &Case<'_>) -> bool {
-    let mut files = Files::new(alloc, fonts, WAIVERS).with_texts(TEXTS, FOLDERS);
+    let mut system = System {
+        alloc,
+        texts: TEXTS,
+        folders: FOLDERS,
+    };
+    let mut files = Files::new(alloc, fonts, WAIVERS);
     let mut text = Vec::new(alloc);
     let mut told = Vec::new(alloc);
     let streams = Streams {
@@ -65,7 +70,16 @@ fn is_answered<'a>(alloc: Global, fonts: &'a [File<'a>], case: &Case<'_>) -> boo
         errors: Out::new(&mut told),
     };
     let version = b"t1check-all\n";
-    let status = answer(alloc, case.words, version, PAGES, &mut files, streams).value;
+    let status = answer(
+        alloc,
+        case.words,
+        version,
+        PAGES,
+        &mut system,
+        &mut files,
+        streams,
+    )
+    .value;
     status == case.status
         && text.as_slice() == case.text
         && told.as_slice() == case.told
@@ -316,7 +330,12 @@ fn waivers_for(alloc: Global, names: &[&str]) -> Result<Kept, AllocError> {
 /// The options that these words request of t1check-all.
 fn options_of(alloc: Global, words: &[&str]) -> Result<Options, Fail> {
     let words = names_of(alloc, words)?;
-    match options(alloc, words.as_slice(), &Files::new(alloc, &[], &[])) {
+    let mut system = System {
+        alloc,
+        texts: &[],
+        folders: &[],
+    };
+    match options(alloc, words.as_slice(), &mut system) {
         Ok(Request::Check(options)) => Ok(options),
         _ => Err(Fail::from(Broken)),
     }

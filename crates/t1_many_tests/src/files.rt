@@ -1,6 +1,7 @@
 //! The files of a test: fonts with their waivers, the texts of other files, and what is in folders.
 
 ghost use Rattle.std.specs.Prelude.{◌≡◌, false, IfOk};
+ghost use Rattle.t1_io.specs.Devices.{is_over};
 
 use std::alloc::{AllocError, Global};
 use std::io;
@@ -16,15 +17,20 @@ pub(crate) type File<'a> = (&'a str, &'a [u8]);
 /// The names of the fonts in a folder, by the folder's name.
 pub(crate) type Folder<'a> = (&'a str, &'a [&'a str]);
 
+/// What a system says of other files: the texts of lists, settings and known faults, and what is in folders.
+#[derive(Clone, Copy)]
+pub(crate) struct System<'a> {
+    pub(crate) alloc: Global,
+    pub(crate) texts: &'a [File<'a>],
+    pub(crate) folders: &'a [Folder<'a>],
+}
+
 /// Files in memory, which keep what was done to them.
 #[derive(Drop)]
 pub(crate) struct Files<'a> {
     alloc: Global,
     fonts: &'a [File<'a>],
     waivers: &'a [File<'a>],
-    /// Lists, settings and known faults.
-    texts: &'a [File<'a>],
-    folders: &'a [Folder<'a>],
     /// The file of this name can't be replaced, and the waivers of the font of this name can't be opened.
     locked: &'a str,
     /// There is a file of this name already.
@@ -36,27 +42,16 @@ pub(crate) struct Files<'a> {
 }
 
 impl<'a> Files<'a> {
-    /// Fonts and their waivers; there is nothing else.
+    /// Fonts and their waivers.
     pub(crate) fn new(alloc: Global, fonts: &'a [File<'a>], waivers: &'a [File<'a>]) -> Files<'a> {
         Files {
             alloc,
             fonts,
             waivers,
-            texts: &[],
-            folders: &[],
             locked: "",
             there: "",
             calls: Vec::new(alloc),
             replaced: Vec::new(alloc),
-        }
-    }
-
-    /// The same with other files: the texts of these, and folders.
-    pub(crate) fn with_texts(self, texts: &'a [File<'a>], folders: &'a [Folder<'a>]) -> Files<'a> {
-        Files {
-            texts,
-            folders,
-            ..self
         }
     }
 
@@ -99,7 +94,7 @@ fn bytes_of<'a>(files: &[File<'a>], name: &str) -> Option<&'a [u8]> {
 
 /// Opens the file of a name.
 fn open<'a>(files: &[File<'a>], name: &str) -> io::Result<In<&'a [u8]>>
-    ensures { IfOk result (λ file. (⟦<In<&'a [u8]> as Source>⟧.state file).failed ≡ false) }
+    ensures { IfOk result (λ file. is_over (⟦<In<&'a [u8]> as Source>⟧.state file) ≡ false) }
 {
     match bytes_of(files, name) {
         Some(bytes) => Ok(In::new(bytes)),
@@ -162,20 +157,19 @@ impl<'a> FontFiles for Files<'a> {
     }
 }
 
-impl<'a> FileSystem for Files<'a> {
-    ghost leads = { λ _ _ _. Unit {0} };
+impl<'a> FileSystem for System<'a> {
+    ghost asks = { record {
+      Leads = λ _ _ _ _. Unit {0};
+      Lists = λ _ _ _ _. Unit {0};
+      ReadsText = λ _ _ _ _. Unit {0};
+      ReadsList = λ _ _ _ _. Unit {0};
+    } };
 
-    ghost lists = { λ _ _ _. Unit {0} };
-
-    ghost has_text = { λ _ _ _. Unit {0} };
-
-    ghost has_list = { λ _ _ _. Unit {0} };
-
-    fn is_folder(&self, name: &str) -> bool {
+    fn is_folder(&mut self, name: &str) -> bool {
         self.folders.iter().any(|(folder, _)| *folder == name)
     }
 
-    fn list_folder(&self, folder: &str) -> Result<Listing, AllocError> {
+    fn list_folder(&mut self, folder: &str) -> Result<Listing, AllocError> {
         for (known, fonts) in self.folders {
             if *known == folder {
                 return listing_of(self.alloc, fonts);
@@ -184,11 +178,11 @@ impl<'a> FileSystem for Files<'a> {
         listing_of(self.alloc, &[])
     }
 
-    fn text(&self, name: &str) -> Option<io::Result<Vec<u8>>> {
+    fn text(&mut self, name: &str) -> Option<io::Result<Vec<u8>>> {
         text_of(self.alloc, self.texts, name)
     }
 
-    fn list_text(&self, name: &str) -> io::Result<Vec<u8>> {
+    fn list_text(&mut self, name: &str) -> io::Result<Vec<u8>> {
         match text_of(self.alloc, self.texts, name) {
             Some(text) => text,
             None => Err(io::Error::from(ErrorKind::NotFound)),
@@ -199,7 +193,7 @@ impl<'a> FileSystem for Files<'a> {
 impl<'a> FileStore for Files<'a> {
     ghost puts = { λ _ _ _ _ _. Unit {0} };
 
-    ghost has = { λ _ _ _. Unit {0} };
+    ghost has = { λ _ _ _ _. Unit {0} };
 
     fn replace(&mut self, name: &str, text: &[u8]) -> io::Result<()> {
         if name == self.locked {
@@ -209,7 +203,7 @@ impl<'a> FileStore for Files<'a> {
         Ok(())
     }
 
-    fn is_there(&self, name: &str) -> bool {
+    fn is_there(&mut self, name: &str) -> bool {
         name == self.there
     }
 }

@@ -40,44 +40,52 @@ pub in_order : (names sorted : List (String Global)) → IsPermutation names sor
     → AreInOrder (map string_bytes names) (map string_bytes sorted)
 in_order names sorted same ascend = record { same = IsPermutation-map string_bytes names sorted same; ascend = sorted_bytes sorted ascend }
 
-module _ {E : Type 0} (Lists : List ℕ → Result Listing E → Type 0) (path : List ℕ) where
+-- What is found of the folders that are left is all there is, after what was found so far.
+abbrev pub GoesOn : {F E : Type 0} → (F → F → List ℕ → Result Listing E → Type 0) → F → List ℕ → F → ℕ → List (List ℕ) → List (List ℕ)
+    → List (List ℕ) → Type 0
+GoesOn {F} Lists start path files n pending fonts missed =
+    (new : F) → (more lost : List (List ℕ)) → AreBelow Lists files new n pending more lost
+    → AreBelow Lists start new 0 (path ∷ []) (fonts ++ more) (missed ++ lost)
+
+module _ {F E : Type 0} (Lists : F → F → List ℕ → Result Listing E → Type 0) (start : F) (path : List ℕ) where
   pub after_listed :
-      (n : ℕ) (less : n < 2 ^ 64 - 1) (pending fonts missed popped pending' fonts' missed' : List (List ℕ)) (folder : List ℕ) (listing : Listing)
-      → ((more lost : List (List ℕ)) → AreBelow Lists n pending more lost → AreBelow Lists 0 (path ∷ []) (fonts ++ more) (missed ++ lost))
-      → pending ≡ popped ++ folder ∷ [] → Lists folder (Ok listing)
+      (files files' : F) (n : ℕ) (less : n < 2 ^ 64 - 1) (pending fonts missed popped pending' fonts' missed' : List (List ℕ)) (folder : List ℕ)
+      (listing : Listing) → GoesOn Lists start path files n pending fonts missed → pending ≡ popped ++ folder ∷ [] → Lists files files' folder (Ok listing)
       → pending' ≡ popped ++ folders_in folder listing.entries.items → fonts' ≡ fonts ++ fonts_in folder listing.entries.items
-      → missed' ≡ missed ++ unsearched_at folder listing.whole
-      → (more lost : List (List ℕ)) → AreBelow Lists (n + 1) pending' more lost → AreBelow Lists 0 (path ∷ []) (fonts' ++ more) (missed' ++ lost)
-  after_listed n less pending fonts missed popped pending' fonts' missed' folder listing before split lists pending_is fonts_are missed_are more lost below =
-      subst (λ fs. AreBelow Lists 0 (path ∷ []) (fs ++ more) (missed' ++ lost)) (sym fonts_are)
-      (subst (λ ms. AreBelow Lists 0 (path ∷ []) ((fonts ++ fonts_in folder listing.entries.items) ++ more) (ms ++ lost)) (sym missed_are)
-      (subst (λ fs. AreBelow Lists 0 (path ∷ []) fs ((missed ++ unsearched_at folder listing.whole) ++ lost)) (sym (append_assoc fonts (fonts_in folder listing.entries.items) more))
-      (subst (λ ms. AreBelow Lists 0 (path ∷ []) (fonts ++ (fonts_in folder listing.entries.items ++ more)) ms) (sym (append_assoc missed (unsearched_at folder listing.whole) lost))
-      (before (fonts_in folder listing.entries.items ++ more) (unsearched_at folder listing.whole ++ lost)
-      (subst (λ ps. AreBelow Lists n ps (fonts_in folder listing.entries.items ++ more) (unsearched_at folder listing.whole ++ lost)) (sym split)
-      (listed n less popped folder listing more lost lists (subst (λ ps. AreBelow Lists (n + 1) ps more lost) pending_is below)))))))
+      → missed' ≡ missed ++ unsearched_at folder listing.whole → GoesOn Lists start path files' (n + 1) pending' fonts' missed'
+  after_listed files files' n less pending fonts missed popped pending' fonts' missed' folder listing before split lists pending_is fonts_are missed_are
+      new more lost below =
+      subst (λ fs. AreBelow Lists start new 0 (path ∷ []) (fs ++ more) (missed' ++ lost)) (sym fonts_are)
+      (subst (λ ms. AreBelow Lists start new 0 (path ∷ []) ((fonts ++ fonts_in folder listing.entries.items) ++ more) (ms ++ lost)) (sym missed_are)
+      (subst (λ fs. AreBelow Lists start new 0 (path ∷ []) fs ((missed ++ unsearched_at folder listing.whole) ++ lost)) (sym (append_assoc fonts (fonts_in folder listing.entries.items) more))
+      (subst (λ ms. AreBelow Lists start new 0 (path ∷ []) (fonts ++ (fonts_in folder listing.entries.items ++ more)) ms) (sym (append_assoc missed (unsearched_at folder listing.whole) lost))
+      (before new (fonts_in folder listing.entries.items ++ more) (unsearched_at folder listing.whole ++ lost)
+      (subst (λ ps. AreBelow Lists files new n ps (fonts_in folder listing.entries.items ++ more) (unsearched_at folder listing.whole ++ lost)) (sym split)
+      (listed files files' new n less popped folder listing more lost lists (subst (λ ps. AreBelow Lists files' new (n + 1) ps more lost) pending_is below)))))))
 
-  pub no_more : (fonts missed : List (List ℕ)) → AreBelow Lists 0 (path ∷ []) (fonts ++ []) (missed ++ []) → AreBelow Lists 0 (path ∷ []) fonts missed
-  no_more fonts missed are =
-      subst (λ fs. AreBelow Lists 0 (path ∷ []) fs missed) (append-nil fonts)
-      (subst (λ ms. AreBelow Lists 0 (path ∷ []) (fonts ++ []) ms) (append-nil missed) are)
+  pub no_more : (new : F) (fonts missed : List (List ℕ)) → AreBelow Lists start new 0 (path ∷ []) (fonts ++ []) (missed ++ [])
+      → AreBelow Lists start new 0 (path ∷ []) fonts missed
+  no_more new fonts missed are =
+      subst (λ fs. AreBelow Lists start new 0 (path ∷ []) fs missed) (append-nil fonts)
+      (subst (λ ms. AreBelow Lists start new 0 (path ∷ []) (fonts ++ []) ms) (append-nil missed) are)
 
-  pub more_missed : (fonts : List (List ℕ)) (missed rest missed' : List (String Global)) → missed' ≡ missed ++ rest
-      → AreBelow Lists 0 (path ∷ []) (fonts ++ []) (map string_bytes missed ++ map string_bytes rest) → AreBelow Lists 0 (path ∷ []) fonts (map string_bytes missed')
-  more_missed fonts missed rest missed' is are =
+  pub more_missed : (new : F) (fonts : List (List ℕ)) (missed rest missed' : List (String Global)) → missed' ≡ missed ++ rest
+      → AreBelow Lists start new 0 (path ∷ []) (fonts ++ []) (map string_bytes missed ++ map string_bytes rest)
+      → AreBelow Lists start new 0 (path ∷ []) fonts (map string_bytes missed')
+  more_missed new fonts missed rest missed' is are =
       let all : map string_bytes missed' ≡ map string_bytes missed ++ map string_bytes rest = ap (map string_bytes) is ∙ map-append string_bytes missed rest in
-      subst (λ fs. AreBelow Lists 0 (path ∷ []) fs (map string_bytes missed')) (append-nil fonts)
-      (subst (λ ms. AreBelow Lists 0 (path ∷ []) (fonts ++ []) ms) (sym all) are)
+      subst (λ fs. AreBelow Lists start new 0 (path ∷ []) fs (map string_bytes missed')) (append-nil fonts)
+      (subst (λ ms. AreBelow Lists start new 0 (path ∷ []) (fonts ++ []) ms) (sym all) are)
 
-  pub in_order_below : {F : Type 0} (r : Result Below F) (fonts missed : List (List ℕ))
+  pub in_order_below : {X : Type 0} (new : F) (r : Result Below X) (fonts missed : List (List ℕ))
       → IfOk r (λ below. AreInOrder fonts (map string_bytes below.fonts.items)) → IfOk r (λ below. AreInOrder missed (map string_bytes below.unsearched.items))
-      → AreBelow Lists 0 (path ∷ []) fonts missed
-      → IfOk r (λ below. IsBelow Lists path (map string_bytes below.fonts.items) (map string_bytes below.unsearched.items))
-  in_order_below (Ok below) fonts missed fonts_sorted missed_sorted are = record {
+      → AreBelow Lists start new 0 (path ∷ []) fonts missed
+      → IfOk r (λ below. IsBelow Lists start new path (map string_bytes below.fonts.items) (map string_bytes below.unsearched.items))
+  in_order_below new (Ok below) fonts missed fonts_sorted missed_sorted are = record {
     found = fonts;
     missed = missed;
     are = are;
     fonts_sorted = fonts_sorted;
     unsearched_sorted = missed_sorted;
   }
-  in_order_below (Err e) fonts missed fonts_sorted missed_sorted are = tt
+  in_order_below new (Err e) fonts missed fonts_sorted missed_sorted are = tt

@@ -42,19 +42,19 @@ names_next f xs i x less is =
     ap (map f) (ap (λ n. take n xs) (add-one i) ∙ take-suc xs i x less ∙ ap (λ y. take i xs ++ y ∷ []) (sym is))
     ∙ map-append f (take i xs) (x ∷ [])
 
-module _ {E : Type 0} (IsFolder : List ℕ → Bool → Type 0) (Lists : List ℕ → Result Listing E → Type 0) (word trimmed : List ℕ)
-    (plain : is_input word ≡ false) (trims : Trims IsFolder word trimmed) where
+module _ {F E : Type 0} (IsFolder : F → F → List ℕ → Bool → Type 0) (Lists : F → F → List ℕ → Result Listing E → Type 0) (old after : F)
+    (word trimmed : List ℕ) (plain : is_input word ≡ false) (trims : Trims IsFolder old after word trimmed) where
   abbrev found_of : Below → Found
   found_of below = record { fonts = map string_bytes below.fonts.items; unsearched = map string_bytes below.unsearched.items }
 
-  pub stands_for_below : {F : Type 0} (r : Result Below F) → IsFolder trimmed true
-      → IfOk r (λ below. IsBelow Lists trimmed (map string_bytes below.fonts.items) (map string_bytes below.unsearched.items))
-      → IfOk r (λ below. StandsFor IsFolder Lists word (found_of below))
-  stands_for_below (Ok below) leads are = a_folder trimmed plain trims leads are
-  stands_for_below (Err e) leads are = tt
+  pub stands_for_below : {X : Type 0} (asked new : F) (r : Result Below X) → IsFolder after asked trimmed true
+      → IfOk r (λ below. IsBelow Lists asked new trimmed (map string_bytes below.fonts.items) (map string_bytes below.unsearched.items))
+      → IfOk r (λ below. StandsFor IsFolder Lists old new word (found_of below))
+  stands_for_below asked new (Ok below) leads are = a_folder trimmed plain after asked trims leads are
+  stands_for_below asked new (Err e) leads are = tt
 
-  pub stands_for_itself : {F : Type 0} (r : Result Below F) → IsFolder trimmed false
+  pub stands_for_itself : {X : Type 0} (new : F) (r : Result Below X) → IsFolder after new trimmed false
       → IfOk r (λ below. (map string_bytes below.fonts.items ≡ file_name trimmed ∷ []) × (map string_bytes below.unsearched.items ≡ []))
-      → IfOk r (λ below. StandsFor IsFolder Lists word (found_of below))
-  stands_for_itself (Ok below) leads (fonts, missed) = a_font trimmed plain trims leads cc
-  stands_for_itself (Err e) leads are = tt
+      → IfOk r (λ below. StandsFor IsFolder Lists old new word (found_of below))
+  stands_for_itself new (Ok below) leads (fonts, missed) = a_font trimmed plain after trims leads cc
+  stands_for_itself new (Err e) leads are = tt

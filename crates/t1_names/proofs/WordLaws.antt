@@ -4,8 +4,9 @@ use Rattle.std.proofs.lemmas.Bool.{and_right, cases_Bool, cond-false, cond-true,
 use Rattle.std.specs.List.{ends_with}
 use Rattle.std.specs.Str.{bytes_eq}
 use Rattle.t1_names.proofs.WordLemmas.{fronts_same, tails_same}
-use Rattle.t1_names.specs.Laws.{InputIsNoFile, NoDotInFolders, NoDotInPaths, OneTrim}
-use Rattle.t1_names.specs.Words.{IsShort, Shortens, Trims, after_slashes, is_input}
+use Rattle.t1_names.specs.Laws.{InputIsNoFile, NoDotInFolders, NoDotInPaths, OneTrim, leads_by}
+use Rattle.t1_names.specs.Words.{HasNoFront, IsShort, Shortens, Trims, after_slashes, is_input}
+use Rattle.t1_names.specs.Words.IsShort.{no_end, no_folder}
 use Rattle.t1_names.specs.Words.Shortens.{back, front}
 use Rattle.t1_names.specs.Words.Trims.{short, shortened}
 
@@ -13,17 +14,27 @@ no_nil : (byte : ℕ) (bytes : List ℕ) → byte ∷ bytes ≡ [] → ⊥
 no_nil byte bytes is = cc
 
 module _ (is_folder : List ℕ → Bool) where
-  abbrev IsFolder : List ℕ → Bool → Type 0
-  IsFolder name leads = is_folder name ≡ leads
+  abbrev IsFolder : Unit {0} → Unit {0} → List ℕ → Bool → Type 0
+  IsFolder = leads_by is_folder
+
+  -- what a word is that isn't shortened
+  no_front : (old new : Unit {0}) (word : List ℕ) → IsShort IsFolder old new word → HasNoFront word
+  no_front old new word (no_end none bare same) = none
+  no_front old new word (no_folder none shorter is some leads) = none
+
+  no_back : (old new : Unit {0}) (word : List ℕ) → IsShort IsFolder old new word → (shorter : List ℕ) → word ≡ shorter ++ 47 ∷ [] → (shorter ≡ [] → ⊥)
+      → is_folder word ≡ false
+  no_back old new word (no_end none bare same) shorter is some = absurd (some (bare shorter is))
+  no_back old new word (no_folder none other other_is other_some leads) shorter is some = leads
 
   -- what shortens a word at its beginning or its end, with what the word is
   data Way (word next : List ℕ) : Type 0 where
     at_front : (rest : List ℕ) → word ≡ 46 ∷ 47 ∷ rest → next ≡ after_slashes rest → (next ≡ [] → ⊥) → Way word next
     at_back : word ≡ next ++ 47 ∷ [] → ((rest : List ℕ) → word ≡ 46 ∷ 47 ∷ rest → after_slashes rest ≡ []) → (next ≡ [] → ⊥) → is_folder word ≡ true → Way word next
 
-  way : (word next : List ℕ) → Shortens IsFolder word next → Way word next
-  way _ _ (front rest some) = at_front rest refl refl some
-  way _ _ (back shorter none some leads) = at_back refl none some leads
+  way : (old new : Unit {0}) (word next : List ℕ) → Shortens IsFolder old new word next → Way word next
+  way _ _ _ _ (front files rest some) = at_front rest refl refl some
+  way _ _ _ _ (back old new shorter none some leads) = at_back refl none some leads
 
   rests_same : (word one other : List ℕ) → word ≡ 46 ∷ 47 ∷ one → word ≡ 46 ∷ 47 ∷ other → one ≡ other
   rests_same word one other is also = tails_same 47 47 one other (tails_same 46 46 (47 ∷ one) (47 ∷ other) (sym is ∙ also))
@@ -35,21 +46,28 @@ module _ (is_folder : List ℕ → Bool) where
   same_next word one other (at_back is none some leads) (at_front rest is' next some') = absurd (some' (next ∙ none rest is'))
   same_next word one other (at_back is none some leads) (at_back is' none' some' leads') = fronts_same one other 47 (sym is ∙ is')
 
-  no_way : (word next : List ℕ) → IsShort IsFolder word → Way word next → ⊥
-  no_way word next ends (at_front rest is next_is some) = some (next_is ∙ ends.front rest is)
-  no_way word next ends (at_back is none some leads) = true≢false (sym leads ∙ ends.back next is some)
+  no_way : (old new : Unit {0}) (word next : List ℕ) → IsShort IsFolder old new word → Way word next → ⊥
+  no_way old new word next ends (at_front rest is next_is some) = some (next_is ∙ no_front old new word ends rest is)
+  no_way old new word next ends (at_back is none some leads) = true≢false (sym leads ∙ no_back old new word ends next is some)
 
-  same_trim : (word one other : List ℕ) → Trims IsFolder word one → Trims IsFolder word other → one ≡ other
-  same_trim _ _ other (short word is) (short _ is') = refl
-  same_trim _ _ other (short word is) (shortened _ next _ step rest) = absurd (no_way word next is (way word next step))
-  same_trim _ one _ (shortened word next _ step rest) (short _ is) = absurd (no_way word next is (way word next step))
-  same_trim _ one other (shortened word next _ step rest) (shortened _ next' _ step' rest') =
-      same_trim next one other rest
-      (subst (λ n. Trims IsFolder n other) (sym (same_next word next next' (way word next step) (way word next' step'))) rest')
+  same_trim : (old new old' new' : Unit {0}) (word one other : List ℕ) → Trims IsFolder old new word one → Trims IsFolder old' new' word other → one ≡ other
+  same_trim _ _ _ _ _ _ other (short old new word is) (short old' new' _ is') = refl
+  same_trim _ _ _ _ _ _ other (short old new word is) (shortened old' between' new' _ next _ step rest) =
+      absurd (no_way old new word next is (way old' between' word next step))
+  same_trim _ _ _ _ _ one _ (shortened old between new word next _ step rest) (short old' new' _ is) =
+      absurd (no_way old' new' word next is (way old between word next step))
+  same_trim _ _ _ _ _ one other (shortened old between new word next _ step rest) (shortened old' between' new' _ next' _ step' rest') =
+      same_trim between new between' new' next one other rest
+      (subst (λ n. Trims IsFolder between' new' n other)
+      (sym (same_next word next next' (way old between word next step) (way old' between' word next' step'))) rest')
 
-  end_is_short : (word trimmed : List ℕ) → Trims IsFolder word trimmed → IsShort IsFolder trimmed
-  end_is_short _ _ (short word is) = is
-  end_is_short _ trimmed (shortened word next _ step rest) = end_is_short next trimmed rest
+  -- nothing more can be taken from a trimmed word
+  abbrev Ended : List ℕ → Type 0
+  Ended trimmed = HasNoFront trimmed × ((shorter : List ℕ) → trimmed ≡ shorter ++ 47 ∷ [] → (shorter ≡ [] → ⊥) → is_folder trimmed ≡ false)
+
+  end_is_short : (old new : Unit {0}) (word trimmed : List ℕ) → Trims IsFolder old new word trimmed → Ended trimmed
+  end_is_short _ _ _ _ (short old new word is) = (no_front old new word is, no_back old new word is)
+  end_is_short _ _ _ trimmed (shortened old between new word next _ step rest) = end_is_short between new next trimmed rest
 
   -- where nothing but slashes is after a `./`, a slash is at the end
   slash_last : (rest : List ℕ) → after_slashes rest ≡ [] → (before : List ℕ) × (47 ∷ rest ≡ before ++ 47 ∷ [])
@@ -62,17 +80,18 @@ module _ (is_folder : List ℕ → Bool) where
       (λ other. absurd (no_nil byte rest (sym (cond-false (eqb byte 47) (after_slashes rest) (byte ∷ rest) other) ∙ none)))
       (cases_Bool (eqb byte 47))
 
-  no_dot : (word trimmed rest : List ℕ) → Trims IsFolder word trimmed → is_folder trimmed ≡ true → trimmed ≡ 46 ∷ 47 ∷ rest → ⊥
-  no_dot word trimmed rest trims leads is =
-      let ends : IsShort IsFolder trimmed = end_is_short word trimmed trims in
-      let (before, slash) = slash_last rest (ends.front rest is) in
-      true≢false (sym leads ∙ ends.back (46 ∷ before) (is ∙ ap (λ l. 46 ∷ l) slash) (no_nil 46 before))
+  no_dot : (old new : Unit {0}) (word trimmed rest : List ℕ) → Trims IsFolder old new word trimmed → is_folder trimmed ≡ true
+      → trimmed ≡ 46 ∷ 47 ∷ rest → ⊥
+  no_dot old new word trimmed rest trims leads is =
+      let ends = end_is_short old new word trimmed trims in
+      let (before, slash) = slash_last rest (ends.0 rest is) in
+      true≢false (sym leads ∙ ends.1 (46 ∷ before) (is ∙ ap (λ l. 46 ∷ l) slash) (no_nil 46 before))
 
 pub no_dot_in_folders : NoDotInFolders
-no_dot_in_folders is_folder word trimmed rest trims leads is = no_dot is_folder word trimmed rest trims leads is
+no_dot_in_folders is_folder old new word trimmed rest trims leads is = no_dot is_folder old new word trimmed rest trims leads is
 
 pub one_trim : OneTrim
-one_trim is_folder word one other = same_trim is_folder word one other
+one_trim is_folder old new old' new' word one other = same_trim is_folder old new old' new' word one other
 
 pub input_is_no_file : InputIsNoFile
 input_is_no_file name =

@@ -1,9 +1,11 @@
 -- Why a system can't read or write a file.
 use Rattle.std.specs.Prelude.{ℕ, List, [], codes, Option, None, Some, Result, Ok, Err}
+use Rattle.std.specs.Global.{Global}
 use Rattle.std.specs.IoError.{error_kind}
 use Rattle.std.specs.declared.io.Error.{Error}
 use Rattle.std.specs.declared.io.ErrorKind.{ErrorKind}
 use Rattle.std.specs.declared.io.ErrorKind.TheVariants as kinds
+use Rattle.std.specs.declared.vec.Vec.{Vec}
 use Rattle.t1_names.specs.declared.causes.Cause.{Cause}
 use Rattle.t1_names.specs.declared.causes.Cause.TheVariants.{IsFolder, NoFile, NoMemory, NoPermission, NoSpace, NotInFolder, NotRegular, ReadOnly, Unknown}
 
@@ -35,3 +37,8 @@ cause_text Unknown = []
 abbrev pub put_failure : Result (Unit {0}) Error → Option Cause
 put_failure (Ok done) = None
 put_failure (Err error) = Some (cause_of (error_kind error))
+
+-- The text that was read, or why none was.
+abbrev pub text_read : Result (Vec ℕ Global) Error → Result (List ℕ) Cause
+text_read (Ok bytes) = Ok bytes.items
+text_read (Err error) = Err (cause_of (error_kind error))

@@ -40,16 +40,17 @@ fonts_in folder (Font name ∷ entries) = path_of folder (string_bytes name) ∷
 abbrev pub unsearched_at : List ℕ → Bool → List (List ℕ)
 unsearched_at folder whole = if whole then [] else folder ∷ []
 
--- The fonts below these folders, which are searched from the last to the first and list what Lists says; and the
+-- The fonts below these folders, which are searched from the last to the first, each listed once by a system; and the
 -- folders that weren't listed whole. n folders were listed before; once 2^64 - 1 were, none is listed any more.
-pub data AreBelow {E : Type 0} (Lists : List ℕ → Result Listing E → Type 0) : ℕ → List (List ℕ) → List (List ℕ) → List (List ℕ) → Type 0 where
-  none : (n : ℕ) → AreBelow Lists n [] [] []
+pub data AreBelow {F E : Type 0} (Lists : F → F → List ℕ → Result Listing E → Type 0)
+    : F → F → ℕ → List (List ℕ) → List (List ℕ) → List (List ℕ) → Type 0 where
+  none : (files : F) → (n : ℕ) → AreBelow Lists files files n [] [] []
   listed :
-      (n : ℕ) → n < 2 ^ 64 - 1 → (folders : List (List ℕ)) → (folder : List ℕ) → (listing : Listing) → (fonts unsearched : List (List ℕ))
-      → Lists folder (Ok listing)
-      → AreBelow Lists (n + 1) (folders ++ folders_in folder listing.entries.items) fonts unsearched
-      → AreBelow Lists n (folders ++ folder ∷ []) (fonts_in folder listing.entries.items ++ fonts) (unsearched_at folder listing.whole ++ unsearched)
-  too_many : (folders : List (List ℕ)) → AreBelow Lists (2 ^ 64 - 1) folders [] folders
+      (old between new : F) → (n : ℕ) → n < 2 ^ 64 - 1 → (folders : List (List ℕ)) → (folder : List ℕ) → (listing : Listing)
+      → (fonts unsearched : List (List ℕ)) → Lists old between folder (Ok listing)
+      → AreBelow Lists between new (n + 1) (folders ++ folders_in folder listing.entries.items) fonts unsearched
+      → AreBelow Lists old new n (folders ++ folder ∷ []) (fonts_in folder listing.entries.items ++ fonts) (unsearched_at folder listing.whole ++ unsearched)
+  too_many : (files : F) → (folders : List (List ℕ)) → AreBelow Lists files files (2 ^ 64 - 1) folders [] folders
 
 -- These names in the order of their bytes.
 pub record AreInOrder (names sorted : List (List ℕ)) : Type 0 where
@@ -57,9 +58,10 @@ pub record AreInOrder (names sorted : List (List ℕ)) : Type 0 where
   pub ascend : IsSorted (slice_cmp nat_cmp) sorted
 
 -- The fonts below a folder, and the folders that weren't listed whole, in the order of their names.
-pub record IsBelow {E : Type 0} (Lists : List ℕ → Result Listing E → Type 0) (folder : List ℕ) (fonts unsearched : List (List ℕ)) : Type 0 where
+pub record IsBelow {F E : Type 0} (Lists : F → F → List ℕ → Result Listing E → Type 0) (old new : F) (folder : List ℕ)
+    (fonts unsearched : List (List ℕ)) : Type 0 where
   pub found : List (List ℕ)
   pub missed : List (List ℕ)
-  pub are : AreBelow Lists 0 (folder ∷ []) found missed
+  pub are : AreBelow Lists old new 0 (folder ∷ []) found missed
   pub fonts_sorted : AreInOrder found fonts
   pub unsearched_sorted : AreInOrder missed unsearched

@@ -14,6 +14,13 @@ use Rattle.t1_names.specs.Words.{Trims, file_name, is_input}
 abbrev pub as_listed : Listing → Result Listing AllocError
 as_listed listing = Ok listing
 
+-- A system whose answers are always the same: which names lead to folders, and what a folder lists.
+abbrev pub leads_by : (List ℕ → Bool) → Unit {0} → Unit {0} → List ℕ → Bool → Type 0
+leads_by is_folder old new name leads = is_folder name ≡ leads
+
+abbrev pub lists_by : (List ℕ → Listing) → Unit {0} → Unit {0} → List ℕ → Result Listing AllocError → Type 0
+lists_by listing_of old new folder result = result ≡ as_listed (listing_of folder)
+
 -- Keeping each name once loses no name and adds none.
 abbrev pub EachIsKept : Type 0
 EachIsKept = (names : List (List ℕ)) → (name : List ℕ) → Contains names name ↔ Contains (each_once names) name
@@ -31,23 +38,23 @@ EachIsIncluded =
 -- A word is trimmed in one way, where each word leads to a folder or doesn't.
 abbrev pub OneTrim : Type 0
 OneTrim =
-    (is_folder : List ℕ → Bool) → (word one other : List ℕ) → Trims (λ name leads. is_folder name ≡ leads) word one
-    → Trims (λ name leads. is_folder name ≡ leads) word other → one ≡ other
+    (is_folder : List ℕ → Bool) → (old new old' new' : Unit {0}) → (word one other : List ℕ) → Trims (leads_by is_folder) old new word one
+    → Trims (leads_by is_folder) old' new' word other → one ≡ other
 
 -- What is below folders is one thing, where each folder lists one thing.
 abbrev pub OneSearch : Type 0
 OneSearch =
-    (listing_of : List ℕ → Listing) → (n : ℕ) → (folders fonts unsearched fonts' unsearched' : List (List ℕ))
-    → AreBelow (λ folder r. r ≡ as_listed (listing_of folder)) n folders fonts unsearched
-    → AreBelow (λ folder r. r ≡ as_listed (listing_of folder)) n folders fonts' unsearched' → (fonts ≡ fonts') × (unsearched ≡ unsearched')
+    (listing_of : List ℕ → Listing) → (old new old' new' : Unit {0}) → (n : ℕ) → (folders fonts unsearched fonts' unsearched' : List (List ℕ))
+    → AreBelow (lists_by listing_of) old new n folders fonts unsearched
+    → AreBelow (lists_by listing_of) old' new' n folders fonts' unsearched' → (fonts ≡ fonts') × (unsearched ≡ unsearched')
 
 -- Words make one list, where each word leads to a folder or doesn't, and each folder lists one thing.
 abbrev pub OneList : Type 0
 OneList =
-    (is_folder : List ℕ → Bool) → (listing_of : List ℕ → Listing) → (words : List (List ℕ)) → (globs : List Glob)
+    (is_folder : List ℕ → Bool) → (listing_of : List ℕ → Listing) → (old new old' new' : Unit {0}) → (words : List (List ℕ)) → (globs : List Glob)
     → (names unsearched names' unsearched' : List (List ℕ))
-    → AreNamed (λ word leads. is_folder word ≡ leads) (λ folder r. r ≡ as_listed (listing_of folder)) words globs names unsearched
-    → AreNamed (λ word leads. is_folder word ≡ leads) (λ folder r. r ≡ as_listed (listing_of folder)) words globs names' unsearched'
+    → AreNamed (leads_by is_folder) (lists_by listing_of) old new words globs names unsearched
+    → AreNamed (leads_by is_folder) (lists_by listing_of) old' new' words globs names' unsearched'
     → (names ≡ names') × (unsearched ≡ unsearched')
 
 -- No file has the name of standard input.
@@ -61,8 +68,8 @@ InputIsIncluded = (globs : List Glob) → (names : List (List ℕ)) → Contains
 -- A word that leads to a folder keeps no leading `./`.
 abbrev pub NoDotInFolders : Type 0
 NoDotInFolders =
-    (is_folder : List ℕ → Bool) → (word trimmed rest : List ℕ) → Trims (λ name leads. is_folder name ≡ leads) word trimmed → is_folder trimmed ≡ true
-    → trimmed ≢ 46 ∷ 47 ∷ rest
+    (is_folder : List ℕ → Bool) → (old new : Unit {0}) → (word trimmed rest : List ℕ) → Trims (leads_by is_folder) old new word trimmed
+    → is_folder trimmed ≡ true → trimmed ≢ 46 ∷ 47 ∷ rest
 
 -- Neither has the whole name of anything in a folder, where the folder has none and the name there neither.
 abbrev pub NoDotInPaths : Type 0

@@ -6,4 +6,5 @@ pub mod Laws
 pub mod Lists
 pub mod Named
 pub mod Once
+pub mod Questions
 pub mod Words

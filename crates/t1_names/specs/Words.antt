@@ -15,21 +15,28 @@ abbrev pub after_slashes : List ℕ → List ℕ
 after_slashes [] = []
 after_slashes (byte ∷ bytes) = if byte == 47 then after_slashes bytes else byte ∷ bytes
 
--- A word that is shortened once, where words lead to folders as IsFolder says.
-pub data Shortens (IsFolder : List ℕ → Bool → Type 0) : List ℕ → List ℕ → Type 0 where
+-- Nothing but slashes is after a leading `./`, if there is one.
+abbrev pub HasNoFront : List ℕ → Type 0
+HasNoFront word = (rest : List ℕ) → word ≡ 46 ∷ 47 ∷ rest → after_slashes rest ≡ []
+
+-- A word that is shortened once, where a system that is asked says which words lead to folders.
+pub data Shortens {F : Type 0} (IsFolder : F → F → List ℕ → Bool → Type 0) : F → F → List ℕ → List ℕ → Type 0 where
   -- a leading `./`, and slashes after it, go where something else is after them
-  front : (rest : List ℕ) → after_slashes rest ≢ [] → Shortens IsFolder (46 ∷ 47 ∷ rest) (after_slashes rest)
+  front : (files : F) → (rest : List ℕ) → after_slashes rest ≢ [] → Shortens IsFolder files files (46 ∷ 47 ∷ rest) (after_slashes rest)
   -- else `/` goes from the end, where something is before it and the word leads to a folder
   back :
-      (front : List ℕ) → ((rest : List ℕ) → front ++ 47 ∷ [] ≡ 46 ∷ 47 ∷ rest → after_slashes rest ≡ []) → front ≢ []
-      → IsFolder (front ++ 47 ∷ []) true → Shortens IsFolder (front ++ 47 ∷ []) front
+      (old new : F) → (front : List ℕ) → HasNoFront (front ++ 47 ∷ []) → front ≢ [] → IsFolder old new (front ++ 47 ∷ []) true
+      → Shortens IsFolder old new (front ++ 47 ∷ []) front
 
--- Neither fits.
-pub record IsShort (IsFolder : List ℕ → Bool → Type 0) (word : List ℕ) : Type 0 where
-  pub front : (rest : List ℕ) → word ≡ 46 ∷ 47 ∷ rest → after_slashes rest ≡ []
-  pub back : (front : List ℕ) → word ≡ front ++ 47 ∷ [] → front ≢ [] → IsFolder word false
+-- Neither fits. Only of a word with a `/` at its end, and something before it, the system is asked.
+pub data IsShort {F : Type 0} (IsFolder : F → F → List ℕ → Bool → Type 0) (old new : F) (word : List ℕ) : Type 0 where
+  no_end : HasNoFront word → ((front : List ℕ) → word ≡ front ++ 47 ∷ [] → front ≡ []) → new ≡ old → IsShort IsFolder old new word
+  no_folder :
+      HasNoFront word → (front : List ℕ) → word ≡ front ++ 47 ∷ [] → front ≢ [] → IsFolder old new word false → IsShort IsFolder old new word
 
 -- A word is shortened until neither fits.
-pub data Trims (IsFolder : List ℕ → Bool → Type 0) : List ℕ → List ℕ → Type 0 where
-  short : (word : List ℕ) → IsShort IsFolder word → Trims IsFolder word word
-  shortened : (word next trimmed : List ℕ) → Shortens IsFolder word next → Trims IsFolder next trimmed → Trims IsFolder word trimmed
+pub data Trims {F : Type 0} (IsFolder : F → F → List ℕ → Bool → Type 0) : F → F → List ℕ → List ℕ → Type 0 where
+  short : (old new : F) → (word : List ℕ) → IsShort IsFolder old new word → Trims IsFolder old new word word
+  shortened :
+      (old between new : F) → (word next trimmed : List ℕ) → Shortens IsFolder old between word next → Trims IsFolder between new next trimmed
+      → Trims IsFolder old new word trimmed

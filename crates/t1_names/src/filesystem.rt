@@ -1,43 +1,31 @@
 //! What a system says of files and folders.
 
-ghost use Rattle.std.specs.Prelude.{ℕ, Bool, List, Option, Result};
-ghost use Rattle.std.specs.Global.{Global};
-ghost use Rattle.std.specs.declared.alloc.AllocError.{AllocError};
-ghost use Rattle.std.specs.declared.io.Error.{Error};
-ghost use Rattle.std.specs.declared.vec.Vec.{Vec};
-ghost use Rattle.t1_names.specs.declared.folders.Listing.{Listing as ListingValue};
-
 use crate::folders::Listing;
 use std::alloc::AllocError;
 use std::io;
 
-/// What a system says of files and folders, by their names.
+/// What a system says of files and folders, by their names. A list may be a pipe, which has its bytes once, so each call is told.
 pub trait FileSystem {
-    // A name leads to a folder, or it doesn't.
-    ghost leads: { Self → List ℕ → Bool → Type 0 };
+    ghost use Rattle.std.specs.Prelude.{option_map};
+    ghost use Rattle.t1_names.specs.Causes.{text_read};
+    ghost use Rattle.t1_names.specs.Questions.{Questions};
 
-    // Listing a folder returns this.
-    ghost lists: { Self → List ℕ → Result ListingValue AllocError → Type 0 };
-
-    // Reading a file returns this: None where there is no such file.
-    ghost has_text: { Self → List ℕ → Option (Result (Vec ℕ Global) Error) → Type 0 };
-
-    // Reading a list returns this.
-    ghost has_list: { Self → List ℕ → Result (Vec ℕ Global) Error → Type 0 };
+    // What each call asks.
+    ghost asks: { Questions Self };
 
     /// Whether a name leads to a folder.
-    fn is_folder(&self, name: &str) -> bool
-        ensures { leads self.now name.now result };
+    fn is_folder(&mut self, name: &str) -> bool
+        ensures { asks.Leads self.old self.new name.now result };
 
     /// Lists what is in a folder.
-    fn list_folder(&self, folder: &str) -> Result<Listing, AllocError>
-        ensures { lists self.now folder.now result };
+    fn list_folder(&mut self, folder: &str) -> Result<Listing, AllocError>
+        ensures { asks.Lists self.old self.new folder.now result };
 
     /// Reads the text of a regular file. None where there is no such file.
-    fn text(&self, name: &str) -> Option<io::Result<Vec<u8>>>
-        ensures { has_text self.now name.now result };
+    fn text(&mut self, name: &str) -> Option<io::Result<Vec<u8>>>
+        ensures { asks.ReadsText self.old self.new name.now (option_map text_read result) };
 
     /// Reads the text of a list, from anything that can be read, and from standard input for `-`.
-    fn list_text(&self, name: &str) -> io::Result<Vec<u8>>
-        ensures { has_list self.now name.now result };
+    fn list_text(&mut self, name: &str) -> io::Result<Vec<u8>>
+        ensures { asks.ReadsList self.old self.new name.now (text_read result) };
 }

@@ -53,9 +53,9 @@ fn ends_so(name: &[u8], end: &[u8]) -> bool
 pub fn fonts_below<F: FileSystem>(
     alloc: Global,
     folder: &str,
-    files: &F,
+    files: &mut F,
 ) -> Result<Below, AllocError>
-    ensures { IfOk result (λ below. IsBelow (F.lists files.now) folder.now (map string_bytes below.fonts.items) (map string_bytes below.unsearched.items)) }
+    ensures { IfOk result (λ below. IsBelow F.asks.Lists files.old files.new folder.now (map string_bytes below.fonts.items) (map string_bytes below.unsearched.items)) }
 {
     let mut fonts = Vec::new(alloc);
     let mut unsearched = Vec::new(alloc);

@@ -1,9 +1,8 @@
 //! The fonts that words name.
 
 ghost use Rattle.std.specs.Prelude.{◌≡◌, ◌++◌, [], ◌∷◌, IfOk, OnOk, List, map, string_bytes};
-ghost use Rattle.std.specs.List.{AllZip};
 ghost use Rattle.t1_names.specs.GlobValues.{glob_of};
-ghost use Rattle.t1_names.specs.Named.{AreNamed, Found, StandsFor, all_fonts, all_unsearched, included, is_included};
+ghost use Rattle.t1_names.specs.Named.{AreNamed, EachStandsFor, Found, StandsFor, all_fonts, all_unsearched, included, is_included};
 ghost use Rattle.t1_names.specs.Once.{each_once};
 
 use crate::filesystem::FileSystem;
@@ -27,10 +26,10 @@ pub struct Named {
 pub fn fonts_named<F: FileSystem>(
     alloc: Global,
     words: &[String],
-    files: &F,
+    files: &mut F,
     excluded: &[Glob],
 ) -> Result<Named, AllocError>
-    ensures { IfOk result (λ named. AreNamed (F.leads files.now) (F.lists files.now) (map string_bytes words.now) (map glob_of excluded.now)
+    ensures { IfOk result (λ named. AreNamed F.asks.Leads F.asks.Lists files.old files.new (map string_bytes words.now) (map glob_of excluded.now)
         (map string_bytes named.names.items) (map string_bytes named.unsearched.items)) }
 {
     let found = search(alloc, words, files)?;
@@ -42,9 +41,13 @@ pub fn fonts_named<F: FileSystem>(
 }
 
 /// What words name, one after another.
-fn search<F: FileSystem>(alloc: Global, words: &[String], files: &F) -> Result<Below, AllocError>
+fn search<F: FileSystem>(
+    alloc: Global,
+    words: &[String],
+    files: &mut F,
+) -> Result<Below, AllocError>
     ensures { IfOk result (λ below. (founds : List Found)
-        × AllZip (StandsFor (F.leads files.now) (F.lists files.now)) (map string_bytes words.now) founds
+        × EachStandsFor F.asks.Leads F.asks.Lists files.old files.new (map string_bytes words.now) founds
         × (map string_bytes below.fonts.items ≡ all_fonts founds)
         × (map string_bytes below.unsearched.items ≡ all_unsearched founds)) }
 {
@@ -59,8 +62,8 @@ fn search<F: FileSystem>(alloc: Global, words: &[String], files: &F) -> Result<B
 }
 
 /// What a word names.
-fn stand_for<F: FileSystem>(alloc: Global, word: &str, files: &F) -> Result<Below, AllocError>
-    ensures { IfOk result (λ below. StandsFor (F.leads files.now) (F.lists files.now) word.now
+fn stand_for<F: FileSystem>(alloc: Global, word: &str, files: &mut F) -> Result<Below, AllocError>
+    ensures { IfOk result (λ below. StandsFor F.asks.Leads F.asks.Lists files.old files.new word.now
         (record { fonts = map string_bytes below.fonts.items; unsearched = map string_bytes below.unsearched.items })) }
 {
     if is_input(word) {

@@ -7,8 +7,8 @@ use crate::filesystem::FileSystem;
 
 /// The name that a word means. A leading `./`, and slashes after it, go where something else is after them. Then `/`
 /// goes from its end where something is before it and the word, with the `/`, leads to a folder.
-pub fn trim_word<'a, F: FileSystem>(word: &'a str, files: &F) -> &'a str
-    ensures { Trims (F.leads files.now) word.now result.now }
+pub fn trim_word<'a, F: FileSystem>(word: &'a str, files: &mut F) -> &'a str
+    ensures { Trims F.asks.Leads files.old files.new word.now result.now }
 {
     let mut trimmed = word;
     while let Some(next) = shortened(trimmed, files) {
@@ -18,9 +18,9 @@ pub fn trim_word<'a, F: FileSystem>(word: &'a str, files: &F) -> &'a str
 }
 
 /// A word without what goes from its beginning or its end.
-fn shortened<'a, F: FileSystem>(word: &'a str, files: &F) -> Option<&'a str>
-    ensures { MatchOption result (IsShort (F.leads files.now) word.now)
-        (λ next. Shortens (F.leads files.now) word.now next.now × (length next.now < length word.now)) }
+fn shortened<'a, F: FileSystem>(word: &'a str, files: &mut F) -> Option<&'a str>
+    ensures { MatchOption result (IsShort F.asks.Leads files.old files.new word.now)
+        (λ next. Shortens F.asks.Leads files.old files.new word.now next.now × (length next.now < length word.now)) }
 {
     if let Some(rest) = without_front(word) {
         return Some(rest);

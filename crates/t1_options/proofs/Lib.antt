@@ -8,6 +8,7 @@ pub mod Paths
 pub mod Shards
 pub mod TextTests
 pub mod Together
+pub mod Upwards
 pub mod Uses
 pub mod Wins
 pub mod WrongValues

@@ -10,34 +10,35 @@ use Rattle.t1_options.specs.Complaints.{choice_complaint, complaint_of, complain
 use Rattle.t1_options.specs.Given.{GivenValue, given_by}
 use Rattle.t1_options.specs.Merged.{first_path, merged, merged_with}
 use Rattle.t1_options.specs.Options.{AreMeant}
-use Rattle.t1_options.specs.Settings.Finding.{AreSettled, AreUnsettled, Files}
+use Rattle.t1_options.specs.Settings.Finding.{AreSettled, AreUnsettled, IsUnasked, System}
 use Rattle.t1_options.specs.Settings.Reading.{SettingsValue}
 use Rattle.t1_options.specs.declared.asked.Options.{Options}
 use Rattle.t1_options.specs.declared.asked.Request.{Request}
 use Rattle.t1_options.specs.declared.asked.Request.TheVariants.{Check, Explain, Version}
 
 -- The settings that count: those of the first path, or none with `--no-settings`.
-pub data AreFound (files : Files) (given : GivenValue) (settings : Option SettingsValue) : Type 0 where
-  unwanted : given.no_settings ≡ true → settings ≡ None → AreFound files given settings
-  wanted : given.no_settings ≡ false → AreSettled files (first_path given.paths) settings → AreFound files given settings
+pub data AreFound (system : System) (given : GivenValue) (settings : Option SettingsValue) : Type 0 where
+  unwanted : given.no_settings ≡ true → settings ≡ None → IsUnasked system → AreFound system given settings
+  wanted : given.no_settings ≡ false → AreSettled system (first_path given.paths) settings → AreFound system given settings
 
 -- Nothing is wrong with the words by themselves, and with the settings that count they mean these options.
-pub record AreAsked (files : Files) (given : GivenValue) (options : Options) : Type 0 where
+pub record AreAsked (system : System) (given : GivenValue) (options : Options) : Type 0 where
   pub sound : complaint_of_words given ≡ None
   pub settings : Option SettingsValue
-  pub found : AreFound files given settings
+  pub found : AreFound system given settings
   pub meant : AreMeant (merged given settings) options
 
 -- A request for the version, for the pages of codes, which the paths are, or for a check with these options.
-abbrev pub IsAsked : Files → GivenValue → Request → Type 0
-IsAsked files given Version = given.version ≡ true
-IsAsked files given (Explain words) = (given.version ≡ false) × (given.explain ≡ true) × (map string_bytes words.items ≡ given.paths)
-IsAsked files given (Check options) = (given.version ≡ false) × (given.explain ≡ false) × AreAsked files given options
+abbrev pub IsAsked : System → GivenValue → Request → Type 0
+IsAsked system given Version = (given.version ≡ true) × IsUnasked system
+IsAsked system given (Explain words) =
+    (given.version ≡ false) × (given.explain ≡ true) × (map string_bytes words.items ≡ given.paths) × IsUnasked system
+IsAsked system given (Check options) = (given.version ≡ false) × (given.explain ≡ false) × AreAsked system given options
 
 -- clap's rules find no fault in the words, and what they say requests this.
-pub record IsTaken (files : Files) (words : List Text) (request : Request) : Type 0 where
+pub record IsTaken (system : System) (words : List Text) (request : Request) : Type 0 where
   pub sound : fault_of t1check_all words ≡ []
-  pub asked : IsAsked files (given_by words) request
+  pub asked : IsAsked system (given_by words) request
 
 -- Help has this text.
 abbrev pub HasHelp : Text → UsageError → Type 0
@@ -63,9 +64,9 @@ IsUsageOr Is (Usage text) = Is (string_bytes text)
 IsUsageOr Is Memory = Unit {0}
 
 -- The settings that count can't be read, or something is wrong with their file, and this is printed.
-pub record AreUnfound (files : Files) (given : GivenValue) (told : Text) : Type 0 where
+pub record AreUnfound (system : System) (given : GivenValue) (told : Text) : Type 0 where
   pub wanted : given.no_settings ≡ false
-  pub unsettled : AreUnsettled files (first_path given.paths) told
+  pub unsettled : AreUnsettled system (first_path given.paths) told
 
 -- What is printed of words and settings together, if anything is wrong: with values of the settings, or else with both.
 -- Values of the words are judged before, so what is wrong with those of both is wrong with those of the settings.
@@ -80,20 +81,20 @@ usage_with given (Some settings) = usage_of_both settings (merged_with given set
 
 -- Something is wrong with what is given, and this is printed: of the words by themselves; of a settings file that can't be
 -- read or has no settings; or of words with settings.
-pub data AreWrong (files : Files) (given : GivenValue) (told : Text) : Type 0 where
-  in_words : option_map usage_text (complaint_of_words given) ≡ Some told → AreWrong files given told
-  in_file : complaint_of_words given ≡ None → AreUnfound files given told → AreWrong files given told
+pub data AreWrong (system : System) (given : GivenValue) (told : Text) : Type 0 where
+  in_words : option_map usage_text (complaint_of_words given) ≡ Some told → IsUnasked system → AreWrong system given told
+  in_file : complaint_of_words given ≡ None → AreUnfound system given told → AreWrong system given told
   with_settings :
-      (settings : Option SettingsValue) → complaint_of_words given ≡ None → AreFound files given settings
-      → usage_with given settings ≡ Some told → AreWrong files given told
+      (settings : Option SettingsValue) → complaint_of_words given ≡ None → AreFound system given settings
+      → usage_with given settings ≡ Some told → AreWrong system given told
 
 -- What is given requests no version. It requests no pages either, and something is wrong with it; or memory ran out.
-pub record AsksNothing (files : Files) (given : GivenValue) (error : UsageError) : Type 0 where
+pub record AsksNothing (system : System) (given : GivenValue) (error : UsageError) : Type 0 where
   pub no_version : given.version ≡ false
-  pub wrong : IsUsageOr (λ told. (given.explain ≡ false) × AreWrong files given told) error
+  pub wrong : IsUsageOr (λ told. (given.explain ≡ false) × AreWrong system given told) error
 
 -- The words request nothing: clap finds a fault, or the request for help, which has this text; or what they say
 -- requests nothing.
-pub data IsRefused (help : Text) (files : Files) (words : List Text) (error : UsageError) : Type 0 where
-  by_clap : AreRefused t1check_all words error → HasHelp help error → IsRefused help files words error
-  by_meaning : fault_of t1check_all words ≡ [] → AsksNothing files (given_by words) error → IsRefused help files words error
+pub data IsRefused (help : Text) (system : System) (words : List Text) (error : UsageError) : Type 0 where
+  by_clap : AreRefused t1check_all words error → HasHelp help error → IsUnasked system → IsRefused help system words error
+  by_meaning : fault_of t1check_all words ≡ [] → AsksNothing system (given_by words) error → IsRefused help system words error

@@ -7,7 +7,7 @@ ghost use Rattle.t1_options.specs.Given.{given_in};
 ghost use Rattle.t1_options.specs.Private.Arguments.{rule_for, with_argument};
 ghost use Rattle.t1_options.specs.Words.{AsksNothing, HasHelp, IsAnswered, IsAsked, IsRefused, IsTaken};
 ghost use Rattle.t1_run.specs.Words.{AreRefused, IsParsedBy};
-ghost use Rattle.t1_options.specs.Settings.Finding.{files_by};
+ghost use Rattle.t1_options.specs.Settings.Finding.{system_by};
 
 use crate::asked::Request;
 use crate::given::given_in;
@@ -113,10 +113,10 @@ const ARGUMENTS: &[Argument] = &[
 pub fn options<S: AsStr, F: FileSystem>(
     alloc: Global,
     words: &[S],
-    files: &F,
+    files: &mut F,
 ) -> Result<Request, UsageError>
-    ensures taken { IfOk result (IsTaken (files_by (F.leads files.now) (F.has_text files.now)) (map S.text words.now)) }
-    ensures refused { IfErr result (IsRefused HELP.now (files_by (F.leads files.now) (F.has_text files.now)) (map S.text words.now)) }
+    ensures taken { IfOk result (IsTaken (system_by F.asks files.old files.new) (map S.text words.now)) }
+    ensures refused { IfErr result (IsRefused HELP.now (system_by F.asks files.old files.new) (map S.text words.now)) }
 {
     let matches = matches_of(alloc, words)?;
     request_of(alloc, &matches, files)
@@ -126,10 +126,10 @@ pub fn options<S: AsStr, F: FileSystem>(
 fn request_of<F: FileSystem>(
     alloc: Global,
     matches: &ArgMatches<'_>,
-    files: &F,
+    files: &mut F,
 ) -> Result<Request, UsageError>
-    ensures asked { IfOk result (IsAsked (files_by (F.leads files.now) (F.has_text files.now)) (given_in (rows_of (found_of matches.now)))) }
-    ensures wrong { IfErr result (AsksNothing (files_by (F.leads files.now) (F.has_text files.now)) (given_in (rows_of (found_of matches.now)))) }
+    ensures asked { IfOk result (IsAsked (system_by F.asks files.old files.new) (given_in (rows_of (found_of matches.now)))) }
+    ensures wrong { IfErr result (AsksNothing (system_by F.asks files.old files.new) (given_in (rows_of (found_of matches.now)))) }
 {
     let given = given_in(matches);
     if given.version {

@@ -7,7 +7,7 @@ ghost use Rattle.t1_options.specs.Given.{given_value};
 ghost use Rattle.t1_options.specs.Merged.{first_path, is_namable, merged, merged_with};
 ghost use Rattle.t1_options.specs.Options.{AreChosen, AreFailing, AreMeant, HasValues, file_of, is_anew, reasons_of, waivers_of};
 ghost use Rattle.t1_options.specs.Private.Named.{AreNamed};
-ghost use Rattle.t1_options.specs.Settings.Finding.{files_by};
+ghost use Rattle.t1_options.specs.Settings.Finding.{system_by};
 ghost use Rattle.t1_options.specs.Settings.Reading.{settings_value};
 ghost use Rattle.t1_options.specs.Words.{AreAsked, AreFound, AreUnfound, AreWrong, IsUsageOr, usage_of_both, usage_with};
 
@@ -31,10 +31,10 @@ use t1_run::{UsageError, owned};
 pub(crate) fn options_asked<F: FileSystem>(
     alloc: Global,
     given: &Given<'_>,
-    files: &F,
+    files: &mut F,
 ) -> Result<Options, UsageError>
-    ensures asked { IfOk result (AreAsked (files_by (F.leads files.now) (F.has_text files.now)) (given_value given.now)) }
-    ensures wrong { IfErr result (IsUsageOr (AreWrong (files_by (F.leads files.now) (F.has_text files.now)) (given_value given.now))) }
+    ensures asked { IfOk result (AreAsked (system_by F.asks files.old files.new) (given_value given.now)) }
+    ensures wrong { IfErr result (IsUsageOr (AreWrong (system_by F.asks files.old files.new) (given_value given.now))) }
 {
     judge_words(alloc, given)?;
     let settings = settings_of(alloc, given, files)?;
@@ -57,10 +57,10 @@ fn judge_words(alloc: Global, given: &Given<'_>) -> Result<(), UsageError>
 fn settings_of<F: FileSystem>(
     alloc: Global,
     given: &Given<'_>,
-    files: &F,
+    files: &mut F,
 ) -> Result<Option<Settings>, UsageError>
-    ensures found { IfOk result (λ settings. AreFound (files_by (F.leads files.now) (F.has_text files.now)) (given_value given.now) (option_map settings_value settings)) }
-    ensures unfound { IfErr result (IsUsageOr (AreUnfound (files_by (F.leads files.now) (F.has_text files.now)) (given_value given.now))) }
+    ensures found { IfOk result (λ settings. AreFound (system_by F.asks files.old files.new) (given_value given.now) (option_map settings_value settings)) }
+    ensures unfound { IfErr result (IsUsageOr (AreUnfound (system_by F.asks files.old files.new) (given_value given.now))) }
 {
     if given.no_settings {
         return Ok(None);

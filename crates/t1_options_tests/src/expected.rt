@@ -103,7 +103,7 @@ pub(crate) fn gives(
     settings: File<'_>,
     expected: Expected<'_>,
 ) -> bool {
-    match options(alloc, words, &Files { alloc, settings }) {
+    match options(alloc, words, &mut Files { alloc, settings }) {
         Ok(Request::Check(options)) => are_expected(&options, expected),
         _ => false,
     }

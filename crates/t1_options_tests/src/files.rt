@@ -24,26 +24,25 @@ pub(crate) struct Files<'a> {
 }
 
 impl<'a> FileSystem for Files<'a> {
-    ghost leads = { λ _ _ _. Unit {0} };
+    ghost asks = { record {
+      Leads = λ _ _ _ _. Unit {0};
+      Lists = λ _ _ _ _. Unit {0};
+      ReadsText = λ _ _ _ _. Unit {0};
+      ReadsList = λ _ _ _ _. Unit {0};
+    } };
 
-    ghost lists = { λ _ _ _. Unit {0} };
-
-    ghost has_text = { λ _ _ _. Unit {0} };
-
-    ghost has_list = { λ _ _ _. Unit {0} };
-
-    fn is_folder(&self, _name: &str) -> bool {
+    fn is_folder(&mut self, _name: &str) -> bool {
         false
     }
 
-    fn list_folder(&self, _folder: &str) -> Result<Listing, AllocError> {
+    fn list_folder(&mut self, _folder: &str) -> Result<Listing, AllocError> {
         Ok(Listing {
             entries: Vec::new(self.alloc),
             whole: false,
         })
     }
 
-    fn text(&self, name: &str) -> Option<io::Result<Vec<u8>>> {
+    fn text(&mut self, name: &str) -> Option<io::Result<Vec<u8>>> {
         if name != ".t1check.toml" {
             return None;
         }
@@ -57,7 +56,7 @@ impl<'a> FileSystem for Files<'a> {
         }
     }
 
-    fn list_text(&self, _name: &str) -> io::Result<Vec<u8>> {
+    fn list_text(&mut self, _name: &str) -> io::Result<Vec<u8>> {
         Err(io::Error::from(ErrorKind::NotFound))
     }
 }

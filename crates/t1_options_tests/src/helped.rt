@@ -8,11 +8,11 @@ use t1_run::UsageError;
 
 /// Whether words are answered by the text of help.
 fn helps(alloc: Global, words: &[&str]) -> bool {
-    let files = Files {
+    let mut files = Files {
         alloc,
         settings: File::Unreadable,
     };
-    match options(alloc, words, &files) {
+    match options(alloc, words, &mut files) {
         Err(UsageError::Help(text)) => text.as_str() == HELP,
         _ => false,
     }

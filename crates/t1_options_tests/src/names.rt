@@ -52,27 +52,26 @@ struct Folders {
 }
 
 impl FileSystem for Folders {
-    ghost leads = { λ _ _ _. Unit {0} };
+    ghost asks = { record {
+      Leads = λ _ _ _ _. Unit {0};
+      Lists = λ _ _ _ _. Unit {0};
+      ReadsText = λ _ _ _ _. Unit {0};
+      ReadsList = λ _ _ _ _. Unit {0};
+    } };
 
-    ghost lists = { λ _ _ _. Unit {0} };
-
-    ghost has_text = { λ _ _ _. Unit {0} };
-
-    ghost has_list = { λ _ _ _. Unit {0} };
-
-    fn is_folder(&self, name: &str) -> bool {
+    fn is_folder(&mut self, name: &str) -> bool {
         FOLDER_WORDS.iter().any(|known| *known == name)
     }
 
-    fn list_folder(&self, folder: &str) -> Result<Listing, AllocError> {
+    fn list_folder(&mut self, folder: &str) -> Result<Listing, AllocError> {
         list(self.alloc, folder)
     }
 
-    fn text(&self, _name: &str) -> Option<io::Result<Vec<u8>>> {
+    fn text(&mut self, _name: &str) -> Option<io::Result<Vec<u8>>> {
         None
     }
 
-    fn list_text(&self, _name: &str) -> io::Result<Vec<u8>> {
+    fn list_text(&mut self, _name: &str) -> io::Result<Vec<u8>> {
         Err(io::Error::from(ErrorKind::NotFound))
     }
 }
@@ -160,9 +159,9 @@ const TRIMMED: &[(&str, &str)] = &[
 
 #[test]
 fn trims_words(rt: HostRuntime) {
-    let folders = Folders { alloc: rt.alloc() };
+    let mut folders = Folders { alloc: rt.alloc() };
     for (word, want) in TRIMMED {
-        assert_eq!(rt; trim_word(word, &folders), *want, "at {word}");
+        assert_eq!(rt; trim_word(word, &mut folders), *want, "at {word}");
     }
 }
 
@@ -221,7 +220,7 @@ fn are_below(
     fonts: &str,
     unsearched: &str,
 ) -> Result<bool, AllocError> {
-    let below = fonts_below(alloc, folder, &Folders { alloc })?;
+    let below = fonts_below(alloc, folder, &mut Folders { alloc })?;
     Ok(
         are_lines(below.fonts.as_slice(), fonts)
             && are_lines(below.unsearched.as_slice(), unsearched),
@@ -283,7 +282,7 @@ fn named_by(alloc: Global, row: &Row) -> Result<Named, AllocError> {
     fonts_named(
         alloc,
         words.as_slice(),
-        &Folders { alloc },
+        &mut Folders { alloc },
         globs.as_slice(),
     )
 }

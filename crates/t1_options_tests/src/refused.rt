@@ -226,7 +226,7 @@ fn refuses(alloc: Global, words: &[&str], sentence: &str) -> bool {
     match options(
         alloc,
         words,
-        &Files {
+        &mut Files {
             alloc,
             settings: File::None,
         },
@@ -274,7 +274,7 @@ fn refuses_by_clap(alloc: Global, words: &[&str], front: &str) -> bool {
     match options(
         alloc,
         words,
-        &Files {
+        &mut Files {
             alloc,
             settings: File::None,
         },

@@ -61,7 +61,7 @@ fn rules_of(alloc: Global, words: &[&str]) -> Option<Mask> {
     match options(
         alloc,
         words,
-        &Files {
+        &mut Files {
             alloc,
             settings: File::None,
         },
@@ -87,7 +87,7 @@ fn failing_of(alloc: Global, words: &[&str]) -> Option<Mask> {
     match options(
         alloc,
         words,
-        &Files {
+        &mut Files {
             alloc,
             settings: File::None,
         },

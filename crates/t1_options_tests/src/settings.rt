@@ -194,7 +194,7 @@ const REFUSED: &[Refusal] = &[
 
 /// Whether this is printed of words and a settings file.
 fn prints(alloc: Global, words: &[&str], settings: File<'_>, expected: &str) -> bool {
-    match options(alloc, words, &Files { alloc, settings }) {
+    match options(alloc, words, &mut Files { alloc, settings }) {
         Err(UsageError::Usage(text)) => text.as_str() == expected,
         _ => false,
     }

@@ -301,22 +301,22 @@ fn takes_words(rt: HostRuntime) {
 #[test]
 fn takes_version(rt: HostRuntime) {
     let words = ["t1check-all", "--explain", "--version", "--edition", "3"];
-    let files = Files {
+    let mut files = Files {
         alloc: rt.alloc(),
         settings: File::Unreadable,
     };
-    let request = options(rt.alloc(), &words, &files);
+    let request = options(rt.alloc(), &words, &mut files);
     assert!(rt; matches!(&request, Ok(Request::Version)));
 }
 
 #[test]
 fn takes_codes(rt: HostRuntime) {
     let words = ["t1check-all", "-j2", "h02", "--explain", "E08"];
-    let files = Files {
+    let mut files = Files {
         alloc: rt.alloc(),
         settings: File::Unreadable,
     };
-    let request = options(rt.alloc(), &words, &files);
+    let request = options(rt.alloc(), &words, &mut files);
     assert!(rt;
         matches!(&request, Ok(Request::Explain(codes)) if are(codes.as_slice(), &["h02", "E08"]))
     );

@@ -20,7 +20,7 @@ mod words;
 
 use crate::progress::Progress;
 use crate::screen::Screen;
-use crate::system::System;
+use crate::system::{Files, System};
 use std::alloc::AllocError;
 use std::env;
 use std::io::{BufWriter, LineWriter};
@@ -43,7 +43,11 @@ fn main(rt: HostRuntime) -> Status {
     let (Ok(words), Ok(version)) = (words::words_given(&rt), version_line(&rt)) else {
         return tell_failure(PROGRAM, Failure::Memory, &mut errors);
     };
-    let mut system = System::new(&rt, &progress);
+    let mut system = System { rt: &rt };
+    let mut files = Files {
+        rt: &rt,
+        progress: &progress,
+    };
     let out = Out::new(out);
     let answered = answer(
         alloc,
@@ -51,6 +55,7 @@ fn main(rt: HostRuntime) -> Status {
         version.as_bytes(),
         &pages(),
         &mut system,
+        &mut files,
         Streams { out, errors },
     );
     progress.clear();

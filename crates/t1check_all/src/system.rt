@@ -1,4 +1,4 @@
-//! What a run asks of the system, and what it does to files there.
+//! What a run asks of the system, and what it does to files.
 
 use crate::fonts::{FontReader, open_font, open_waivers};
 use crate::progress::Progress;
@@ -12,38 +12,36 @@ use t1_io::In;
 use t1_many::FontFiles;
 use t1_names::{FileStore, FileSystem, FolderEntry, Listing, is_font_name, is_input};
 
-/// The system's files.
+/// What the system says of files and folders.
 #[derive(Drop)]
 pub(crate) struct System<'a> {
-    rt: &'a HostRuntime,
-    progress: &'a Progress,
+    pub(crate) rt: &'a HostRuntime,
 }
 
-impl<'a> System<'a> {
-    /// Before a run.
-    pub(crate) fn new(rt: &'a HostRuntime, progress: &'a Progress) -> System<'a> {
-        System { rt, progress }
-    }
+/// The system's files, of which some are opened and some are replaced.
+#[derive(Drop)]
+pub(crate) struct Files<'a> {
+    pub(crate) rt: &'a HostRuntime,
+    pub(crate) progress: &'a Progress,
 }
 
 impl<'a> FileSystem for System<'a> {
-    ghost leads = { λ _ _ _. Unit {0} };
+    ghost asks = { record {
+      Leads = λ _ _ _ _. Unit {0};
+      Lists = λ _ _ _ _. Unit {0};
+      ReadsText = λ _ _ _ _. Unit {0};
+      ReadsList = λ _ _ _ _. Unit {0};
+    } };
 
-    ghost lists = { λ _ _ _. Unit {0} };
-
-    ghost has_text = { λ _ _ _. Unit {0} };
-
-    ghost has_list = { λ _ _ _. Unit {0} };
-
-    fn is_folder(&self, name: &str) -> bool {
+    fn is_folder(&mut self, name: &str) -> bool {
         is_folder(self.rt, name)
     }
 
-    fn list_folder(&self, folder: &str) -> Result<Listing, AllocError> {
+    fn list_folder(&mut self, folder: &str) -> Result<Listing, AllocError> {
         list_folder(self.rt, folder)
     }
 
-    fn text(&self, name: &str) -> Option<io::Result<Vec<u8>>> {
+    fn text(&mut self, name: &str) -> Option<io::Result<Vec<u8>>> {
         match fs::metadata(self.rt, name) {
             Ok(metadata) if metadata.is_file() => Some(fs::read(self.rt, name)),
             Ok(_) => Some(Err(io::Error::from(ErrorKind::InvalidInput))),
@@ -51,7 +49,7 @@ impl<'a> FileSystem for System<'a> {
         }
     }
 
-    fn list_text(&self, name: &str) -> io::Result<Vec<u8>> {
+    fn list_text(&mut self, name: &str) -> io::Result<Vec<u8>> {
         if !is_input(name) {
             return fs::read(self.rt, name);
         }
@@ -61,7 +59,7 @@ impl<'a> FileSystem for System<'a> {
     }
 }
 
-impl<'a> FontFiles for System<'a> {
+impl<'a> FontFiles for Files<'a> {
     type Font = In<FontReader>;
 
     type Waivers = In<File>;
@@ -87,21 +85,21 @@ impl<'a> FontFiles for System<'a> {
     fn leave_waivers(&mut self, _name: &str, _file: In<File>) {}
 }
 
-impl<'a> FileStore for System<'a> {
+impl<'a> FileStore for Files<'a> {
     ghost puts = { λ _ _ _ _ _. Unit {0} };
 
-    ghost has = { λ _ _ _. Unit {0} };
+    ghost has = { λ _ _ _ _. Unit {0} };
 
     fn replace(&mut self, name: &str, text: &[u8]) -> io::Result<()> {
         replace(self.rt, name, text)
     }
 
-    fn is_there(&self, name: &str) -> bool {
+    fn is_there(&mut self, name: &str) -> bool {
         fs::metadata(self.rt, name).is_ok()
     }
 }
 
-impl<'a> ShowsProgress for System<'a> {
+impl<'a> ShowsProgress for Files<'a> {
     ghost expects = { λ _ _ _. Unit {0} };
 
     fn expect(&mut self, fonts: usize) {

@@ -1,7 +1,7 @@
 //! Where a settings file is looked for.
 
 ghost use Rattle.std.specs.Prelude.{◌≡◌, ◌<◌, IfErr, IfOk, IfSome, length, option_map, string_bytes};
-ghost use Rattle.t1_options.specs.Settings.Finding.{AreNearest, AreSettled, AreUnsettled, BeginsAt, IsWrongAt, above, dot_is_empty, files_by, unread_text};
+ghost use Rattle.t1_options.specs.Settings.Finding.{AreNearest, AreSettled, AreUnsettled, BeginsAt, IsWrongAt, above, dot_is_empty, system_by, unread_text};
 ghost use Rattle.t1_options.specs.Settings.Reading.{file_in, settings_value};
 ghost use Rattle.t1_options.specs.Words.{IsUsageOr};
 
@@ -16,23 +16,24 @@ use t1_run::UsageError;
 pub fn settings_for<F: FileSystem>(
     alloc: Global,
     path: Option<&str>,
-    files: &F,
+    files: &mut F,
 ) -> Result<Option<Settings>, UsageError>
-    ensures settled { IfOk result (λ settings. AreSettled (files_by (F.leads files.now) (F.has_text files.now)) (option_map (λ s. s.now) path.entry)
+    ensures settled { IfOk result (λ settings. AreSettled (system_by F.asks files.old files.new) (option_map (λ s. s.now) path.entry)
         (option_map settings_value settings)) }
-    ensures unsettled { IfErr result (IsUsageOr (AreUnsettled (files_by (F.leads files.now) (F.has_text files.now)) (option_map (λ s. s.now) path.entry))) }
+    ensures unsettled { IfErr result (IsUsageOr (AreUnsettled (system_by F.asks files.old files.new) (option_map (λ s. s.now) path.entry))) }
 {
-    nearest(alloc, start_of(path, files), files)
+    let start = start_of(path, files);
+    nearest(alloc, start, files)
 }
 
 /// The settings of the nearest file, in this folder or above it.
 fn nearest<F: FileSystem>(
     alloc: Global,
     start: &str,
-    files: &F,
+    files: &mut F,
 ) -> Result<Option<Settings>, UsageError>
-    ensures nearest { IfOk result (λ settings. AreNearest (files_by (F.leads files.now) (F.has_text files.now)) start.now (option_map settings_value settings)) }
-    ensures wrong { IfErr result (IsUsageOr (IsWrongAt (files_by (F.leads files.now) (F.has_text files.now)) start.now)) }
+    ensures nearest { IfOk result (λ settings. AreNearest F.asks files.old files.new start.now (option_map settings_value settings)) }
+    ensures wrong { IfErr result (IsUsageOr (IsWrongAt F.asks files.old files.new start.now)) }
 {
     let mut folder = start;
     loop {
@@ -90,8 +91,8 @@ fn above(folder: &str) -> Option<&str>
 }
 
 /// Where the search begins for this first path.
-fn start_of<'a, F: FileSystem>(path: Option<&'a str>, files: &F) -> &'a str
-    ensures { BeginsAt (files_by (F.leads files.now) (F.has_text files.now)) (option_map (λ s. s.now) path.entry) result.now }
+fn start_of<'a, F: FileSystem>(path: Option<&'a str>, files: &mut F) -> &'a str
+    ensures { BeginsAt F.asks files.old files.new (option_map (λ s. s.now) path.entry) result.now }
 {
     match path {
         Some(path) => start_at(path, files),
@@ -100,8 +101,8 @@ fn start_of<'a, F: FileSystem>(path: Option<&'a str>, files: &F) -> &'a str
 }
 
 /// Where the search begins for this path.
-fn start_at<'a, F: FileSystem>(path: &'a str, files: &F) -> &'a str
-    ensures { BeginsAt (files_by (F.leads files.now) (F.has_text files.now)) (Some path.now) result.now }
+fn start_at<'a, F: FileSystem>(path: &'a str, files: &mut F) -> &'a str
+    ensures { BeginsAt F.asks files.old files.new (Some path.now) result.now }
 {
     if is_input(path) {
         return "";

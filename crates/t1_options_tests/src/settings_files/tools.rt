@@ -18,30 +18,29 @@ struct Files<'a> {
 }
 
 impl<'a> FileSystem for Files<'a> {
-    ghost leads = { λ _ _ _. Unit {0} };
+    ghost asks = { record {
+      Leads = λ _ _ _ _. Unit {0};
+      Lists = λ _ _ _ _. Unit {0};
+      ReadsText = λ _ _ _ _. Unit {0};
+      ReadsList = λ _ _ _ _. Unit {0};
+    } };
 
-    ghost lists = { λ _ _ _. Unit {0} };
-
-    ghost has_text = { λ _ _ _. Unit {0} };
-
-    ghost has_list = { λ _ _ _. Unit {0} };
-
-    fn is_folder(&self, name: &str) -> bool {
+    fn is_folder(&mut self, name: &str) -> bool {
         name.ends_with('/')
     }
 
-    fn list_folder(&self, _folder: &str) -> Result<Listing, AllocError> {
+    fn list_folder(&mut self, _folder: &str) -> Result<Listing, AllocError> {
         Ok(Listing {
             entries: Vec::new(self.alloc),
             whole: false,
         })
     }
 
-    fn text(&self, name: &str) -> Option<io::Result<Vec<u8>>> {
+    fn text(&mut self, name: &str) -> Option<io::Result<Vec<u8>>> {
         text_of(self.alloc, self.files, name)
     }
 
-    fn list_text(&self, _name: &str) -> io::Result<Vec<u8>> {
+    fn list_text(&mut self, _name: &str) -> io::Result<Vec<u8>> {
         Err(io::Error::from(ErrorKind::NotFound))
     }
 }
@@ -69,8 +68,8 @@ pub(crate) fn settled(
     path: Option<&str>,
     files: &[File<'_>],
 ) -> Result<String, AllocError> {
-    let files = Files { alloc, files };
-    match settings_for(alloc, path, &files) {
+    let mut files = Files { alloc, files };
+    match settings_for(alloc, path, &mut files) {
         Ok(Some(settings)) => listed(alloc, &settings),
         Ok(None) => String::from_str(alloc, "none"),
         Err(UsageError::Help(text) | UsageError::Usage(text)) => Ok(text),

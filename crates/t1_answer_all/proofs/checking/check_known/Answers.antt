@@ -11,4 +11,4 @@ pub returns-in-Ok : goal.returns-in-Ok
 returns-in-Ok g c = no_fonts _ c.in-Ok.ensures.rows c.in-Err-fonts_of.error c.in-Err-fonts_of.ensures.none c.stopped.ensures refl
 
 pub returns : goal.returns
-returns g c = no_rows c.in-Err.error (rw c.file_of.ensures at c.in-Err.ensures.wrong) c.stopped-in-Err.ensures refl
+returns g c = no_rows c.in-Err.error (rw c.file_of.ensures at c.in-Err.ensures.wrong) c.stopped-in-Err.ensures refl refl
