@@ -27,7 +27,8 @@ pub fn pieces_are_the_document()
     marks_count_the_faults_given();
 }
 
-/// Of the same bytes t1check writes the lines that are handed over, or refuses them by the same code and text.
+/// Of the same bytes t1check writes the lines that are handed over, or refuses them by the same code and text. The status says which, with
+/// `--waive` and without.
 pub fn t1check_writes_the_same()
     ensures lines { T1checkWritesThem }
     ensures refusals { T1checkRefusesThem }
