@@ -13,6 +13,7 @@
 #   with it, and that isn't in specs/Private. Where the README's first promise rests on it, in the files that has_rows below takes, it has a row in
 #   docs/dev/DEFINITIONS.md, or a rule's row in specs/ cites it. Each word of a row of the page is defined in the file that the row is of.
 # - No definition rests on a word of specs/Private; there the relations of watchers and pens are in Standing, with nothing else.
+# - The page names files that have so many lines as docs/dev/PROMISES.md says, rounded up to hundreds, without blank lines and comments.
 # - The README's lines for an editor are lines of crates/example. web/host.mjs counts rules and refusals as they are.
 # - The least node that pages and recipes name is that of web/wasi.mjs. docs/BROWSER.md says of each file of web/ what a fault in it could cause.
 # - Each link between the pages leads to a file, and to a heading where it names one. Each file of bin/, crates/, docs/, tests/ and web/ that a
@@ -439,6 +440,10 @@ while IFS= read -r line; do
     if grep -qxF -e "$line" "$scratch/defining"; then pass; else fail "docs/dev/DEFINITIONS.md: no row has what breaks a rule, $line"; fi
 done <"$scratch/named"
 [ "$(wc -l <"$scratch/named")" -eq 2 ] || fail "what breaks L01 and U01 isn't read"
+# How much is to be believed.
+believed=$(sed -n 's|^- \[[a-z0-9_]*/[A-Za-z0-9/]*\](../../\(crates/[a-z0-9_]*/specs/[A-Za-z0-9/]*\.antt\)).*|\1|p' "$top/docs/dev/DEFINITIONS.md" | sort -u)
+hundreds=$((($(cd "$top" && printf '%s\n' "$believed" | xargs cat | grep -cv '^ *$\|^ *--') + 99) / 100))
+lists docs/dev/PROMISES.md 1 "$(printf '%s\n' "$believed" | wc -l | tr -d ' ') files, $((hundreds / 10)),$((hundreds % 10))00 lines"
 
 # No definition outside specs/Private rests on a word of it, and so no clause of a public function does by another word; but for the
 # relations of watchers and pens, which are in Standing, by their names and alone.
