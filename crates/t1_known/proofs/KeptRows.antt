@@ -164,4 +164,3 @@ kept_at entries before entry behind split kept = go before (subst AreKept split 
     go : (es : List Entry) → AreKept (es ++ entry ∷ behind) → IsKept entry
     go [] all = all.0
     go (e ∷ es) all = go es all.1
-

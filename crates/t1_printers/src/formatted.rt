@@ -36,7 +36,12 @@ pub struct Formatted<T: Formatter, W: Sink, E: Sink> {
 
 impl<T: Formatter, W: Sink, E: Sink> Formatted<T, W, E> {
     /// A form that was given nothing yet. The formatter has written what is before all else.
-    pub fn new(alloc: Global, formatter: T, streams: Streams<W, E>, reasons: bool) -> Formatted<T, W, E>
+    pub fn new(
+        alloc: Global,
+        formatter: T,
+        streams: Streams<W, E>,
+        reasons: bool,
+    ) -> Formatted<T, W, E>
         ensures formatter { result.formatter ≡ formatter }
         ensures streams { result.streams ≡ streams }
         ensures reasons { result.reasons ≡ reasons }

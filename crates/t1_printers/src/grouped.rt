@@ -109,7 +109,8 @@ impl<T: GroupForm, W: Sink, E: Sink> Printer for Grouped<T, W, E> {
     fn failure(&mut self, name: &str, reason: FontError) -> Result<(), Lost> {
         match reason {
             FontError::Refused(code) => {
-                self.form.put_refusal(self.alloc, &mut self.streams.out, name, code)
+                self.form
+                    .put_refusal(self.alloc, &mut self.streams.out, name, code)
             }
             FontError::Unchecked(why) => self.unchecked(name, why.text().as_str()),
         }

@@ -125,7 +125,10 @@ where
                 let status = run(alloc, options, source, &mut waivers, streams);
                 (status, Some(waivers))
             }
-            Err(_) => (tell_failure(P::name(), Failure::Broken, &mut streams.errors), None),
+            Err(_) => (
+                tell_failure(P::name(), Failure::Broken, &mut streams.errors),
+                None,
+            ),
         },
         None => {
             let mut none = In::new(io::empty());
