@@ -123,8 +123,10 @@ impl<'a> DocumentWriter<'a> {
     pub(crate) fn end(self) -> Result<Text, AllocError>
         ensures { IfOk result (λ text. text.bytes.items ≡ closing (sarif_state self.entry.results.formatter)) }
     {
-        let mut text = Text::new(self.alloc);
-        match self.results.formatter.end(self.alloc, &mut text) {
+        let alloc = self.alloc;
+        let results = self.results;
+        let mut text = Text::new(alloc);
+        match results.formatter.end(alloc, &mut text) {
             Ok(()) => Ok(text),
             Err(_) => Err(AllocError),
         }
