@@ -93,11 +93,11 @@ text_unread value edition font text Memory any = no_memory refl
 
 -- ---- its file
 
--- a source of which no call has failed or found the end
 neither-left : (failed ended : Bool) → (failed || ended) ≡ false → failed ≡ false
 neither-left true ended is = absurd (true≢false is)
 neither-left false ended is = refl
 
+-- a source of which no call has failed or found the end has not failed
 pub not_failed : (source : SourceState) → is_over source ≡ false → source.failed ≡ false
 not_failed source going = neither-left source.failed source.ended going
 
