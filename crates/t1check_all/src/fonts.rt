@@ -5,7 +5,6 @@ use std::io::{ErrorKind, Read};
 use std::rt::Stdin;
 use std::{fs, io};
 use t1_answer_all::waivers_name;
-use t1_io::In;
 use t1_names::is_input;
 
 /// What a font is read from.
@@ -44,20 +43,15 @@ fn open_file(rt: &HostRuntime, name: &str) -> io::Result<File> {
 }
 
 /// Opens a font's file of waivers, if there is one.
-pub(crate) fn open_waivers(rt: &HostRuntime, name: &str) -> Option<io::Result<In<File>>> {
+pub(crate) fn open_waivers(rt: &HostRuntime, name: &str) -> Option<io::Result<File>> {
     let Ok(name) = waivers_name(rt.alloc(), name) else {
         return Some(Err(io::Error::from(ErrorKind::OutOfMemory)));
     };
     match fs::metadata(rt, &name) {
-        Ok(_) => Some(opened(rt, name.as_str())),
+        Ok(_) => Some(open_file(rt, name.as_str())),
         Err(error) => match error.kind() {
             ErrorKind::NotFound | ErrorKind::InvalidFilename => None,
             _ => Some(Err(error)),
         },
     }
-}
-
-/// A file that is there.
-fn opened(rt: &HostRuntime, name: &str) -> io::Result<In<File>> {
-    Ok(In::new(open_file(rt, name)?))
 }

@@ -77,7 +77,10 @@ impl<'a> FontFiles for Files<'a> {
     }
 
     fn open_waivers(&mut self, name: &str) -> Option<io::Result<In<File>>> {
-        open_waivers(self.rt, name)
+        match open_waivers(self.rt, name)? {
+            Ok(file) => Some(Ok(In::new(file))),
+            Err(error) => Some(Err(error)),
+        }
     }
 
     fn leave_font(&mut self, _name: &str, _file: In<FontReader>) {}
