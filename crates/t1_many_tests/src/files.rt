@@ -145,7 +145,10 @@ impl<'a> FontFiles for Files<'a> {
         if name == self.locked {
             return Some(Err(io::Error::from(ErrorKind::PermissionDenied)));
         }
-        open(self.waivers, name).ok().map(Ok)
+        match open(self.waivers, name) {
+            Ok(file) => Some(Ok(file)),
+            Err(_) => None,
+        }
     }
 
     fn leave_font(&mut self, name: &str, _file: In<&'a [u8]>) {
