@@ -1,7 +1,7 @@
 -- A document of JUnit's form: a case for each font, as Jenkins and GitLab read it.
 use Rattle.std.specs.Prelude.{◌==◌, Bool, List, [], ◌++◌, codes, length, Option, None, Some, if◌then◌else◌, option_map, string_bytes, ℕ}
 use Rattle.t1_forms.specs.Tellings.{ReasonValue, WhatValue, of_line, of_unchecked}
-use Rattle.t1_forms.specs.Xml.{xml_text}
+use Rattle.t1_forms.specs.Xml.{xml_name}
 use Rattle.t1_forms.specs.declared.junit.JUnit.{JUnit}
 use Rattle.t1_lines.specs.Lines.{of_fault, of_refusal}
 use Rattle.t1_rules.specs.Book.{number_of}
@@ -20,7 +20,7 @@ closing = codes "</testsuite>\n</testsuites>\n"
 -- The attributes that name a case, by its font. What is of no font has no file.
 abbrev pub case_name : Option (List ℕ) → List ℕ
 case_name None = codes "(no name)"
-case_name (Some name) = xml_text name ++ (codes "\" file=\"" ++ xml_text name)
+case_name (Some name) = xml_name name ++ (codes "\" file=\"" ++ xml_name name)
 
 abbrev pub case_text : Option (List ℕ) → List ℕ → List ℕ
 case_text font element =
@@ -39,14 +39,14 @@ found_with None lines = if length lines == 0 then [] else codes "<system-out>" +
 -- A line, and below it the text of its reason, as t1check-all writes them.
 abbrev pub reason_text : Option ReasonValue → List ℕ
 reason_text None = []
-reason_text (Some r) = codes "   " ++ (xml_text r.text ++ codes "\n")
+reason_text (Some r) = codes "   " ++ (xml_name r.text ++ codes "\n")
 
 abbrev pub line_text : List ℕ → Option ReasonValue → List ℕ
-line_text line reason = xml_text line ++ (codes "\n" ++ reason_text reason)
+line_text line reason = xml_name line ++ (codes "\n" ++ reason_text reason)
 
 -- A font that was refused, or wasn't checked.
 abbrev pub error_text : Option (List ℕ) → List ℕ → List ℕ
-error_text font line = case_text font (problem (codes "error") (xml_text line) (xml_text line ++ codes "\n"))
+error_text font line = case_text font (problem (codes "error") (xml_name line) (xml_name line ++ codes "\n"))
 
 -- ---- what is kept from line to line
 
@@ -82,7 +82,7 @@ abbrev pub after_what : JUnitState → WhatValue → List ℕ → Option ReasonV
 after_what state (of_line (of_fault l)) line reason =
     record state {
       lines = state.lines ++ line_text line reason;
-      failure = first_failure state.failure (has state.failing (number_of l.rule)) (xml_text line);
+      failure = first_failure state.failure (has state.failing (number_of l.rule)) (xml_name line);
     }
 after_what state (of_line (of_refusal code)) line reason = state
 after_what state (of_unchecked why) line reason = state

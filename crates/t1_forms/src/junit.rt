@@ -4,11 +4,11 @@ ghost use Rattle.std.specs.Prelude.{◌≡◌, ◌++◌, IfOk, OnOk, option_map,
 ghost use Rattle.t1_forms.specs.JUnit.{after_what, begun, case_name, case_text, closing, error_text, first_failure, found_text, found_with, junit_state, line_text, opening, problem, reason_text, text_of_what};
 ghost use Rattle.t1_forms.specs.Tellings.{reason_value, what_value};
 ghost use Rattle.t1_forms.specs.Writing.{WritesLine};
-ghost use Rattle.t1_forms.specs.Xml.{xml_text};
+ghost use Rattle.t1_forms.specs.Xml.{xml_name};
 ghost use Rattle.t1_rules.specs.Book.{number_of};
 ghost use Rattle.t1_rules.specs.Mask.{has};
 
-use crate::xml::xml_text;
+use crate::xml::xml_name;
 use crate::{FormatError, Told, ToldReason, What};
 use std::alloc::{AllocError, Global};
 use t1_io::{Sink, put_all};
@@ -43,7 +43,7 @@ fn case_name(alloc: Global, font: Option<&[u8]>) -> Result<String, AllocError>
     let Some(font) = font else {
         return String::from_str(alloc, "(no name)");
     };
-    let name = xml_text(alloc, font)?;
+    let name = xml_name(alloc, font)?;
     format!(in alloc; "{name}\" file=\"{name}")
 }
 
@@ -80,7 +80,7 @@ fn reason_text(alloc: Global, reason: Option<&ToldReason<'_>>) -> Result<String,
     let Some(reason) = reason else {
         return Ok(String::new(alloc));
     };
-    let text = xml_text(alloc, reason.text)?;
+    let text = xml_name(alloc, reason.text)?;
     format!(in alloc; "   {text}\n")
 }
 
@@ -88,7 +88,7 @@ fn reason_text(alloc: Global, reason: Option<&ToldReason<'_>>) -> Result<String,
 fn error_text(alloc: Global, font: Option<&[u8]>, line: &[u8]) -> Result<String, AllocError>
     ensures { IfOk result (λ s. string_bytes s ≡ error_text (option_map (λ name. name.now) font.entry) line.now) }
 {
-    let message = xml_text(alloc, line)?;
+    let message = xml_name(alloc, line)?;
     let lines = format!(in alloc; "{message}\n")?;
     let element = problem(alloc, "error", message.as_str(), lines.as_str())?;
     case_text(alloc, font, element.as_str())
@@ -134,11 +134,11 @@ impl JUnit {
     ) -> Result<(), AllocError>
         ensures { OnOk result (junit_state self.new ≡ record (junit_state self.old) {
           lines = (junit_state self.old).lines ++ line_text line.now (option_map (λ reason. reason_value reason.now) reason.entry);
-          failure = first_failure (junit_state self.old).failure (has self.old.failing (number_of rule)) (xml_text line.now);
+          failure = first_failure (junit_state self.old).failure (has self.old.failing (number_of rule)) (xml_name line.now);
         }) }
     {
         let reason = reason_text(alloc, reason)?;
-        let line = xml_text(alloc, line)?;
+        let line = xml_name(alloc, line)?;
         self.lines.push_str(line.as_str())?;
         self.lines.push_str("\n")?;
         self.lines.push_str(reason.as_str())?;

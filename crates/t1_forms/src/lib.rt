@@ -65,3 +65,4 @@ pub use sarif_laws::{
 pub use text::Text;
 pub use told::{Told, What};
 pub use version::VERSION;
+pub use xml::{legible, push_xml};

@@ -9,7 +9,7 @@ use lib.Utf8.{encode, low_scalar, scalar, scalars}
 use Rattle.t1_forms.specs.Shown.{escaped, shown, shown_byte, shown_char}
 use Rattle.t1_reason_texts.specs.Names.{hexadecimal_digit}
 use Rattle.t1_picture.specs.Laws.{LegibleTextsAreFit, is_unfit}
-use Rattle.t1_picture.specs.Texts.{legible_char}
+use Rattle.t1_forms.specs.Xml.{legible_char}
 
 -- ---- texts without a character that passes a test
 

@@ -9,7 +9,7 @@ use Rattle.std.specs.List.{flat_map, list_all, list_any}
 use Rattle.std.specs.Str.{chars}
 use lib.Utf8.{encode}
 use Rattle.t1_picture.specs.Laws.{AmpersandsBeginEntities, TextsHaveNoMarkup, is_markup, is_piece}
-use Rattle.t1_picture.specs.Texts.{xml_char}
+use Rattle.t1_forms.specs.Xml.{xml_char}
 
 none_by_index : (test : ℕ → Bool) (xs : List ℕ) → ((k : ℕ) → k < length xs → test (get_or xs k 0) ≡ false) → list_any test xs ≡ false
 none_by_index test [] none = refl

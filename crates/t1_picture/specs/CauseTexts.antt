@@ -16,6 +16,7 @@ use Rattle.t1_picture.specs.Bands.{across_text, band_text, with_band}
 use Rattle.t1_picture.specs.Bounds.{kept, with_point, with_y}
 use Rattle.t1_picture.specs.Frames.{from_bottom, from_left, from_right, from_top, length_of, opposite, units_of}
 use Rattle.t1_picture.specs.Layers.{mark_text, stretch_text}
+use Rattle.t1_picture.specs.Starts.{marks_start, numbers_start, path_start}
 use Rattle.t1_reason_texts.specs.declared.decimals.Exact.{Exact}
 use Rattle.t1_reason_texts.specs.Decimals.{coordinate_of, exact_text, value_of}
 use Rattle.t1_rules.specs.declared.step_rules.flex.Point.{Point}
@@ -41,17 +42,11 @@ with_causes b (cause ∷ causes) = with_causes (with_cause b cause) causes
 
 -- ---- bands, lines and marks, y upwards
 
--- The form of a point that is named, and that of the end of an open path.
+-- The form of a point that is named.
 unfoldable pub cross_text : Exact → List ℕ
 cross_text size =
     codes "<path id=\"cross\" d=\"M-" ++ (exact_text size ++ (codes " 0H" ++ (exact_text size
     ++ (codes "M0 -" ++ (exact_text size ++ (codes "V" ++ (exact_text size ++ codes "\"/>\n")))))))
-
-unfoldable pub end_text : Exact → List ℕ
-end_text size =
-    codes "<path id=\"end\" d=\"M-" ++ (exact_text size ++ (codes " -" ++ (exact_text size
-    ++ (codes "H" ++ (exact_text size ++ (codes "V" ++ (exact_text size
-    ++ (codes "H-" ++ (exact_text size ++ codes "Z\"/>\n")))))))))
 
 -- Stems and zones, as bands.
 abbrev pub cause_band : Frame → Cause → List ℕ
@@ -71,13 +66,10 @@ abbrev pub cause_line : Cause → List ℕ
 cause_line (Miss named pen) = stretch_text pen named
 cause_line _ = []
 
-unfoldable pub cause_lines_start : Exact → List ℕ
-cause_lines_start thin = codes "<path id=\"cause-lines\" stroke=\"red\" stroke-width=\"" ++ (exact_text thin ++ codes "\" d=\"\n")
-
 -- These lines, and then the outlines of components.
 unfoldable pub cause_lines_part : Frame → List Cause → List ℕ → List ℕ
 cause_lines_part frame causes components =
-    cause_lines_start (length_of frame (pos 2)) ++ (flat_map cause_line causes ++ (components ++ codes "\"/>\n"))
+    path_start (codes "cause-lines") (codes "red") (length_of frame (pos 2)) ++ (flat_map cause_line causes ++ (components ++ codes "\"/>\n"))
 
 -- The point that the end of a flex names, and the two ends of an open path.
 abbrev pub cause_points : Cause → List ℕ
@@ -85,12 +77,9 @@ cause_points (Miss named pen) = mark_text (codes "cross") named
 cause_points (Ends start pen) = mark_text (codes "end") start ++ mark_text (codes "end") pen
 cause_points _ = []
 
-unfoldable pub cause_points_start : Exact → List ℕ
-cause_points_start thin = codes "<g id=\"cause-points\" stroke=\"red\" stroke-width=\"" ++ (exact_text thin ++ codes "\">\n")
-
 unfoldable pub cause_points_part : Frame → List Cause → List ℕ
 cause_points_part frame causes =
-    cause_points_start (length_of frame (pos 2)) ++ (flat_map cause_points causes ++ codes "</g>\n")
+    marks_start (codes "cause-points") (length_of frame (pos 2)) ++ (flat_map cause_points causes ++ codes "</g>\n")
 
 -- ---- the numbers of edges, y downwards
 
@@ -141,9 +130,5 @@ abbrev pub cause_numbers : Frame → Cause → List ℕ
 cause_numbers frame (Stem stem) = edge_numbers frame stem
 cause_numbers frame _ = []
 
-unfoldable pub edges_start : Exact → List ℕ
-edges_start letters =
-    codes "<g id=\"edges\" fill=\"red\" font-family=\"monospace\" font-size=\"" ++ (exact_text letters ++ codes "\">\n")
-
 unfoldable pub edges_part : Frame → List Cause → List ℕ
-edges_part frame causes = edges_start (length_of frame (pos 12)) ++ (flat_map (cause_numbers frame) causes ++ codes "</g>\n")
+edges_part frame causes = numbers_start (codes "edges") (length_of frame (pos 12)) ++ (flat_map (cause_numbers frame) causes ++ codes "</g>\n")

@@ -1,6 +1,6 @@
 -- What the reasons of faults show in the drawing: the stems, zones and points that they name. Type 1 Font Format 1.1, chapters 5, 6
 -- and 8.
-use Rattle.std.specs.Prelude.{ℕ, zero, suc, ℤ, ◌+◌, ◌*◌, ◌/◌, ◌%◌, ◌==◌, if◌then◌else◌, Bool, true, false, Option, None, Some, List, [], ◌∷◌, ◌++◌, slice_get}
+use Rattle.std.specs.Prelude.{ℕ, zero, suc, ℤ, ◌+◌, ◌*◌, ◌/◌, ◌%◌, if◌then◌else◌, Bool, true, false, Option, None, Some, List, [], ◌∷◌, ◌++◌, slice_get}
 use Rattle.std.specs.Option.{option_map, option_to_list}
 use Rattle.t1_char.specs.declared.edition.Edition.{Edition}
 use Rattle.t1_char.specs.declared.token.CharToken.{CharToken}
@@ -23,7 +23,7 @@ use Rattle.t1_rules.specs.declared.rule.Rule.{Rule}
 use Rattle.t1_rules.specs.declared.rule.Rule.TheVariants.{K04, K07}
 use Rattle.t1_rules.specs.declared.step_rules.flex.Point.{Point}
 use Rattle.t1_rules.specs.declared.step_rules.stems.Stem.{Stem}
-use Rattle.t1_rules.specs.Keys.{index_count, key_number, value_at}
+use Rattle.t1_rules.specs.Keys.{index_count, key_among, value_at}
 use Rattle.t1_rules.specs.StepRules.Stems.{lies_across, stands_upright}
 use Rattle.t1_rules.specs.StepRules.Tokens.{is_command}
 
@@ -80,9 +80,7 @@ zone_in _ index = None
 
 -- The zones that are drawn are those of BlueValues and OtherBlues.
 abbrev pub zone_key : ℕ → Option Key
-zone_key key =
-    if key == key_number BlueValues then Some BlueValues
-    else (if key == key_number OtherBlues then Some OtherBlues else None)
+zone_key key = key_among (BlueValues ∷ OtherBlues ∷ []) key
 
 abbrev pub zone_of_key : FontValue → Option Key → ℕ → Option Cause
 zone_of_key font None index = None

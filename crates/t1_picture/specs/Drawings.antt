@@ -14,7 +14,7 @@ use Rattle.t1_picture.specs.declared.drawing.Drawing.{Drawing}
 use Rattle.t1_picture.specs.Layers.{LayersView, layers_view, no_layers}
 use Rattle.t1_picture.specs.Parts.{PartView, drawn_steps, last_step_of, note_if, part_notes, with_part}
 use Rattle.t1_picture.specs.Subjects.{Subject, step_of}
-use Rattle.t1_picture.specs.Texts.{legible}
+use Rattle.t1_forms.specs.Xml.{legible}
 use Rattle.t1_rules.specs.StandardEncoding.{standard_name}
 use Rattle.t1_rules.specs.StepRules.Flex.{origin}
 

@@ -11,7 +11,7 @@ use Rattle.t1_picture.specs.Parts.{PartView, drawn_steps, part_outline}
 use Rattle.t1_picture.specs.Pictures.{IsPictureOf}
 use Rattle.t1_picture.specs.Marks.{faults_of, mark_of_one, pen_at}
 use Rattle.t1_picture.specs.Subjects.{Subject, everything, one_fault, up_to}
-use Rattle.t1_picture.specs.Texts.{legible, xml_text}
+use Rattle.t1_forms.specs.Xml.{legible, xml_text}
 use Rattle.t1_report.specs.Faults.{FaultValue}
 use Rattle.t1_report.specs.Waivers.{largest_waivers}
 

@@ -9,7 +9,7 @@ use Rattle.t1_picture.specs.Drawings.{DrawingView}
 use Rattle.t1_picture.specs.Marks.{FaultsView}
 use Rattle.t1_picture.specs.Parts.{note_if}
 use Rattle.t1_picture.specs.Subjects.{ShownValue, Subject, one_fault, step_of}
-use Rattle.t1_picture.specs.Texts.{legible}
+use Rattle.t1_forms.specs.Xml.{legible}
 
 -- Which glyph it is, and by which edition.
 abbrev pub title_of : Subject → List ℕ

@@ -12,6 +12,7 @@ pub mod Marks
 pub mod Parts
 pub mod Pictures
 pub mod Private
+pub mod Starts
 pub mod Subjects
 pub mod Subpaths
 pub mod Texts

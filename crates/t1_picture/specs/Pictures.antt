@@ -13,15 +13,16 @@ use Rattle.t1_picture.specs.declared.frame.Frame.{Frame}
 use Rattle.t1_picture.specs.declared.marks.FaultMark.{FaultMark}
 use Rattle.t1_picture.specs.Bands.{band_text, upright_line, with_band, zones_in}
 use Rattle.t1_picture.specs.Bounds.{kept, with_point, with_x}
-use Rattle.t1_picture.specs.CauseTexts.{cause_lines_part, cause_points_part, causes_part, cross_text, edges_part, end_text, with_causes}
+use Rattle.t1_picture.specs.CauseTexts.{cause_lines_part, cause_points_part, causes_part, cross_text, edges_part, with_causes}
 use Rattle.t1_reason_texts.specs.Decimals.{coordinate_of, exact_text}
 use Rattle.t1_picture.specs.Drawings.{DrawingView, drawing_of}
 use Rattle.t1_picture.specs.Frames.{frame_of, height_of, legend_left_of, legend_line_of, length_of, opposite, units_of, width_of}
 use Rattle.t1_picture.specs.Layers.{LayersView, mark_text}
 use Rattle.t1_picture.specs.Legends.{legend_of, title_of}
 use Rattle.t1_picture.specs.Marks.{AreShownOf, FaultLayersView, FaultsView, fault_layers, faults_of}
+use Rattle.t1_picture.specs.Starts.{marks_start, numbers_start, path_start}
 use Rattle.t1_picture.specs.Subjects.{Subject}
-use Rattle.t1_picture.specs.Texts.{xml_text}
+use Rattle.t1_forms.specs.Xml.{xml_text}
 use Rattle.t1_report.specs.Faults.{FaultValue}
 use Rattle.t1_rules.specs.StepRules.Flex.{at}
 
@@ -74,12 +75,12 @@ view_box_text x y across down =
 unfoldable pub title_text : List ℕ → List ℕ
 title_text title = codes "<title>" ++ (xml_text title ++ codes "</title>\n")
 
--- The form of a point, and those of a control point and of a mark.
-unfoldable pub square_text : Exact → List ℕ
-square_text size =
-    codes "<path id=\"on\" d=\"M-" ++ (exact_text size ++ (codes " -" ++ (exact_text size
+-- The form of a point, or of the end of an open path, and those of a control point and of a mark.
+unfoldable pub square_text : List ℕ → Exact → List ℕ
+square_text id size =
+    codes "<path id=\"" ++ (id ++ (codes "\" d=\"M-" ++ (exact_text size ++ (codes " -" ++ (exact_text size
     ++ (codes "H" ++ (exact_text size ++ (codes "V" ++ (exact_text size
-    ++ (codes "H-" ++ (exact_text size ++ codes "Z\"/>\n")))))))))
+    ++ (codes "H-" ++ (exact_text size ++ codes "Z\"/>\n")))))))))))
 
 unfoldable pub circles_text : Exact → Exact → List ℕ
 circles_text size radius =
@@ -88,7 +89,7 @@ circles_text size radius =
 
 -- The forms of what reasons name.
 unfoldable pub cause_forms : Exact → Exact → List ℕ
-cause_forms cross end = cross_text cross ++ end_text end
+cause_forms cross end = cross_text cross ++ square_text (codes "end") end
 
 -- The frame, by which zones are cut.
 unfoldable pub clip_text : Exact → Exact → Exact → Exact → List ℕ
@@ -99,7 +100,7 @@ clip_text left bottom right top =
 
 -- All forms, by their sizes: of a point, and of a mark and a cross; of an end.
 unfoldable pub forms_text : Exact → Exact → Exact → List ℕ
-forms_text size radius end = square_text size ++ (circles_text size radius ++ cause_forms radius end)
+forms_text size radius end = square_text (codes "on") size ++ (circles_text size radius ++ cause_forms radius end)
 
 unfoldable pub defs_text : Frame → List ℕ
 defs_text frame =
@@ -187,11 +188,8 @@ open_start broad dash =
 unfoldable pub open_text : Frame → List ℕ → List ℕ
 open_text frame text = open_start (length_of frame (pos 3)) (length_of frame (pos 12)) ++ path_text text
 
-unfoldable pub stretch_start : Exact → List ℕ
-stretch_start thick = codes "<path id=\"stretch\" stroke=\"orange\" stroke-width=\"" ++ (exact_text thick ++ codes "\" d=\"\n")
-
 unfoldable pub stretch_text : Frame → List ℕ → List ℕ
-stretch_text frame text = stretch_start (length_of frame (pos 8)) ++ path_text text
+stretch_text frame text = path_start (codes "stretch") (codes "orange") (length_of frame (pos 8)) ++ path_text text
 
 -- The outline, what isn't closed, the stretch of the step, and the handles.
 unfoldable pub outline_part : Frame → LayersView → List ℕ
@@ -208,11 +206,8 @@ points_part points controls =
 abbrev pub mark_at : FaultMark → List ℕ
 mark_at mark = mark_text (codes "mark") mark.point
 
-unfoldable pub marks_start : Exact → List ℕ
-marks_start broad = codes "<g id=\"marks\" stroke=\"red\" stroke-width=\"" ++ (exact_text broad ++ codes "\">\n")
-
 unfoldable pub marks_part : Frame → List FaultMark → List ℕ
-marks_part frame marks = marks_start (length_of frame (pos 3)) ++ (flat_map mark_at marks ++ codes "</g>\n")
+marks_part frame marks = marks_start (codes "marks") (length_of frame (pos 3)) ++ (flat_map mark_at marks ++ codes "</g>\n")
 
 unfoldable pub drawing_start : Exact → List ℕ
 drawing_start thin = codes "<g transform=\"scale(1 -1)\" fill=\"none\" stroke-width=\"" ++ (exact_text thin ++ codes "\">\n")
@@ -256,13 +251,9 @@ number_text frame mark =
     number_at (coordinate_of (kept (mark.point.x +ℤ units_of frame (pos 9))))
     (coordinate_of (opposite (kept (mark.point.y +ℤ units_of frame (pos 9))))) mark.first mark.last
 
-unfoldable pub numbers_start : Exact → List ℕ
-numbers_start letters =
-    codes "<g id=\"numbers\" fill=\"red\" font-family=\"monospace\" font-size=\"" ++ (exact_text letters ++ codes "\">\n")
-
 unfoldable pub numbers_text : Frame → List FaultMark → List ℕ
 numbers_text frame marks =
-    numbers_start (length_of frame (pos 16)) ++ (flat_map (number_text frame) marks ++ codes "</g>\n")
+    numbers_start (codes "numbers") (length_of frame (pos 16)) ++ (flat_map (number_text frame) marks ++ codes "</g>\n")
 
 unfoldable pub line_start : Exact → Exact → List ℕ
 line_start x y = codes "<text x=\"" ++ (exact_text x ++ (codes "\" y=\"" ++ (exact_text y ++ codes "\">")))

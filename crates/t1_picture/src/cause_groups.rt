@@ -2,13 +2,14 @@
 
 ghost use Rattle.std.specs.Prelude.{◌≡◌, ◌++◌, OnOk, string_bytes};
 ghost use Rattle.std.specs.List.{flat_map};
-ghost use Rattle.t1_picture.specs.CauseTexts.{cause_band, cause_line, cause_lines_part, cause_lines_start, cause_numbers, cause_points, cause_points_part, cause_points_start, causes_part, causes_start, column_of, edge_at, edge_numbers, edge_text, edges_part, edges_start, first_row, lower_number, lower_place, near_coordinate, second_row, upper_number, upper_place, with_cause, with_causes};
+ghost use Rattle.t1_picture.specs.CauseTexts.{cause_band, cause_line, cause_lines_part, cause_numbers, cause_points, cause_points_part, causes_part, causes_start, column_of, edge_at, edge_numbers, edge_text, edges_part, first_row, lower_number, lower_place, near_coordinate, second_row, upper_number, upper_place, with_cause, with_causes};
 
 use crate::bands::{Direction, write_across};
 use crate::bounds::Bounds;
 use crate::causes::{Cause, NamedStem, Role};
 use crate::frame::Frame;
 use crate::layers::{write_mark, write_stretch};
+use crate::starts::{start_marks, start_numbers, start_path};
 use crate::texts::{END, END_OF_DATA, push};
 use std::alloc::AllocError;
 use t1_char::UNIT;
@@ -123,15 +124,6 @@ fn write_cause_band(svg: &mut String, frame: &Frame, cause: Cause) -> Result<(),
 
 // ---- lines
 
-fn start_cause_lines(svg: &mut String, thin: Exact) -> Result<(), AllocError>
-    ensures { OnOk result (string_bytes svg.new ≡ string_bytes svg.old ++ cause_lines_start thin) }
-{
-    writeln!(
-        svg,
-        r#"<path id="cause-lines" stroke="red" stroke-width="{thin}" d=""#
-    )
-}
-
 /// Writes the lines to points that are named, and the outlines of components.
 #[tactic(auto, unfolding(crate::specs::CauseTexts::cause_lines_part))]
 pub(crate) fn write_cause_lines(
@@ -142,7 +134,7 @@ pub(crate) fn write_cause_lines(
 ) -> Result<(), AllocError>
     ensures { OnOk result (string_bytes svg.new ≡ string_bytes svg.old ++ cause_lines_part frame.now causes.now components.now) }
 {
-    start_cause_lines(svg, frame.length(LINE))?;
+    start_path(svg, "cause-lines", "red", frame.length(LINE))?;
     write_misses(svg, causes)?;
     push(svg, components)?;
     push(svg, END_OF_DATA)
@@ -170,15 +162,6 @@ fn write_miss(svg: &mut String, cause: Cause) -> Result<(), AllocError>
 
 // ---- points
 
-fn start_cause_points(svg: &mut String, thin: Exact) -> Result<(), AllocError>
-    ensures { OnOk result (string_bytes svg.new ≡ string_bytes svg.old ++ cause_points_start thin) }
-{
-    writeln!(
-        svg,
-        r#"<g id="cause-points" stroke="red" stroke-width="{thin}">"#
-    )
-}
-
 /// Writes the points that are named, and the ends of open paths.
 #[tactic(auto, unfolding(crate::specs::CauseTexts::cause_points_part))]
 pub(crate) fn write_cause_points(
@@ -188,7 +171,7 @@ pub(crate) fn write_cause_points(
 ) -> Result<(), AllocError>
     ensures { OnOk result (string_bytes svg.new ≡ string_bytes svg.old ++ cause_points_part frame.now causes.now) }
 {
-    start_cause_points(svg, frame.length(LINE))?;
+    start_marks(svg, "cause-points", frame.length(LINE))?;
     write_all_points(svg, causes)?;
     push(svg, END)
 }
@@ -217,15 +200,6 @@ fn write_points_of(svg: &mut String, cause: Cause) -> Result<(), AllocError>
 
 // ---- numbers
 
-fn start_edges(svg: &mut String, letters: Exact) -> Result<(), AllocError>
-    ensures { OnOk result (string_bytes svg.new ≡ string_bytes svg.old ++ edges_start letters) }
-{
-    writeln!(
-        svg,
-        r#"<g id="edges" fill="red" font-family="monospace" font-size="{letters}">"#
-    )
-}
-
 /// Writes the numbers of the edges of stems, y downwards.
 #[tactic(auto, unfolding(crate::specs::CauseTexts::edges_part))]
 pub(crate) fn write_edges(
@@ -235,7 +209,7 @@ pub(crate) fn write_edges(
 ) -> Result<(), AllocError>
     ensures { OnOk result (string_bytes svg.new ≡ string_bytes svg.old ++ edges_part frame.now causes.now) }
 {
-    start_edges(svg, frame.length(NUMBERS))?;
+    start_numbers(svg, "edges", frame.length(NUMBERS))?;
     write_cause_numbers(svg, frame, causes)?;
     push(svg, END)
 }

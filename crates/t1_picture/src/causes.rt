@@ -11,12 +11,7 @@ use std::alloc::AllocError;
 use t1_char::{CharToken, Command, Edition};
 use t1_font::{Entry, Font, Key};
 use t1_reasons::Reason;
-use t1_rules::{Edges, INDEXES, Point, Rule, Stem};
-
-/// The numbers of the keys whose zones are drawn.
-const BLUE_VALUES: u32 = 9;
-
-const OTHER_BLUES: u32 = 10;
+use t1_rules::{Edges, INDEXES, Point, Rule, Stem, key_among};
 
 /// Whose stem it is that a reason names.
 #[derive(Clone, Copy)]
@@ -205,13 +200,7 @@ pub(crate) fn zone_at(font: &Font<'_>, step: u32) -> Option<Cause>
 fn zone_key(key: u32) -> Option<Key>
     ensures { result ≡ zone_key key }
 {
-    if key == BLUE_VALUES {
-        Some(Key::BlueValues)
-    } else if key == OTHER_BLUES {
-        Some(Key::OtherBlues)
-    } else {
-        None
-    }
+    key_among(&[Key::BlueValues, Key::OtherBlues], u8::try_from(key).ok()?)
 }
 
 /// The zone of a list that has the number of an index.

@@ -42,23 +42,13 @@ pub(crate) fn component_outlines(
 fn has_base(causes: &[Cause]) -> bool
     ensures { result ≡ list_any is_base causes.now }
 {
-    for cause in causes {
-        if is_base(*cause) {
-            return true;
-        }
-    }
-    false
+    causes.iter().any(|cause| is_base(*cause))
 }
 
 fn has_accent(causes: &[Cause]) -> bool
     ensures { result ≡ list_any is_accent causes.now }
 {
-    for cause in causes {
-        if is_accent(*cause) {
-            return true;
-        }
-    }
-    false
+    causes.iter().any(|cause| is_accent(*cause))
 }
 
 fn is_base(cause: Cause) -> bool

@@ -14,10 +14,11 @@ ghost use Rattle.t1_rules.specs.StepRules.Flex.{origin};
 use crate::layers::Layers;
 use crate::parts::DrawnPart;
 use crate::subpath::behind;
-use crate::texts::{add_line, legible};
+use crate::texts::add_line;
 use crate::view::View;
 use std::alloc::{AllocError, Global};
 use t1_font::Font;
+use t1_forms::legible;
 use t1_outline::{Composition, ORIGIN, Part, SeacPart, SeacParts};
 use t1_rules::{Point, standard_name};
 

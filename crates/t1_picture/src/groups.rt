@@ -5,7 +5,7 @@ ghost use Rattle.std.specs.List.{flat_map};
 ghost use Rattle.t1_picture.specs.Bands.{band_text};
 ghost use Rattle.t1_picture.specs.Layers.{layers_view};
 ghost use Rattle.t1_picture.specs.Marks.{fault_layers_view};
-ghost use Rattle.t1_picture.specs.Pictures.{back_text, base_line, drawing_start, drawing_text, faults_part, front_text, handles_start, lines_part, lines_start, mark_at, marks_part, marks_start, metrics_text, open_start, open_text, outline_part, outline_start, path_text, place_line, points_part, stems_part, stems_start, stretch_start, stretch_text, zones_part, zones_start};
+ghost use Rattle.t1_picture.specs.Pictures.{back_text, base_line, drawing_start, drawing_text, faults_part, front_text, handles_start, lines_part, lines_start, mark_at, marks_part, metrics_text, open_start, open_text, outline_part, outline_start, path_text, place_line, points_part, stems_part, stems_start, stretch_text, zones_part, zones_start};
 
 use crate::bands::{Band, write_upright_line, write_zones};
 use crate::cause_groups::{write_cause_lines, write_cause_points, write_causes};
@@ -15,6 +15,7 @@ use crate::faults::FaultLayers;
 use crate::frame::Frame;
 use crate::layers::{Layers, write_mark};
 use crate::marks::FaultMark;
+use crate::starts::{start_marks, start_path};
 use crate::texts::{END, END_OF_DATA, push};
 use std::alloc::AllocError;
 use t1_font::Font;
@@ -264,17 +265,8 @@ fn start_open(svg: &mut String, broad: Exact, dash: Exact) -> Result<(), AllocEr
 fn write_stretch(svg: &mut String, frame: &Frame, text: &str) -> Result<(), AllocError>
     ensures { OnOk result (string_bytes svg.new ≡ string_bytes svg.old ++ stretch_text frame.now text.now) }
 {
-    start_stretch(svg, frame.length(THICK))?;
+    start_path(svg, "stretch", "orange", frame.length(THICK))?;
     write_path(svg, text)
-}
-
-fn start_stretch(svg: &mut String, thick: Exact) -> Result<(), AllocError>
-    ensures { OnOk result (string_bytes svg.new ≡ string_bytes svg.old ++ stretch_start thick) }
-{
-    writeln!(
-        svg,
-        r#"<path id="stretch" stroke="orange" stroke-width="{thick}" d=""#
-    )
 }
 
 /// Writes the data of a path, and its end.
@@ -297,15 +289,9 @@ fn write_points(svg: &mut String, points: &str, controls: &str) -> Result<(), Al
 fn write_marks(svg: &mut String, frame: &Frame, marks: &[FaultMark]) -> Result<(), AllocError>
     ensures { OnOk result (string_bytes svg.new ≡ string_bytes svg.old ++ marks_part frame.now marks.now) }
 {
-    start_marks(svg, frame.length(BROAD))?;
+    start_marks(svg, "marks", frame.length(BROAD))?;
     write_circles(svg, marks)?;
     push(svg, END)
-}
-
-fn start_marks(svg: &mut String, broad: Exact) -> Result<(), AllocError>
-    ensures { OnOk result (string_bytes svg.new ≡ string_bytes svg.old ++ marks_start broad) }
-{
-    writeln!(svg, r#"<g id="marks" stroke="red" stroke-width="{broad}">"#)
 }
 
 fn write_circles(svg: &mut String, marks: &[FaultMark]) -> Result<(), AllocError>

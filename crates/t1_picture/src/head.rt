@@ -2,13 +2,14 @@
 
 ghost use Rattle.std.specs.Prelude.{◌≡◌, ◌++◌, OnOk, string_bytes};
 ghost use Rattle.t1_picture.specs.Drawings.{texts_of};
-ghost use Rattle.t1_picture.specs.CauseTexts.{cross_text, end_text};
+ghost use Rattle.t1_picture.specs.CauseTexts.{cross_text};
 ghost use Rattle.t1_picture.specs.Pictures.{cause_forms, circles_text, clip_text, columns_from, defs_text, forms_text, ground_part, ground_text, head_by, head_text, letters_of, plane_text, size_text, square_text, svg_start, title_text, view_box_text};
 
 use crate::frame::Frame;
 use crate::marks::MARK;
-use crate::texts::{push, push_escaped};
+use crate::texts::push;
 use std::alloc::AllocError;
+use t1_forms::push_xml;
 use t1_reason_texts::Exact;
 
 /// What is before the size.
@@ -140,7 +141,7 @@ fn write_title(svg: &mut String, title: &str) -> Result<(), AllocError>
     ensures { OnOk result (string_bytes svg.new ≡ string_bytes svg.old ++ title_text title.now) }
 {
     push(svg, "<title>")?;
-    push_escaped(svg, title)?;
+    push_xml(svg, title)?;
     push(svg, "</title>\n")
 }
 
@@ -171,17 +172,18 @@ fn write_defs(svg: &mut String, frame: &Frame) -> Result<(), AllocError>
 fn write_forms(svg: &mut String, size: Exact, radius: Exact, end: Exact) -> Result<(), AllocError>
     ensures { OnOk result (string_bytes svg.new ≡ string_bytes svg.old ++ forms_text size radius end) }
 {
-    write_square(svg, size)?;
+    write_square(svg, "on", size)?;
     write_circle_forms(svg, size, radius)?;
     write_cause_forms(svg, radius, end)
 }
 
-fn write_square(svg: &mut String, size: Exact) -> Result<(), AllocError>
-    ensures { OnOk result (string_bytes svg.new ≡ string_bytes svg.old ++ square_text size) }
+#[tactic(auto, unfolding(crate::specs::Pictures::square_text))]
+fn write_square(svg: &mut String, id: &str, size: Exact) -> Result<(), AllocError>
+    ensures { OnOk result (string_bytes svg.new ≡ string_bytes svg.old ++ square_text id.now size) }
 {
     writeln!(
         svg,
-        r#"<path id="on" d="M-{size} -{size}H{size}V{size}H-{size}Z"/>"#
+        r#"<path id="{id}" d="M-{size} -{size}H{size}V{size}H-{size}Z"/>"#
     )
 }
 
@@ -201,7 +203,7 @@ fn write_cause_forms(svg: &mut String, cross: Exact, end: Exact) -> Result<(), A
     ensures { OnOk result (string_bytes svg.new ≡ string_bytes svg.old ++ cause_forms cross end) }
 {
     write_cross(svg, cross)?;
-    write_end(svg, end)
+    write_square(svg, "end", end)
 }
 
 fn write_cross(svg: &mut String, size: Exact) -> Result<(), AllocError>
@@ -210,15 +212,6 @@ fn write_cross(svg: &mut String, size: Exact) -> Result<(), AllocError>
     writeln!(
         svg,
         r#"<path id="cross" d="M-{size} 0H{size}M0 -{size}V{size}"/>"#
-    )
-}
-
-fn write_end(svg: &mut String, size: Exact) -> Result<(), AllocError>
-    ensures { OnOk result (string_bytes svg.new ≡ string_bytes svg.old ++ end_text size) }
-{
-    writeln!(
-        svg,
-        r#"<path id="end" d="M-{size} -{size}H{size}V{size}H-{size}Z"/>"#
     )
 }
 

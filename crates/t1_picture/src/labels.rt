@@ -4,14 +4,16 @@ ghost use Rattle.std.specs.Prelude.{◌≡◌, ◌++◌, OnOk, string_bytes};
 ghost use Rattle.std.specs.List.{flat_map};
 ghost use Rattle.t1_picture.specs.Drawings.{texts_of};
 ghost use Rattle.t1_picture.specs.Marks.{fault_layers_view};
-ghost use Rattle.t1_picture.specs.Pictures.{labels_text, legend_line_text, legend_lines, legend_start, legend_text, line_start, number_at, number_text, numbers_start, numbers_text, one_number, two_numbers};
+ghost use Rattle.t1_picture.specs.Pictures.{labels_text, legend_line_text, legend_lines, legend_start, legend_text, line_start, number_at, number_text, numbers_text, one_number, two_numbers};
 
 use crate::cause_groups::write_edges;
 use crate::faults::FaultLayers;
 use crate::frame::Frame;
 use crate::marks::{FaultMark, MARK};
-use crate::texts::{END, push, push_escaped};
+use crate::starts::start_numbers;
+use crate::texts::{END, push};
 use std::alloc::AllocError;
+use t1_forms::push_xml;
 use t1_reason_texts::{Exact, coordinate};
 
 /// The height of letters.
@@ -38,18 +40,9 @@ pub(crate) fn write_labels(
 fn write_numbers(svg: &mut String, frame: &Frame, marks: &[FaultMark]) -> Result<(), AllocError>
     ensures { OnOk result (string_bytes svg.new ≡ string_bytes svg.old ++ numbers_text frame.now marks.now) }
 {
-    start_numbers(svg, frame.length(LETTERS))?;
+    start_numbers(svg, "numbers", frame.length(LETTERS))?;
     write_all_numbers(svg, frame, marks)?;
     push(svg, END)
-}
-
-fn start_numbers(svg: &mut String, letters: Exact) -> Result<(), AllocError>
-    ensures { OnOk result (string_bytes svg.new ≡ string_bytes svg.old ++ numbers_start letters) }
-{
-    writeln!(
-        svg,
-        r#"<g id="numbers" fill="red" font-family="monospace" font-size="{letters}">"#
-    )
 }
 
 fn write_all_numbers(svg: &mut String, frame: &Frame, marks: &[FaultMark]) -> Result<(), AllocError>
@@ -145,7 +138,7 @@ fn write_legend_line(
     ensures { OnOk result (string_bytes svg.new ≡ string_bytes svg.old ++ legend_line_text frame.now place line.now) }
 {
     start_line(svg, frame.legend_left(), frame.legend_line(place))?;
-    push_escaped(svg, line)?;
+    push_xml(svg, line)?;
     push(svg, "</text>\n")
 }
 

@@ -1,7 +1,7 @@
-//! A picture of one glyph of a Type 1 font, with its faults, as a text of SVG 1.1: its outline and its points, the stems that
-//! are in force after the last step drawn, sidebearing, width and base line, the zones of BlueValues and OtherBlues, for
-//! each fault a numbered mark, with t1check's line in a legend, and in red what its reason names: stems, points, components. Adobe Type 1
-//! Font Format 1.1, chapters 5, 6 and 8.
+//! A picture of one glyph of a Type 1 font, with its faults, as a text of SVG 1.1: its outline and its points, the stems that are
+//! in force after the last step drawn, sidebearing, width and base line, the zones of BlueValues and OtherBlues, for each fault a
+//! numbered mark, with t1check's line in a legend, and in red what its reason names: stems, points, components. Adobe Type 1 Font
+//! Format 1.1, chapters 5, 6 and 8.
 //!
 //! [`picture`] makes it: of a whole glyph, up to a step, or of one fault alone ([`Shown`]), which may be one of the font's zones.
 //! [`shown_by`] finds that fault by its number. What is drawn, and the form of the text, is said in docs/REFERENCE.md.
@@ -10,7 +10,8 @@
 //!
 //! - the text is the picture that the definition says, byte for byte (`IsPictureOf`), and a subject has just one
 //!   ([`a_subject_has_one_picture`]);
-//! - a fault that is shown alone is drawn up to its step, or with all steps where it is the font's ([`a_fault_is_drawn_up_to_its_step`]);
+//! - a fault that is shown alone is drawn up to its step, or with all steps where it is the font's
+//!   ([`a_fault_is_drawn_up_to_its_step`]);
 //! - no name in a font ends an element or an attribute of it ([`texts_stay_in_their_elements`]);
 //! - no index, sum or cast goes wrong, and each call returns.
 //!
@@ -44,6 +45,7 @@ mod marks;
 mod one_fault;
 mod parts;
 mod run;
+mod starts;
 mod subpath;
 mod svg;
 mod texts;
@@ -55,5 +57,4 @@ pub use laws::{
     texts_stay_in_their_elements,
 };
 pub use svg::picture;
-pub use texts::push_escaped;
 pub use view::{Shown, View};

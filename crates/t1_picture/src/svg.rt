@@ -21,10 +21,11 @@ use crate::head::write_head;
 use crate::labels::write_labels;
 use crate::legend::legend;
 use crate::marks::FaultMark;
-use crate::texts::{legible, push};
+use crate::texts::push;
 use crate::view::View;
 use std::alloc::{AllocError, Global};
 use t1_font::Font;
+use t1_forms::legible;
 use t1_report::faults_of_a_unit_are_the_reports;
 
 /// The picture of a glyph: a text of SVG 1.1. The same view has the same picture.

@@ -13,9 +13,10 @@ use Rattle.t1_report.specs.Laws.Walks.{AllAreGivenAtLast, GivenAreTheFront, Lead
 use Rattle.t1_report.specs.Walks.{first_mark}
 use Rattle.t1_report.specs.declared.marks.Mark.{Mark}
 use Rattle.t1_pieces.proofs.PieceLaws.{led_more}
-use Rattle.t1_pieces.specs.DocumentLaws.{AreCalls, AreCallsFor, Call, DocumentCallsEnd, JoinedAreTheDocument, PartsFit, handed_by, parts_from, parts_of}
-use Rattle.t1_pieces.specs.Documents.{IsNextPart, IsNextResult, StandsAt, StandsFor, Subject, front, result_of, results_of, state_after, told_of}
+use Rattle.t1_pieces.specs.DocumentLaws.{AreCallsFor, DocumentCallsEnd, JoinedAreTheDocument, PartsFit, parts_from, parts_of}
+use Rattle.t1_pieces.specs.Documents.{IsDocumentPieceOf, IsNextPart, IsNextResult, StandsAt, StandsFor, Subject, front, result_of, results_of, state_after, told_of}
 use Rattle.t1_pieces.specs.Documents.IsNextResult.{ending, result}
+use Rattle.t1_pieces.specs.Laws.{AreCalls, Call, handed_by}
 use Rattle.t1_pieces.specs.declared.stage.Reached.{Reached}
 use Rattle.t1_pieces.specs.declared.stage.Stage.{Stage}
 use Rattle.t1_pieces.specs.declared.stage.Stage.TheVariants.{Beginning, Nothing, Results}
@@ -50,7 +51,7 @@ no_front pages Beginning begun = refl
 no_front pages Results begun = refl
 
 -- What calls handed over since a place.
-record AreHanded (subject : Subject) (reached : Reached) (state : SarifState) (mark : Mark) (calls : List Call) (last : Reached) : Type 0 where
+record AreHanded (subject : Subject) (reached : Reached) (state : SarifState) (mark : Mark) (calls : List (Call Reached)) (last : Reached) : Type 0 where
   pub given : List FaultValue
   pub end : Mark
   pub led : LeadTo subject.font subject.waivers mark given end
@@ -67,8 +68,8 @@ some_given subject state before room n [] some within nothing is =
     absurd (omega (arith, some, within, none, length-take n room))
 some_given subject state before room n (f ∷ given) some within nothing is = omega arith
 
-handed_over : (subject : Subject) (reached : Reached) (state : SarifState) (mark : Mark) (calls : List Call) (last : Reached)
-    → StandsFor subject reached state mark → AreCalls subject reached calls last → AreHanded subject reached state mark calls last
+handed_over : (subject : Subject) (reached : Reached) (state : SarifState) (mark : Mark) (calls : List (Call Reached)) (last : Reached)
+    → StandsFor subject reached state mark → AreCalls (IsDocumentPieceOf subject) reached calls last → AreHanded subject reached state mark calls last
 handed_over subject reached state mark [] last stands is = record {
   given = [];
   end = mark;
@@ -108,7 +109,7 @@ first_stands subject Nothing at counts is at_is = (sym at_is, refl)
 first_stands subject Beginning at counts is at_is = (sym at_is, refl)
 first_stands subject Results at counts is at_is = cc
 
-handed : (subject : Subject) (faults : List FaultValue) (calls : List Call) (last : Reached) (are : AreCallsFor subject faults calls last)
+handed : (subject : Subject) (faults : List FaultValue) (calls : List (Call Reached)) (last : Reached) (are : AreCallsFor subject faults calls last)
     → AreHanded subject are.first (begun subject.pages) first_mark calls last
 handed subject faults calls last are =
     handed_over subject are.first (begun subject.pages) first_mark calls last
@@ -165,7 +166,7 @@ split_at faults given fault front is =
     ∙ take-append-drop (length given) faults
 
 module _ (starts : NoneIsGivenAtFirst) (fronts : GivenAreTheFront) (counts : MarksGoOnCounting) (ends : AllAreGivenAtLast) where
-  next_short : (subject : Subject) (faults : List FaultValue) (calls : List Call) (last : Reached) (given : List FaultValue) (end : Mark)
+  next_short : (subject : Subject) (faults : List FaultValue) (calls : List (Call Reached)) (last : Reached) (given : List FaultValue) (end : Mark)
       (text room : List ℕ) → AreCallsFor subject faults calls last → LeadTo subject.font subject.waivers first_mark given end
       → AllByRecursion (λ part. length part ≤ length room) (parts_from subject (begun subject.pages) faults)
       → IsNextResult subject (state_after subject (begun subject.pages) given) end text → length text ≤ length room
@@ -184,7 +185,7 @@ module _ (starts : NoneIsGivenAtFirst) (fronts : GivenAreTheFront) (counts : Mar
       (sym (text_is ∙ ap (λ (fs : List FaultValue). closing (state_after subject (begun subject.pages) fs)) same))
       (end_there (λ part. length part ≤ length room) subject (begun subject.pages) faults short)
 
-  part_short : (subject : Subject) (faults : List FaultValue) (calls : List Call) (last : Reached) (given : List FaultValue) (end : Mark)
+  part_short : (subject : Subject) (faults : List FaultValue) (calls : List (Call Reached)) (last : Reached) (given : List FaultValue) (end : Mark)
       (stage : Stage) (text room : List ℕ) → AreCallsFor subject faults calls last
       → LeadTo subject.font subject.waivers first_mark given end
       → AllByRecursion (λ part. length part ≤ length room) (parts_of subject faults)
@@ -197,12 +198,13 @@ module _ (starts : NoneIsGivenAtFirst) (fronts : GivenAreTheFront) (counts : Mar
       next_short subject faults calls last given end text room are led short is
 
   pub fit : PartsFit
-  fit subject faults calls last after room are short is =
+  fit subject faults calls last after room n are short is =
       let before = handed subject faults calls last are in
       let full = (is (state_after subject (begun subject.pages) before.given) before.end before.stands).1 in
       let holds = part_short subject faults calls last before.given before.end last.stage full.text room are before.led short full.is_next in
+      let size = full.size_is in
       let long = full.too_long in
-      absurd (omega (arith, holds, long))
+      absurd (omega (arith, holds, size, long))
 
 pub calls_end : NoneIsGivenAtFirst → GivenAreTheFront → DocumentCallsEnd
 calls_end starts fronts subject faults calls last are =

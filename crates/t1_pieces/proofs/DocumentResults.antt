@@ -20,7 +20,7 @@ use Rattle.t1_pieces.specs.Documents.{AreAsManyAsFit, IsEndIn, IsFullAt, IsNextP
 use Rattle.t1_pieces.specs.Documents.IsNextResult.{ending}
 use Rattle.t1_pieces.specs.declared.documents.DocumentRequest.{DocumentRequest}
 use Rattle.t1_pieces.specs.declared.piece.Piece.{Piece}
-use Rattle.t1_pieces.specs.declared.piece.Piece.TheVariants.{Last, Memory, More, NoRoom, Refused}
+use Rattle.t1_pieces.specs.declared.piece.Piece.TheVariants.{Last, Memory, Missing, More, NoRoom, Refused}
 use Rattle.t1_pieces.specs.declared.stage.Reached.{Reached}
 use Rattle.t1_pieces.specs.declared.stage.Stage.{Stage}
 use Rattle.t1_pieces.specs.declared.stage.Stage.TheVariants.{Beginning, Nothing, Results}
@@ -104,7 +104,7 @@ next_part subject Results state mark text begun next = next
 pub full_rest : (start : Start) (at at' reached : Reached) (mark' : Mark) (state' : SarifState) (room text : List ℕ) (used : ℕ) (piece : Piece)
     → AreSoFar start at at' mark' state' room used → (used ≡ 0 → at ≡ reached)
     → IsNextResult start.subject state' mark' text → length room - used < length text
-    → (used ≡ 0 → piece ≡ NoRoom) → (0 < used → piece ≡ More used) → StandsFor start.subject at start.state start.mark
+    → (used ≡ 0 → piece ≡ NoRoom (length text)) → (0 < used → piece ≡ More used) → StandsFor start.subject at start.state start.mark
     → IsRestOf start at reached at' room piece
 full_rest start at at' reached mark' state' room text zero piece so_far unmoved next long none some stands =
     let subject = start.subject in
@@ -121,6 +121,7 @@ full_rest start at at' reached mark' state' room text zero piece so_far unmoved 
       record {
         text = text;
         is_next = next_part subject at.stage start.state start.mark text (subst (λ (r : Reached). ¬ (r.stage ≡ Nothing)) same so_far.begun) next_is;
+        size_is = refl;
         too_long = omega (arith, long);
       },
     )
@@ -139,10 +140,12 @@ full_rest start at at' reached mark' state' room text (suc used) piece so_far un
         text = so_far.text;
         stands = subst (λ (s : SarifState). StandsFor subject at' s mark') so_far.state_is (so_far.stands stands);
       };
+      size = length text;
       full = record {
         text = text;
         is_next = next_part subject at'.stage (state_after subject start.state so_far.given) mark' text so_far.begun
             (subst (λ (s : SarifState). IsNextResult subject s mark' text) so_far.state_is next);
+        size_is = refl;
         too_long = omega (arith, long, within);
       };
     })
@@ -169,12 +172,13 @@ end_rest start at at' old new mark' state' used (More n) so_far unmoved none (n_
     (subst (λ (r : List ℕ). IsRestOf start at old.reached at' r (More n)) (sym same)
     (full_rest start at at' old.reached mark' state' old.room (closing state') used (More n) so_far unmoved
     (ending none refl) (omega (arith, long, n_is, within)) (λ none. absurd (omega (arith, none, n_is, some))) (λ some. ap More n_is) stands))
-end_rest start at at' old new mark' state' used NoRoom so_far unmoved none (n_is, kept, same, long) stands =
-    subst (λ (r : Reached). IsRestOf start at old.reached r new.room NoRoom) (sym kept)
-    (subst (λ (r : List ℕ). IsRestOf start at old.reached at' r NoRoom) (sym same)
-    (full_rest start at at' old.reached mark' state' old.room (closing state') used NoRoom so_far unmoved
-    (ending none refl) (omega (arith, long, n_is)) (λ none. refl) (λ some. absurd (omega (arith, some, n_is))) stands))
+end_rest start at at' old new mark' state' used (NoRoom n) so_far unmoved none (size_is, n_is, kept, same, long) stands =
+    subst (λ (r : Reached). IsRestOf start at old.reached r new.room (NoRoom n)) (sym kept)
+    (subst (λ (r : List ℕ). IsRestOf start at old.reached at' r (NoRoom n)) (sym same)
+    (full_rest start at at' old.reached mark' state' old.room (closing state') used (NoRoom n) so_far unmoved
+    (ending none refl) (omega (arith, long, n_is)) (λ none. ap NoRoom size_is) (λ some. absurd (omega (arith, some, n_is))) stands))
 end_rest start at at' old new mark' state' used (Refused n) so_far unmoved none is stands = absurd is
+end_rest start at at' old new mark' state' used (Missing why) so_far unmoved none is stands = absurd is
 end_rest start at at' old new mark' state' used Memory so_far unmoved none is stands = is
 
 -- What is handed over after what was put into a room before is what the call hands over.
@@ -186,9 +190,10 @@ rest_is_part subject before state mark at reached reached' room (Last n) is rest
     subst (λ (b : List ℕ). IsEndIn (record { subject = subject; before = b; state = state; mark = mark }) room n) is rest
 rest_is_part subject before state mark at reached reached' room (More n) is rest =
     subst (λ (b : List ℕ). AreAsManyAsFit (record { subject = subject; before = b; state = state; mark = mark }) reached' room n) is rest
-rest_is_part subject before state mark at reached reached' room NoRoom is (kept, same, full) =
-    (kept, subst (λ (r : Reached). IsFullAt subject r.stage state mark room 0) same full)
+rest_is_part subject before state mark at reached reached' room (NoRoom n) is (kept, same, full) =
+    (kept, subst (λ (r : Reached). IsFullAt subject r.stage state mark room 0 n) same full)
 rest_is_part subject before state mark at reached reached' room (Refused n) is rest = absurd rest
+rest_is_part subject before state mark at reached reached' room (Missing why) is rest = absurd rest
 rest_is_part subject before state mark at reached reached' room Memory is rest = rest
 
 -- A result is never empty.

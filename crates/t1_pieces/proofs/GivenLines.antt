@@ -66,13 +66,11 @@ one_given form input mark reached room room' line used fault before next is put 
 pub is_full : (form : Form) (input : Input) (mark reached : Mark) (room line : List ℕ) (used : ℕ) (fault : FaultValue) (piece : Piece)
     → AreGiven form input mark reached room used → (used ≡ 0 → reached ≡ mark) → IsNext input.font input.waivers reached fault
     → line ≡ line_as form input.font input.waivers fault → length room - used < length line
-    → (used ≡ 0 → piece ≡ NoRoom) → (0 < used → piece ≡ More used) → IsPieceOf form input mark reached room piece
+    → (used ≡ 0 → piece ≡ NoRoom (length line)) → (0 < used → piece ≡ More used) → IsPieceOf form input mark reached room piece
 is_full form input mark reached room line zero fault piece before start next is long none some =
-    let same : length line ≡ length (line_as form input.font input.waivers fault) = ap length is in
     subst (IsPieceOf form input mark reached room) (sym (none refl))
-    (start refl, record { next = fault; is_next = next; too_long = omega (arith, long, same) })
+    (start refl, record { next = fault; is_next = next; size_is = ap length is; too_long = omega (arith, long) })
 is_full form input mark reached room line (suc used) fault piece before start next is long none some =
-    let same : length line ≡ length (line_as form input.font input.waivers fault) = ap length is in
     let within = before.within in
     subst (IsPieceOf form input mark reached room) (sym (some (omega arith)))
-    (omega arith, before, record { next = fault; is_next = next; too_long = omega (arith, long, same, within) })
+    (omega arith, before, (length line, record { next = fault; is_next = next; size_is = ap length is; too_long = omega (arith, long, within) }))

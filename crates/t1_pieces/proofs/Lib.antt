@@ -6,4 +6,3 @@ pub mod Objects
 pub mod PieceLaws
 pub mod Readings
 pub mod T1checkLaws
-pub mod WholeTexts

@@ -12,6 +12,7 @@ use Rattle.t1_report.specs.Walks.{IsNext, first_mark, mark_of}
 use Rattle.t1_report.specs.declared.marks.Mark.{Mark}
 use Rattle.t1_pieces.specs.Forms.{line_as, lines_as}
 use Rattle.t1_pieces.specs.Laws.{AreCalls, Call, CallsEnd, JoinedAreTheReport, LinesFit, handed_by}
+use Rattle.t1_pieces.specs.Pieces.{IsPieceOf}
 use Rattle.t1_pieces.specs.Reading.{Input}
 use Rattle.t1_pieces.specs.declared.form.Form.{Form}
 
@@ -22,7 +23,7 @@ led_more font waivers mark middle last (f ∷ given) more (next, led) on =
     (next, led_more font waivers (mark_of f) middle last given more led on)
 
 -- What calls handed over, and between which marks.
-record AreHanded (form : Form) (input : Input) (mark : Mark) (calls : List Call) (last : Mark) : Type 0 where
+record AreHanded (form : Form) (input : Input) (mark : Mark) (calls : List (Call Mark)) (last : Mark) : Type 0 where
   pub given : List FaultValue
   pub led : LeadTo input.font input.waivers mark given last
   pub text : flat_map handed_by calls ≡ lines_as form input.font input.waivers given
@@ -36,17 +37,17 @@ some_given form input room n [] some within is =
     absurd (omega (arith, some, within, none, length-take n room))
 some_given form input room n (f ∷ given) some within is = omega arith
 
-handed_over : (form : Form) (input : Input) (mark : Mark) (calls : List Call) (last : Mark)
-    → AreCalls form input mark calls last → AreHanded form input mark calls last
+handed_over : (form : Form) (input : Input) (mark : Mark) (calls : List (Call Mark)) (last : Mark)
+    → AreCalls (IsPieceOf form input) mark calls last → AreHanded form input mark calls last
 handed_over form input mark [] last is = record { given = []; led = is; text = refl; few = omega arith }
 handed_over form input mark (call ∷ calls) last ((some, here, full), rest) =
-    let later = handed_over form input call.mark calls last rest in
+    let later = handed_over form input call.reached calls last rest in
     let count = length-append here.given later.given in
     let one = some_given form input call.room call.count here.given some here.within here.text in
     let few = later.few in
     record {
       given = here.given ++ later.given;
-      led = led_more input.font input.waivers mark call.mark last here.given later.given here.led later.led;
+      led = led_more input.font input.waivers mark call.reached last here.given later.given here.led later.led;
       text = ap (λ t. t ++ flat_map handed_by calls) here.text
           ∙ ap (λ t. lines_as form input.font input.waivers here.given ++ t) later.text
           ∙ sym (flat_map-append (line_as form input.font input.waivers) here.given later.given);
@@ -71,14 +72,15 @@ one_of : {A : Type 0} (P : A → Type 0) (xs : List A) (k : ℕ) (x : A) → All
 one_of P xs k x all is = subst P (get_or_from_slice_get xs k x x is) (all k x (slice_get_within xs k x is))
 
 pub fit : NoneIsGivenAtFirst → GivenAreTheFront → MarksGoOnCounting → LinesFit
-fit starts front counts form input faults calls mark mark' room few few_waivers report are short (kept, full) =
+fit starts front counts form input faults calls mark mark' room n few few_waivers report are short (kept, full) =
     let before = handed_over form input first_mark calls mark are in
     let whole = front input.font input.waivers faults 0 first_mark before.given mark few few_waivers report (starts faults) before.led in
     let next = subst (λ (m : Mark). IsNext input.font input.waivers m full.next) kept full.is_next in
     let there = (counts input.font input.waivers faults (0 + length before.given) mark full.next few few_waivers report whole.1 next).0 in
     let holds = one_of (λ (fault : FaultValue). length (line_as form input.font input.waivers fault) ≤ length room) faults _ full.next short there in
+    let size = full.size_is in
     let long = full.too_long in
-    absurd (omega (arith, holds, long))
+    absurd (omega (arith, holds, size, long))
 
 pub calls_end : NoneIsGivenAtFirst → GivenAreTheFront → CallsEnd
 calls_end starts front form input faults calls mark few few_waivers report are =

@@ -1,18 +1,17 @@
 -- What the bytes of a font and of waivers are read as, and why they aren't.
-use Rattle.std.proofs.Common.{◌≡◌, ◌∙◌, ◌<◌, ◌≤◌, ℕ, nat_lt, true, false, List, Option, None, Some, Result, Ok, Err, IfErr, length, inl, inr, ap, arith, refl, subst, sym}
+use Rattle.std.proofs.Common.{◌≡◌, ◌∙◌, ◌<◌, ◌≤◌, ℕ, nat_lt, true, false, List, Option, None, Some, Result, Ok, Err, IfErr, IfOk, IsOkAnd, OnErr, length, inl, inr, ap, arith, refl, subst, sym}
 use Rattle.std.proofs.lemmas.Bool.Decides.{nat_tests}
+use Rattle.std.specs.Prelude.{⊤}
 use Rattle.std.specs.Result.{IsErrAnd}
 use Rattle.t1_char.specs.declared.edition.Edition.{Edition}
 use Rattle.t1_font.specs.FontFiles.{IsUnread, font_in}
 use Rattle.t1_font.specs.Fonts.{FontValue}
 use Rattle.t1_font.specs.declared.unread.Unread.{Unread}
-use Rattle.t1_forms.specs.PageValues.{PagesValue}
 use Rattle.t1_report.specs.Refusals.{refusal_code_of, Refusal}
 use Rattle.t1_report.specs.Refusals.Refusal.{Font, Waivers, WaiversTooLarge}
 use Rattle.t1_font.specs.declared.unread.RefusalCode.{RefusalCode}
 use Rattle.t1_report.specs.WaiverViews.{IsReadAs}
 use Rattle.t1_report.specs.Waivers.{Waiver, waivers_of}
-use Rattle.t1_report.specs.declared.marks.Mark.{Mark}
 use Rattle.t1_report.specs.declared.waivers.WaiverError.{WaiverError}
 use Rattle.t1_report.specs.declared.waivers.WaiverError.TheVariants as errors
 use Rattle.t1_run.proofs.FilesRead.{font_of-small}
@@ -20,14 +19,11 @@ use Rattle.t1_run.specs.Failures.{failure_of, refused_by}
 use Rattle.t1_run.specs.FontFiles.{font_of, with_reason}
 use Rattle.t1_run.specs.WaiverFiles.{as_waivers, waivers_in}
 use Rattle.t1_run.specs.declared.failure.Failure.{Failure}
-use Rattle.t1_run.specs.declared.failure.Failure.TheVariants.{Memory, Refused}
-use Rattle.t1_pieces.specs.Documents.{IsDocumentPiece, subject_read}
-use Rattle.t1_pieces.specs.Pieces.{IsPiece, IsRefusalBy}
-use Rattle.t1_pieces.specs.Pieces.IsRefusalFor.{refused}
-use Rattle.t1_pieces.specs.Reading.{Input, IsFailureOf}
-use Rattle.t1_pieces.specs.declared.form.Form.{Form}
+use Rattle.t1_run.specs.declared.failure.Failure.TheVariants.{Broken, Memory, Refused}
+use Rattle.t1_pieces.specs.Pieces.{IsFailedBy, IsHanded}
+use Rattle.t1_pieces.specs.Pieces.IsHanded.{made, no_memory, refused}
+use Rattle.t1_pieces.specs.Reading.{IsFailureOf}
 use Rattle.t1_pieces.specs.declared.piece.Piece.{Piece}
-use Rattle.t1_pieces.specs.declared.stage.Reached.{Reached}
 
 -- ---- failures
 
@@ -88,23 +84,31 @@ by_code : (code : RefusalCode) (found : Option RefusalCode) → refused_by found
 by_code code None is = cc
 by_code code (Some c) is = cc
 
-pub coded : (reason : Refusal) (code : RefusalCode) → failure_of reason ≡ Refused code → refusal_code_of reason ≡ Some code
+coded : (reason : Refusal) (code : RefusalCode) → failure_of reason ≡ Refused code → refusal_code_of reason ≡ Some code
 coded reason code is = by_code code (refusal_code_of reason) is
 
-pub never : (failure : Failure) (code : RefusalCode) → failure ≡ Refused code → failure ≡ Memory → ⊥
-never failure code is memory = cc
+never : (code : RefusalCode) → Refused code ≡ Memory → ⊥
+never code is = cc
 
-pub refused_piece : (form : Form) (read : Result Input Refusal) (mark mark' : Mark) (room : List ℕ) (piece : Piece) (failure : Failure)
-    (code : RefusalCode) → IsFailureOf read failure → failure ≡ Refused code → mark' ≡ mark → IsRefusalBy code room piece
-    → IsPiece form read mark mark' room piece
-refused_piece form (Err reason) mark mark' room piece failure code (inl so) is kept by = refused code (coded reason code (sym so ∙ is)) by kept
-refused_piece form (Err reason) mark mark' room piece failure code (inr memory) is kept by = absurd (never failure code is memory)
-refused_piece form (Ok input) mark mark' room piece failure code memory is kept by = absurd (never failure code is memory)
+failed : {A : Type 0} (IsMade : A → List ℕ → Piece → Type 0) (Stays : Type 0) (read : Result A Refusal) (failure : Failure) (room : List ℕ)
+    (piece : Piece) → IsFailureOf read failure → Stays → IsFailedBy failure room piece → IsHanded IsMade Stays read room piece
+failed IsMade Stays (Err reason) (Refused code) room piece (inl so) stays by = refused reason code refl (coded reason code (sym so)) by stays
+failed IsMade Stays (Err reason) (Refused code) room piece (inr memory) stays by = absurd (never code memory)
+failed IsMade Stays (Ok value) (Refused code) room piece memory stays by = absurd (never code memory)
+failed IsMade Stays read Broken room piece fails stays by = no_memory by stays
+failed IsMade Stays read Memory room piece fails stays by = no_memory by stays
 
-pub refused_document : (name : List ℕ) (pages : PagesValue) (read : Result Input Refusal) (reached reached' : Reached) (room : List ℕ) (piece : Piece)
-    (failure : Failure) (code : RefusalCode) → IsFailureOf read failure → failure ≡ Refused code → reached' ≡ reached
-    → IsRefusalBy code room piece → IsDocumentPiece (subject_read name pages read) reached reached' room piece
-refused_document name pages (Err reason) reached reached' room piece failure code (inl so) is kept by =
-    refused code (coded reason code (sym so ∙ is)) by kept
-refused_document name pages (Err reason) reached reached' room piece failure code (inr memory) is kept by = absurd (never failure code is memory)
-refused_document name pages (Ok input) reached reached' room piece failure code memory is kept by = absurd (never failure code is memory)
+-- What was made of what was read, or why nothing was, is handed over.
+pub is_handed : {A : Type 0} (IsMade : A → List ℕ → Piece → Type 0) (Stays : Type 0) (read : Result A Refusal) (handed : Result Piece Failure)
+    (room room' : List ℕ) (piece : Piece) → IfOk handed (λ p. IsOkAnd read (λ value. IsMade value room p)) → IfErr handed (IsFailureOf read)
+    → OnErr handed Stays → IfOk handed (λ p. (piece ≡ p) × (room' ≡ room)) → IfErr handed (λ failure. IsFailedBy failure room' piece)
+    → IsHanded IsMade Stays read room' piece
+is_handed IsMade Stays (Ok value) (Ok p) room room' piece is fails stays (same, kept) by =
+    made value refl (subst (λ (r : List ℕ). IsMade value r piece) (sym kept) (subst (λ (q : Piece). IsMade value room q) (sym same) is))
+is_handed IsMade Stays (Err reason) (Ok p) room room' piece is fails stays over by = absurd is
+is_handed IsMade Stays read (Err failure) room room' piece is fails stays over by = failed IsMade Stays read failure room' piece fails stays by
+
+-- Nothing has to stay.
+pub nothing_stays : (handed : Result Piece Failure) → OnErr handed ⊤
+nothing_stays (Ok piece) = tt
+nothing_stays (Err failure) = tt

@@ -9,7 +9,8 @@ use Rattle.t1_report.specs.Reports.{IsReport}
 use Rattle.t1_report.specs.Waivers.{largest_waivers}
 use Rattle.t1_report.specs.Walks.{first_mark}
 use Rattle.t1_pieces.specs.Documents.{IsDocumentPieceOf, Subject, result_of, told_of}
-use Rattle.t1_pieces.specs.declared.piece.Piece.TheVariants.{Last, More, NoRoom}
+use Rattle.t1_pieces.specs.Laws.{AreCalls, Call, handed_by}
+use Rattle.t1_pieces.specs.declared.piece.Piece.TheVariants.{Last, NoRoom}
 use Rattle.t1_pieces.specs.declared.stage.Reached.{Reached}
 use Rattle.t1_pieces.specs.declared.stage.Stage.TheVariants.{Nothing}
 
@@ -29,46 +30,31 @@ parts_of subject faults = opening subject.pages ∷ parts_from subject (begun su
 abbrev pub IsFirst : Reached → Type 0
 IsFirst reached = (reached.stage ≡ Nothing) × (reached.mark ≡ first_mark)
 
--- What a call left of which more was to come: a place, and so many bytes of a room.
-pub record Call : Type 0 where
-  pub reached : Reached
-  pub room : List ℕ
-  pub count : ℕ
-
-abbrev pub handed_by : Call → List ℕ
-handed_by call = take call.count call.room
-
--- Calls one after another, each from the place on that the one before it left, the first from this place on.
-abbrev pub AreCalls : Subject → Reached → List Call → Reached → Type 0
-AreCalls subject reached [] last = reached ≡ last
-AreCalls subject reached (call ∷ calls) last =
-    IsDocumentPieceOf subject reached call.reached call.room (More call.count) × AreCalls subject call.reached calls last
-
 -- Of a font's report, calls from the first place on.
-pub record AreCallsFor (subject : Subject) (faults : List FaultValue) (calls : List Call) (last : Reached) : Type 0 where
+pub record AreCallsFor (subject : Subject) (faults : List FaultValue) (calls : List (Call Reached)) (last : Reached) : Type 0 where
   pub few : length subject.font.value.glyphs ≤ most_glyphs
   pub few_waivers : length subject.waivers ≤ largest_waivers
   pub report : IsReport subject.font subject.waivers faults
   pub first : Reached
   pub is_first : IsFirst first
-  pub are : AreCalls subject first calls last
+  pub are : AreCalls (IsDocumentPieceOf subject) first calls last
 
 -- What calls hand over, and at the end a call that hands over the last part, is joined the document.
 abbrev pub JoinedAreTheDocument : Type 0
 JoinedAreTheDocument =
-    (subject : Subject) (faults : List FaultValue) (calls : List Call) (last after : Reached) (room : List ℕ) (n : ℕ)
+    (subject : Subject) (faults : List FaultValue) (calls : List (Call Reached)) (last after : Reached) (room : List ℕ) (n : ℕ)
     → AreCallsFor subject faults calls last → IsDocumentPieceOf subject last after room (Last n)
     → flat_map handed_by calls ++ take n room ≡ document_of subject faults
 
 -- A room that holds each part is never too small.
 abbrev pub PartsFit : Type 0
 PartsFit =
-    (subject : Subject) (faults : List FaultValue) (calls : List Call) (last after : Reached) (room : List ℕ)
+    (subject : Subject) (faults : List FaultValue) (calls : List (Call Reached)) (last after : Reached) (room : List ℕ) (n : ℕ)
     → AreCallsFor subject faults calls last → AllByRecursion (λ part. length part ≤ length room) (parts_of subject faults)
-    → IsDocumentPieceOf subject last after room NoRoom → ⊥
+    → IsDocumentPieceOf subject last after room (NoRoom n) → ⊥
 
 -- Calls of which more is to come are at most one more than the report has faults.
 abbrev pub DocumentCallsEnd : Type 0
 DocumentCallsEnd =
-    (subject : Subject) (faults : List FaultValue) (calls : List Call) (last : Reached)
+    (subject : Subject) (faults : List FaultValue) (calls : List (Call Reached)) (last : Reached)
     → AreCallsFor subject faults calls last → length calls ≤ length faults + 1

@@ -6,7 +6,7 @@ use Rattle.t1_report.specs.Waivers.{Waiver}
 use Rattle.t1_pieces.specs.Documents.{AreAsManyAsFit, IsEndIn, IsFullAt, Start, subject_for}
 use Rattle.t1_pieces.specs.declared.document_writer.DocumentWriter.{DocumentWriter}
 use Rattle.t1_pieces.specs.declared.piece.Piece.{Piece}
-use Rattle.t1_pieces.specs.declared.piece.Piece.TheVariants.{Last, Memory, More, NoRoom, Refused}
+use Rattle.t1_pieces.specs.declared.piece.Piece.TheVariants.{Last, Memory, More, NoRoom}
 use Rattle.t1_pieces.specs.declared.stage.Reached.{Reached}
 
 -- Where the next result of a writer and a walk starts, after these bytes.
@@ -23,10 +23,10 @@ start_of writer walk waivers before =
 abbrev pub IsRestOf : Start → Reached → Reached → Reached → List ℕ → Piece → Type 0
 IsRestOf start at reached reached' room (Last n) = IsEndIn start room n
 IsRestOf start at reached reached' room (More n) = AreAsManyAsFit start reached' room n
-IsRestOf start at reached reached' room NoRoom =
-    (reached' ≡ reached) × (at ≡ reached) × IsFullAt start.subject at.stage start.state start.mark room 0
-IsRestOf start at reached reached' room (Refused n) = ⊥
+IsRestOf start at reached reached' room (NoRoom n) =
+    (reached' ≡ reached) × (at ≡ reached) × IsFullAt start.subject at.stage start.state start.mark room 0 n
 IsRestOf start at reached reached' room Memory = reached' ≡ reached
+IsRestOf start at reached reached' room _ = ⊥
 
 -- What a host lends to a call: how far the document was handed over, and the room.
 pub record Lent : Type 0 where
@@ -39,6 +39,7 @@ IsEndPut end used at old new (Last n) =
     (n ≡ used + length end) × (n ≤ length new.room) × (take n new.room ≡ take used old.room ++ end)
 IsEndPut end used at old new (More n) =
     (n ≡ used) × (0 < n) × (new.reached ≡ at) × (new.room ≡ old.room) × (length old.room < n + length end)
-IsEndPut end used at old new NoRoom = (used ≡ 0) × (new.reached ≡ at) × (new.room ≡ old.room) × (length old.room < length end)
-IsEndPut end used at old new (Refused n) = ⊥
+IsEndPut end used at old new (NoRoom n) =
+    (n ≡ length end) × (used ≡ 0) × (new.reached ≡ at) × (new.room ≡ old.room) × (length old.room < length end)
 IsEndPut end used at old new Memory = new.reached ≡ old.reached
+IsEndPut end used at old new _ = ⊥

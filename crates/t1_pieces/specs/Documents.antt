@@ -1,5 +1,5 @@
 -- A document of SARIF that is handed over in pieces: what t1check-all writes of one font.
-use Rattle.std.specs.Prelude.{◌≡◌, ◌≤◌, ◌<◌, ◌+◌, ℕ, true, List, [], ◌∷◌, ◌++◌, length, take, Some, Result, Ok, Err}
+use Rattle.std.specs.Prelude.{◌≡◌, ◌≤◌, ◌<◌, ◌+◌, ℕ, true, List, [], ◌∷◌, ◌++◌, length, take, Some, Result}
 use Rattle.t1_forms.specs.PageValues.{PagesValue, pages_value}
 use Rattle.t1_forms.specs.Sarif.{SarifState, begun, closing, opening, resumed, telling_text}
 use Rattle.t1_forms.specs.SarifDocuments.{after_one}
@@ -14,11 +14,11 @@ use Rattle.t1_report.specs.Laws.Walks.{LeadTo}
 use Rattle.t1_report.specs.Waivers.{Waiver}
 use Rattle.t1_report.specs.Walks.{HasNoneLater, IsNext, mark_of}
 use Rattle.t1_report.specs.declared.marks.Mark.{Mark}
-use Rattle.t1_pieces.specs.Pieces.{IsRefusalFor}
+use Rattle.t1_pieces.specs.Pieces.{IsHanded}
 use Rattle.t1_pieces.specs.Reading.{Input}
 use Rattle.t1_pieces.specs.declared.documents.DocumentRequest.{DocumentRequest}
 use Rattle.t1_pieces.specs.declared.piece.Piece.{Piece}
-use Rattle.t1_pieces.specs.declared.piece.Piece.TheVariants.{Last, Memory, More, NoRoom, Refused}
+use Rattle.t1_pieces.specs.declared.piece.Piece.TheVariants.{Last, Memory, More, NoRoom}
 use Rattle.t1_pieces.specs.declared.stage.Reached.{Reached}
 use Rattle.t1_pieces.specs.declared.stage.Stage.{Stage}
 use Rattle.t1_pieces.specs.declared.stage.Stage.TheVariants.{Beginning, Nothing, Results}
@@ -35,10 +35,8 @@ pub record Subject : Type 0 where
 abbrev pub subject_for : DocumentRequest → CheckedFont → List Waiver → Subject
 subject_for request font waivers = record { name = request.name.now; pages = pages_value request.pages; font = font; waivers = waivers }
 
--- By what the font and the waivers are read as.
-abbrev pub subject_read : List ℕ → PagesValue → Result Input Refusal → Result Subject Refusal
-subject_read name pages (Err reason) = Err reason
-subject_read name pages (Ok input) = Ok (record { name = name; pages = pages; font = input.font; waivers = input.waivers })
+abbrev pub subject_of : List ℕ → PagesValue → Input → Subject
+subject_of name pages input = record { name = name; pages = pages; font = input.font; waivers = input.waivers }
 
 -- What is reported of a fault: its line, and its reason.
 abbrev pub told_of : Subject → FaultValue → ToldValue
@@ -116,17 +114,19 @@ pub record AreResultsIn (start : Start) (reached' : Reached) (room : List ℕ) (
   pub text : take n room ≡ start.before ++ results_of start.subject start.state given
   pub stands : StandsFor start.subject reached' (state_after start.subject start.state given) last
 
--- After them comes what the room doesn't hold any more.
-pub record IsFullAt (subject : Subject) (stage : Stage) (state : SarifState) (mark : Mark) (room : List ℕ) (n : ℕ) : Type 0 where
+-- After them comes what the room doesn't hold any more, of so many bytes.
+pub record IsFullAt (subject : Subject) (stage : Stage) (state : SarifState) (mark : Mark) (room : List ℕ) (n size : ℕ) : Type 0 where
   pub text : List ℕ
   pub is_next : IsNextPart subject stage state mark text
-  pub too_long : length room < n + length text
+  pub size_is : size ≡ length text
+  pub too_long : length room < n + size
 
 pub record AreAsManyAsFit (start : Start) (reached' : Reached) (room : List ℕ) (n : ℕ) : Type 0 where
   pub some : 0 < n
   pub begun : ¬ (reached'.stage ≡ Nothing)
   pub results : AreResultsIn start reached' room n
-  pub full : IsFullAt start.subject reached'.stage (state_after start.subject start.state results.given) results.last room n
+  pub size : ℕ
+  pub full : IsFullAt start.subject reached'.stage (state_after start.subject start.state results.given) results.last room n size
 
 -- The last results, and what is after them all.
 pub record IsEndIn (start : Start) (room : List ℕ) (n : ℕ) : Type 0 where
@@ -140,9 +140,9 @@ pub record IsEndIn (start : Start) (room : List ℕ) (n : ℕ) : Type 0 where
 abbrev pub IsPartOf : Start → Reached → Reached → List ℕ → Piece → Type 0
 IsPartOf start reached reached' room (Last n) = IsEndIn start room n
 IsPartOf start reached reached' room (More n) = AreAsManyAsFit start reached' room n
-IsPartOf start reached reached' room NoRoom = (reached' ≡ reached) × IsFullAt start.subject reached.stage start.state start.mark room 0
-IsPartOf start reached reached' room (Refused n) = ⊥
+IsPartOf start reached reached' room (NoRoom n) = (reached' ≡ reached) × IsFullAt start.subject reached.stage start.state start.mark room 0 n
 IsPartOf start reached reached' room Memory = reached' ≡ reached
+IsPartOf start reached reached' room _ = ⊥
 
 -- From a place that the document was handed over to. Of another one nothing is promised.
 abbrev pub IsDocumentPieceOf : Subject → Reached → Reached → List ℕ → Piece → Type 0
@@ -150,12 +150,7 @@ IsDocumentPieceOf subject reached reached' room piece =
     (state : SarifState) (mark : Mark) → StandsFor subject reached state mark
     → IsPartOf (start_at subject reached state mark) reached reached' room piece
 
--- By what the font and the waivers are read as.
-abbrev pub IsDocumentPiece : Result Subject Refusal → Reached → Reached → List ℕ → Piece → Type 0
-IsDocumentPiece (Err reason) reached reached' room piece = IsRefusalFor reason reached reached' room piece
-IsDocumentPiece (Ok subject) reached reached' room piece = IsDocumentPieceOf subject reached reached' room piece
-
--- The same without refusals, which are put into the room later.
-abbrev pub IsReadDocumentPiece : Result Subject Refusal → Reached → Reached → List ℕ → Piece → Type 0
-IsReadDocumentPiece (Err reason) reached reached' room piece = ⊥
-IsReadDocumentPiece (Ok subject) reached reached' room piece = IsDocumentPieceOf subject reached reached' room piece
+-- By what the font and the waivers are read as, with a name and these pages.
+abbrev pub IsDocumentPiece : List ℕ → PagesValue → Result Input Refusal → Reached → Reached → List ℕ → Piece → Type 0
+IsDocumentPiece name pages read reached reached' room piece =
+    IsHanded (λ input room piece. IsDocumentPieceOf (subject_of name pages input) reached reached' room piece) (reached' ≡ reached) read room piece

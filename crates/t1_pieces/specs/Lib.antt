@@ -8,4 +8,3 @@ pub mod Laws
 pub mod Pieces
 pub mod Reading
 pub mod T1check
-pub mod Wholes

@@ -1,15 +1,14 @@
 //! Handing over a document of SARIF.
 
-ghost use Rattle.std.specs.Prelude.{◌≡◌, IfErr, IfOk, Ok, OnErr, length};
+ghost use Rattle.std.specs.Prelude.{◌≡◌, IfErr, IfOk, IsOkAnd, Ok, OnErr, length};
 ghost use Rattle.t1_forms.specs.PageValues.{pages_value};
 ghost use Rattle.t1_run.specs.WaiverFiles.{waivers_in};
-ghost use Rattle.t1_pieces.specs.Documents.{IsDocumentPiece, IsReadDocumentPiece, subject_read};
+ghost use Rattle.t1_pieces.specs.Documents.{IsDocumentPiece, IsDocumentPieceOf, subject_of};
 ghost use Rattle.t1_pieces.specs.Reading.{IsFailureOf, input_in, input_of};
 
 use crate::filling_documents::fill_document;
-use crate::piece::Piece;
+use crate::piece::{Piece, hand_over};
 use crate::reading::{open, read_waivers};
-use crate::refusal::refuse;
 use crate::request::Request;
 use crate::stage::Reached;
 use std::alloc::Global;
@@ -36,15 +35,14 @@ pub fn document(
     reached: &mut Reached,
     room: &mut [u8],
 ) -> Piece
-    ensures piece { IsDocumentPiece (subject_read wanted.now.name.now (pages_value wanted.now.pages)
-        (input_in request.now.edition request.now.font.now request.now.waivers.now)) reached.old reached.new room.new result }
+    ensures piece { IsDocumentPiece wanted.now.name.now (pages_value wanted.now.pages)
+        (input_in request.now.edition request.now.font.now request.now.waivers.now) reached.old reached.new room.new result }
     ensures length { length room.new ≡ length room.old }
 {
-    match document_of_file(alloc, request, wanted, reached, room) {
-        Ok(piece) => piece,
-        Err(Failure::Refused(code)) => refuse(code, room),
-        Err(_) => Piece::Memory,
-    }
+    hand_over(
+        document_of_file(alloc, request, wanted, reached, room),
+        room,
+    )
 }
 
 /// Reads the font, and hands over its document.
@@ -55,8 +53,8 @@ fn document_of_file(
     reached: &mut Reached,
     room: &mut [u8],
 ) -> Result<Piece, Failure>
-    ensures piece { IfOk result (IsReadDocumentPiece (subject_read wanted.now.name.now (pages_value wanted.now.pages)
-        (input_in request.now.edition request.now.font.now request.now.waivers.now)) reached.old reached.new room.new) }
+    ensures piece { IfOk result (λ piece. IsOkAnd (input_in request.now.edition request.now.font.now request.now.waivers.now)
+        (λ input. IsDocumentPieceOf (subject_of wanted.now.name.now (pages_value wanted.now.pages) input) reached.old reached.new room.new piece)) }
     ensures failed { IfErr result (IsFailureOf (input_in request.now.edition request.now.font.now request.now.waivers.now)) }
     ensures reached { OnErr result (reached.new ≡ reached.old) }
     ensures length { length room.new ≡ length room.old }
@@ -77,8 +75,8 @@ fn document_of_font(
     reached: &mut Reached,
     room: &mut [u8],
 ) -> Result<Piece, Failure>
-    ensures piece { IfOk result (IsReadDocumentPiece (subject_read wanted.now.name.now (pages_value wanted.now.pages)
-        (input_of request.now.edition (Ok font.now) (waivers_in request.now.edition request.now.waivers.now))) reached.old reached.new room.new) }
+    ensures piece { IfOk result (λ piece. IsOkAnd (input_of request.now.edition (Ok font.now) (waivers_in request.now.edition request.now.waivers.now))
+        (λ input. IsDocumentPieceOf (subject_of wanted.now.name.now (pages_value wanted.now.pages) input) reached.old reached.new room.new piece)) }
     ensures failed { IfErr result (IsFailureOf (input_of request.now.edition (Ok font.now) (waivers_in request.now.edition request.now.waivers.now))) }
     ensures reached { OnErr result (reached.new ≡ reached.old) }
     ensures length { length room.new ≡ length room.old }

@@ -1,14 +1,13 @@
 //! From the bytes of a font and of waivers to a picture.
 
-ghost use Rattle.std.specs.Prelude.{◌≡◌, IfErr, IfOk, Ok, length};
+ghost use Rattle.std.specs.Prelude.{◌≡◌, IfErr, IfOk, IsOkAnd, Ok, length};
 ghost use Rattle.t1_run.specs.WaiverFiles.{waivers_in};
-ghost use Rattle.t1_pieces.specs.Drawings.{IsDrawing, IsDrawnAs};
+ghost use Rattle.t1_pieces.specs.Drawings.{IsDrawing, IsDrawn};
 ghost use Rattle.t1_pieces.specs.Reading.{IsFailureOf, input_in, input_of};
-ghost use Rattle.t1_pieces.specs.Wholes.{IsMadeOf, made_value};
 
+use crate::piece::{Missing, Piece, hand_over, put_text};
 use crate::reading::{open, read_waivers};
 use crate::request::Request;
-use crate::whole::{Made, Missing, Whole, hand_over};
 use std::alloc::Global;
 use t1_font::Font;
 use t1_picture::{Extent, View, picture as draw, shown_by};
@@ -22,11 +21,11 @@ pub fn picture(
     glyph: &[u8],
     extent: Extent,
     room: &mut [u8],
-) -> Whole
+) -> Piece
     ensures drawing { IsDrawing glyph.now extent (input_in request.now.edition request.now.font.now request.now.waivers.now) room.new result }
     ensures length { length room.new ≡ length room.old }
 {
-    hand_over(drawn_of_file(alloc, request, glyph, extent), room)
+    hand_over(drawn_of_file(alloc, request, glyph, extent, room), room)
 }
 
 /// Reads the font, and draws the glyph.
@@ -35,14 +34,16 @@ fn drawn_of_file(
     request: &Request<'_>,
     glyph: &[u8],
     extent: Extent,
-) -> Result<Made, Failure>
-    ensures drawn { IfOk result (λ made. IsMadeOf (IsDrawnAs glyph.now extent)
-        (input_in request.now.edition request.now.font.now request.now.waivers.now) (made_value made)) }
+    room: &mut [u8],
+) -> Result<Piece, Failure>
+    ensures drawn { IfOk result (λ piece. IsOkAnd (input_in request.now.edition request.now.font.now request.now.waivers.now)
+        (λ input. IsDrawn glyph.now extent input room.new piece)) }
     ensures failed { IfErr result (IsFailureOf (input_in request.now.edition request.now.font.now request.now.waivers.now)) }
+    ensures length { length room.new ≡ length room.old }
 {
     let mut file = open(alloc, request.font)?;
     let font = file.font(alloc)?;
-    let drawn = drawn_of_font(alloc, &font, request, glyph, extent);
+    let drawn = drawn_of_font(alloc, &font, request, glyph, extent, room);
     font.let_go();
     drawn
 }
@@ -54,18 +55,20 @@ fn drawn_of_font(
     request: &Request<'_>,
     glyph: &[u8],
     extent: Extent,
-) -> Result<Made, Failure>
-    ensures drawn { IfOk result (λ made. IsMadeOf (IsDrawnAs glyph.now extent)
-        (input_of request.now.edition (Ok font.now) (waivers_in request.now.edition request.now.waivers.now)) (made_value made)) }
+    room: &mut [u8],
+) -> Result<Piece, Failure>
+    ensures drawn { IfOk result (λ piece. IsOkAnd (input_of request.now.edition (Ok font.now) (waivers_in request.now.edition request.now.waivers.now))
+        (λ input. IsDrawn glyph.now extent input room.new piece)) }
     ensures failed { IfErr result (IsFailureOf (input_of request.now.edition (Ok font.now) (waivers_in request.now.edition request.now.waivers.now))) }
+    ensures length { length room.new ≡ length room.old }
 {
     let waivers = read_waivers(alloc, request.waivers, request.edition)?;
     let Some(glyph) = glyph_named(font, glyph) else {
-        return Ok(Made::Nothing(Missing::Glyph));
+        return Ok(Piece::Missing(Missing::Glyph));
     };
     let sidebearings = Sidebearings::prepare(alloc, font, request.edition)?;
     let Ok(shown) = shown_by(font, &sidebearings, &waivers, glyph, extent) else {
-        return Ok(Made::Nothing(Missing::Fault));
+        return Ok(Piece::Missing(Missing::Fault));
     };
     let view = View {
         font: &*font,
@@ -74,5 +77,6 @@ fn drawn_of_font(
         glyph,
         shown,
     };
-    Ok(Made::Text(draw(alloc, &view)?))
+    let text = draw(alloc, &view)?;
+    Ok(put_text(text.as_bytes(), room))
 }

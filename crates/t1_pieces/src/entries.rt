@@ -1,51 +1,54 @@
 //! From the bytes of a font to the numbers of an entry.
 
-ghost use Rattle.std.specs.Prelude.{◌≡◌, ◌++◌, IfErr, IfOk, OnOk, length, string_bytes};
+ghost use Rattle.std.specs.Prelude.{◌≡◌, ◌++◌, IfErr, IfOk, IsOkAnd, OnOk, length, string_bytes};
 ghost use Rattle.std.specs.List.{flat_map};
 ghost use Rattle.t1_font.specs.Entries.{entry_view};
+ghost use Rattle.t1_rules.specs.Keys.{value_at};
 ghost use Rattle.t1_run.specs.FontFiles.{font_of};
-ghost use Rattle.t1_pieces.specs.Entries.{AreNumbersOf, IsNumbersPiece, entry_numbers, next_number, numbers_text};
+ghost use Rattle.t1_pieces.specs.Entries.{AreNumbersOf, IsNumbersPiece, next_number, numbers_text};
 ghost use Rattle.t1_pieces.specs.Reading.{IsFailureOf};
-ghost use Rattle.t1_pieces.specs.Wholes.{IsMadeOf, made_value};
 
+use crate::piece::{Missing, Piece, hand_over, put_text};
 use crate::reading::open;
-use crate::whole::{Made, Missing, Whole, hand_over};
 use std::alloc::{AllocError, Global};
 use std::fmt::Write;
 use t1_font::{Entry, Key};
 use t1_reason_texts::value;
 use t1_run::Failure;
 
-/// Hands over the numbers of the entry of a key that is a list: how many there are, and the first 16 of them, as decimals, each after a blank.
-pub fn entry_numbers(alloc: Global, font: &[u8], key: Key, room: &mut [u8]) -> Whole
+/// Hands over the numbers of the entry of a key that is a list: how many there are, and the first 16 of them, as decimals, each
+/// after a blank.
+pub fn entry_numbers(alloc: Global, font: &[u8], key: Key, room: &mut [u8]) -> Piece
     ensures numbers { IsNumbersPiece key (font_of font.now) room.new result }
     ensures length { length room.new ≡ length room.old }
 {
-    hand_over(numbers_of_file(alloc, font, key), room)
+    hand_over(numbers_of_file(alloc, font, key, room), room)
 }
 
 /// Reads the font, and writes the numbers.
-fn numbers_of_file(alloc: Global, font: &[u8], key: Key) -> Result<Made, Failure>
-    ensures numbers { IfOk result (λ made. IsMadeOf (AreNumbersOf key) (font_of font.now) (made_value made)) }
+fn numbers_of_file(alloc: Global, font: &[u8], key: Key, room: &mut [u8]) -> Result<Piece, Failure>
+    ensures numbers { IfOk result (λ piece. IsOkAnd (font_of font.now) (λ value. AreNumbersOf (value_at value key) room.new piece)) }
     ensures failed { IfErr result (IsFailureOf (font_of font.now)) }
+    ensures length { length room.new ≡ length room.old }
 {
     let mut file = open(alloc, font)?;
     let font = file.font(alloc)?;
-    let numbers = numbers_of_entry(alloc, font.value(key));
+    let numbers = numbers_of_entry(alloc, font.value(key), room);
     font.let_go();
     Ok(numbers?)
 }
 
 /// Writes the numbers of an entry, if it is a list of numbers.
-fn numbers_of_entry(alloc: Global, entry: &Entry) -> Result<Made, AllocError>
-    ensures { IfOk result (λ made. made_value made ≡ entry_numbers (entry_view entry.now)) }
+fn numbers_of_entry(alloc: Global, entry: &Entry, room: &mut [u8]) -> Result<Piece, AllocError>
+    ensures numbers { IfOk result (AreNumbersOf (entry_view entry.now) room.new) }
+    ensures length { length room.new ≡ length room.old }
 {
     match entry {
         Entry::Numbers { count, first } => {
             let text = numbers_text(alloc, *count, first.as_slice())?;
-            Ok(Made::Text(text))
+            Ok(put_text(text.as_bytes(), room))
         }
-        _ => Ok(Made::Nothing(Missing::Numbers)),
+        _ => Ok(Piece::Missing(Missing::Numbers)),
     }
 }
 

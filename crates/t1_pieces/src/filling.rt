@@ -64,7 +64,7 @@ fn fill_from(
         let line = writer.as_bytes();
         if line.len() > room.len() - used {
             *mark = reached;
-            return full(used);
+            return full(used, line.len());
         }
         put_after(room, used, line);
         used += line.len();
@@ -72,13 +72,13 @@ fn fill_from(
     }
 }
 
-/// What is handed over where so many bytes are used and the next line doesn't fit.
-pub(crate) fn full(used: usize) -> Piece
-    ensures none { used ≡ 0 → result ≡ NoRoom }
+/// What is handed over where so many bytes are used, and what comes next, of so many bytes, doesn't fit.
+pub(crate) fn full(used: usize, next: usize) -> Piece
+    ensures none { used ≡ 0 → result ≡ NoRoom next }
     ensures some { 0 < used → result ≡ More used }
 {
     if used == 0 {
-        Piece::NoRoom
+        Piece::NoRoom(next)
     } else {
         Piece::More(used)
     }

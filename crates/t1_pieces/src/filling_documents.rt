@@ -109,7 +109,7 @@ fn fill_opened(
     if matches!(at.stage, Stage::Nothing) {
         let text = writer.as_bytes();
         if text.len() > room.len() {
-            return Piece::NoRoom;
+            return Piece::NoRoom(text.len());
         }
         put_after(room, 0, text);
         used = text.len();
@@ -163,7 +163,7 @@ fn fill_results(
         let text = writer.as_bytes();
         if text.len() > room.len() - used {
             *reached = at;
-            return full(used);
+            return full(used, text.len());
         }
         put_after(room, used, text);
         used += text.len();
@@ -194,7 +194,7 @@ fn fill_end(
     let end = end.as_bytes();
     if end.len() > room.len() - used {
         *reached = at;
-        return full(used);
+        return full(used, end.len());
     }
     put_after(room, used, end);
     Piece::Last(used + end.len())

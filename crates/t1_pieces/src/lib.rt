@@ -9,11 +9,11 @@
 //!
 //! - For rooms that hold each line of the report, the pieces joined are the report ([`pieces_are_the_report`]). For those
 //!   that hold each part of a document, they are the document ([`pieces_are_the_document`]).
-//! - A room that doesn't hold the next line or part leaves the mark, or the place, as it was.
-//! - Of the same bytes t1check, asked for a whole report with waivers, writes the same lines, or refuses the font or the waivers by the same
-//!   code and text ([`t1check_writes_the_same`]).
-//! - A picture is the one that t1draw makes, of a whole glyph, up to a step, or of a fault by its number in the report. For a
-//!   room that doesn't hold it the size is returned.
+//! - A room that doesn't hold the next line or part leaves the mark, or the place, as it was. The size of what comes next is
+//!   returned.
+//! - Of the same bytes t1check, asked for a whole report with waivers, writes the same lines, or refuses the font or the waivers
+//!   by the same code and text ([`t1check_writes_the_same`]).
+//! - A picture is the one that t1draw makes, of a whole glyph, up to a step, or of a fault by its number in the report.
 //! - Memory doesn't grow with the number of lines.
 #![tactic(auto)]
 
@@ -27,11 +27,9 @@ mod form;
 mod laws;
 mod piece;
 mod reading;
-mod refusal;
 mod request;
 mod room;
 mod stage;
-mod whole;
 mod writer;
 
 pub use documents::{DocumentRequest, document};
@@ -39,8 +37,7 @@ pub use drawing::picture;
 pub use entries::entry_numbers;
 pub use form::Form;
 pub use laws::{pieces_are_the_document, pieces_are_the_report, t1check_writes_the_same};
-pub use piece::Piece;
+pub use piece::{Missing, Piece};
 pub use reading::lines;
 pub use request::Request;
 pub use stage::{Reached, Stage};
-pub use whole::{Missing, Whole};

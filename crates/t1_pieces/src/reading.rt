@@ -1,15 +1,14 @@
 //! From the bytes of a font and of waivers to lines.
 
-ghost use Rattle.std.specs.Prelude.{◌≡◌, IfErr, IfOk, Ok, OnErr, length};
+ghost use Rattle.std.specs.Prelude.{◌≡◌, IfErr, IfOk, IsOkAnd, Ok, OnErr, length};
 ghost use Rattle.t1_run.specs.FontFiles.{font_of, with_reason};
 ghost use Rattle.t1_run.specs.WaiverFiles.{waivers_in};
-ghost use Rattle.t1_pieces.specs.Pieces.{IsPiece, IsReadPiece};
+ghost use Rattle.t1_pieces.specs.Pieces.{IsPiece, IsPieceOf};
 ghost use Rattle.t1_pieces.specs.Reading.{IsFailureOf, input_in, input_of};
 
 use crate::filling::fill;
 use crate::form::Form;
-use crate::piece::Piece;
-use crate::refusal::refuse;
+use crate::piece::{Piece, hand_over};
 use crate::request::Request;
 use std::alloc::Global;
 use t1_char::Edition;
@@ -31,11 +30,7 @@ pub fn lines(
         mark.old mark.new room.new result }
     ensures length { length room.new ≡ length room.old }
 {
-    match lines_of_file(alloc, request, form, mark, room) {
-        Ok(piece) => piece,
-        Err(Failure::Refused(code)) => refuse(code, room),
-        Err(_) => Piece::Memory,
-    }
+    hand_over(lines_of_file(alloc, request, form, mark, room), room)
 }
 
 /// Reads the font, and hands over lines of its report.
@@ -46,8 +41,8 @@ fn lines_of_file(
     mark: &mut Mark,
     room: &mut [u8],
 ) -> Result<Piece, Failure>
-    ensures piece { IfOk result (IsReadPiece form.entry (input_in request.now.edition request.now.font.now request.now.waivers.now)
-        mark.old mark.new room.new) }
+    ensures piece { IfOk result (λ piece. IsOkAnd (input_in request.now.edition request.now.font.now request.now.waivers.now)
+        (λ input. IsPieceOf form.entry input mark.old mark.new room.new piece)) }
     ensures failed { IfErr result (IsFailureOf (input_in request.now.edition request.now.font.now request.now.waivers.now)) }
     ensures mark { OnErr result (mark.new ≡ mark.old) }
     ensures length { length room.new ≡ length room.old }
@@ -68,8 +63,8 @@ fn lines_of_font(
     mark: &mut Mark,
     room: &mut [u8],
 ) -> Result<Piece, Failure>
-    ensures piece { IfOk result (IsReadPiece form.entry (input_of request.now.edition (Ok font.now) (waivers_in request.now.edition request.now.waivers.now))
-        mark.old mark.new room.new) }
+    ensures piece { IfOk result (λ piece. IsOkAnd (input_of request.now.edition (Ok font.now) (waivers_in request.now.edition request.now.waivers.now))
+        (λ input. IsPieceOf form.entry input mark.old mark.new room.new piece)) }
     ensures failed { IfErr result (IsFailureOf (input_of request.now.edition (Ok font.now) (waivers_in request.now.edition request.now.waivers.now))) }
     ensures mark { OnErr result (mark.new ≡ mark.old) }
     ensures length { length room.new ≡ length room.old }

@@ -1,7 +1,7 @@
 -- Each font is one case.
 use Rattle.std.proofs.Common.{◌≡◌, ℕ, Bool, true, false, List, [], ◌∷◌, ◌++◌, Option, None, Some, map, refl, sym, ap, ap₂, ◌∙◌, append_assoc, append-nil}
 use Rattle.t1_forms.specs.JUnit.{JUnitState, begun, case_text, first_failure, found_with, line_text}
-use Rattle.t1_forms.specs.Xml.{xml_text}
+use Rattle.t1_forms.specs.Xml.{xml_name}
 use Rattle.t1_many.specs.Handing.{Handed, done, failure, line}
 use Rattle.t1_many.specs.declared.font_error.FontError.{FontError}
 use Rattle.t1_many.specs.declared.font_error.FontError.TheVariants as errors
@@ -28,12 +28,12 @@ module _ (reasons : Bool) (failing : Mask) (name : List ℕ) (font : CheckedFont
   first_of (Some message) faults = Some message
 
   first_more : (first : Option (List ℕ)) (fault : FaultValue) (faults : List FaultValue)
-      → first_of (first_failure first (has failing (number_of fault.rule)) (xml_text (spelled_line font waivers fault))) faults ≡ first_of first (fault ∷ faults)
+      → first_of (first_failure first (has failing (number_of fault.rule)) (xml_name (spelled_line font waivers fault))) faults ≡ first_of first (fault ∷ faults)
   first_more (Some message) fault faults = refl
   first_more None fault faults = by_case (has failing (number_of fault.rule)) refl
     where
       by_case : (fails : Bool) → has failing (number_of fault.rule) ≡ fails
-          → first_of (first_failure None (has failing (number_of fault.rule)) (xml_text (spelled_line font waivers fault))) faults ≡ first_of None (fault ∷ faults)
+          → first_of (first_failure None (has failing (number_of fault.rule)) (xml_name (spelled_line font waivers fault))) faults ≡ first_of None (fault ∷ faults)
       by_case true is = rw is refl
       by_case false is = rw is refl
 
@@ -60,7 +60,7 @@ module _ (reasons : Bool) (failing : Mask) (name : List ℕ) (font : CheckedFont
       (sym (append-nil lines))
   lines_kept (fault ∷ faults) found lines first more is =
       let text : List ℕ = line_text (spelled_line font waivers fault) (told_fault reasons [] font waivers fault).reason in
-      lines_kept faults found (lines ++ text) (first_failure first (has failing (number_of fault.rule)) (xml_text (spelled_line font waivers fault))) more is
+      lines_kept faults found (lines ++ text) (first_failure first (has failing (number_of fault.rule)) (xml_name (spelled_line font waivers fault))) more is
       ∙ ap₂ (λ (f : Option (List ℕ)) (l : List ℕ). case_text (Some name) (found_with f l) ++ texts_of (case_stream reasons) (begun failing) more)
       (first_more first fault faults) (append_assoc lines text (font_lines reasons font waivers faults))
 

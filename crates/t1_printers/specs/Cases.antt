@@ -3,7 +3,7 @@ use Rattle.std.specs.Prelude.{◌≡◌, ◌++◌, ◌∷◌, ℕ, Bool, true, f
 use Rattle.std.specs.List.{flat_map}
 use Rattle.t1_forms.specs.JUnit.{JUnitState, after_what, begun, case_text, closing, error_text, found_text, found_with, junit_state, line_text, text_of_what}
 use Rattle.t1_forms.specs.Tellings.{ToldValue, what_spelled}
-use Rattle.t1_forms.specs.Xml.{xml_text}
+use Rattle.t1_forms.specs.Xml.{xml_name}
 use Rattle.t1_forms.specs.declared.junit.JUnit.{JUnit}
 use Rattle.t1_io.specs.Devices.{SinkState}
 use Rattle.t1_many.specs.Handing.{Handed, done, failure, line}
@@ -100,7 +100,7 @@ font_lines reasons font waivers faults =
 
 abbrev pub first_failing : Mask → CheckedFont → List Waiver → List FaultValue → Option (List ℕ)
 first_failing failing font waivers faults =
-    option_map (λ fault. xml_text (spelled_line font waivers fault)) (find (λ (fault : FaultValue). has failing (number_of fault.rule)) faults)
+    option_map (λ fault. xml_name (spelled_line font waivers fault)) (find (λ (fault : FaultValue). has failing (number_of fault.rule)) faults)
 
 -- A font that was checked has one case, after the cases before it: a failure exactly where one of its lines fails, by the first such line, with all
 -- lines of the font.

@@ -1,7 +1,7 @@
 -- What a host is handed over of a document.
 use Rattle.std.proofs.Common.{◌≡◌, ℕ, List, Result, refl, subst}
 use Rattle.t1_forms.specs.PageValues.{PagesValue}
-use Rattle.t1_pieces.specs.Documents.{IsDocumentPiece, subject_read}
+use Rattle.t1_pieces.specs.Documents.{IsDocumentPiece}
 use Rattle.t1_pieces.specs.Reading.{Input}
 use Rattle.t1_pieces.specs.declared.piece.Piece.{Piece}
 use Rattle.t1_pieces.specs.declared.stage.Reached.{Reached}
@@ -19,11 +19,11 @@ stage_back Beginning = refl
 stage_back Results = refl
 
 pub document_handed : (pages : PagesValue) (name name' : List ℕ) (read : Result Input Refusal) (old old' new new' : Reached) (answer : Answer)
-    (piece : Piece) → name' ≡ name → old' ≡ old → new' ≡ new → IsDocumentPiece (subject_read name' pages read) old' new' answer.room piece
+    (piece : Piece) → name' ≡ name → old' ≡ old → new' ≡ new → IsDocumentPiece name' pages read old' new' answer.room piece
     → answer.written ≡ bytes_of piece → answer.status ≡ status_of piece → IsDocumentHandedOver pages name read old new answer
 document_handed pages name name' read old old' new new' answer piece names olds news is bytes_is status_is =
     handed piece
-    (subst (λ (n : List ℕ). IsDocumentPiece (subject_read n pages read) old new answer.room piece) names
-    (subst (λ (o : Reached). IsDocumentPiece (subject_read name' pages read) o new answer.room piece) olds
-    (subst (λ (n : Reached). IsDocumentPiece (subject_read name' pages read) old' n answer.room piece) news is)))
+    (subst (λ (n : List ℕ). IsDocumentPiece n pages read old new answer.room piece) names
+    (subst (λ (o : Reached). IsDocumentPiece name' pages read o new answer.room piece) olds
+    (subst (λ (n : Reached). IsDocumentPiece name' pages read old' n answer.room piece) news is)))
     bytes_is status_is

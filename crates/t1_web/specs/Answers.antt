@@ -6,7 +6,7 @@ use Rattle.t1_report.specs.declared.marks.Mark.{Mark}
 use Rattle.std.specs.Str.{IsUtf8}
 use Rattle.t1_font.specs.Fonts.{FontValue}
 use Rattle.t1_font.specs.declared.key.Key.{Key}
-use Rattle.t1_pieces.specs.Documents.{IsDocumentPiece, subject_read}
+use Rattle.t1_pieces.specs.Documents.{IsDocumentPiece}
 use Rattle.t1_pieces.specs.Drawings.{IsDrawing}
 use Rattle.t1_pieces.specs.Entries.{IsNumbersPiece}
 use Rattle.t1_pieces.specs.Pieces.{IsPiece}
@@ -15,8 +15,7 @@ use Rattle.t1_picture.specs.declared.extent.Extent.{Extent}
 use Rattle.t1_pieces.specs.declared.form.Form.{Form}
 use Rattle.t1_pieces.specs.declared.piece.Piece.{Piece}
 use Rattle.t1_pieces.specs.declared.stage.Reached.{Reached}
-use Rattle.t1_pieces.specs.declared.whole.Whole.{Whole}
-use Rattle.t1_web.specs.Numbers.{IsFormOf, bytes_of, status_of, whole_bytes, whole_status}
+use Rattle.t1_web.specs.Numbers.{IsFormOf, bytes_of, status_of, wanted_bytes}
 
 -- A status, and so many bytes of a room.
 pub record Answer : Type 0 where
@@ -37,7 +36,7 @@ pub data AreHandedOver (form : ℕ) (name : List ℕ) (read : Result Input Refus
 pub data IsDocumentHandedOver (pages : PagesValue) (name : List ℕ) (read : Result Input Refusal) (reached reached' : Reached) (answer : Answer)
     : Type 0 where
   handed :
-      (piece : Piece) → IsDocumentPiece (subject_read name pages read) reached reached' answer.room piece
+      (piece : Piece) → IsDocumentPiece name pages read reached reached' answer.room piece
       → answer.written ≡ bytes_of piece → answer.status ≡ status_of piece → IsDocumentHandedOver pages name read reached reached' answer
   no_name :
       ¬ (IsUtf8 name) → reached' ≡ reached → answer.written ≡ 0 → answer.status ≡ 6
@@ -45,14 +44,14 @@ pub data IsDocumentHandedOver (pages : PagesValue) (name : List ℕ) (read : Res
 
 -- A picture of a glyph, or why there is none.
 pub record IsPictureHandedOver (name : List ℕ) (extent : Extent) (read : Result Input Refusal) (answer : Answer) : Type 0 where
-  pub drawn : Whole
+  pub drawn : Piece
   pub is_drawing : IsDrawing name extent read answer.room drawn
-  pub written_is : answer.written ≡ whole_bytes drawn
-  pub status_is : answer.status ≡ whole_status drawn
+  pub written_is : answer.written ≡ wanted_bytes drawn
+  pub status_is : answer.status ≡ status_of drawn
 
 -- The numbers of an entry, or why there are none: the entry isn't there or is no list of numbers, or no such entry has the number.
 pub data IsEntryHandedOver (key : Option Key) (read : Result FontValue Refusal) (answer : Answer) : Type 0 where
   handed_of :
-      (wanted : Key) → key ≡ Some wanted → (numbers : Whole) → IsNumbersPiece wanted read answer.room numbers
-      → answer.written ≡ whole_bytes numbers → answer.status ≡ whole_status numbers → IsEntryHandedOver key read answer
+      (wanted : Key) → key ≡ Some wanted → (numbers : Piece) → IsNumbersPiece wanted read answer.room numbers
+      → answer.written ≡ wanted_bytes numbers → answer.status ≡ status_of numbers → IsEntryHandedOver key read answer
   no_key : key ≡ None → answer.written ≡ 0 → answer.status ≡ 8 → IsEntryHandedOver key read answer

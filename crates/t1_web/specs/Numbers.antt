@@ -11,16 +11,14 @@ use Rattle.t1_picture.specs.declared.extent.Extent.{Extent}
 use Rattle.t1_picture.specs.declared.extent.Extent.TheVariants.{All, Fault, UpTo}
 use Rattle.t1_pieces.specs.declared.form.Form.{Form}
 use Rattle.t1_pieces.specs.declared.form.Form.TheVariants.{Object, Text}
+use Rattle.t1_pieces.specs.declared.piece.Missing.TheVariants as missing
 use Rattle.t1_pieces.specs.declared.piece.Piece.{Piece}
-use Rattle.t1_pieces.specs.declared.piece.Piece.TheVariants.{Last, Memory, More, NoRoom, Refused}
+use Rattle.t1_pieces.specs.declared.piece.Piece.TheVariants.{Last, Memory, Missing, More, NoRoom, Refused}
 use Rattle.t1_report.specs.declared.marks.Mark.{Mark}
-use Rattle.t1_rules.specs.Keys.{key_number}
+use Rattle.t1_rules.specs.Keys.{key_among}
 use Rattle.t1_pieces.specs.declared.stage.Reached.{Reached}
 use Rattle.t1_pieces.specs.declared.stage.Stage.{Stage}
 use Rattle.t1_pieces.specs.declared.stage.Stage.TheVariants.{Beginning, Nothing, Results}
-use Rattle.t1_pieces.specs.declared.whole.Missing.TheVariants as missing
-use Rattle.t1_pieces.specs.declared.whole.Whole.{Whole}
-use Rattle.t1_pieces.specs.declared.whole.Whole.TheVariants as whole
 use Rattle.t1_web.specs.declared.HostMark.{HostMark}
 use Rattle.t1_web.specs.declared.HostReached.{HostReached}
 
@@ -56,17 +54,24 @@ reached_of reached = record {
 abbrev pub status_of : Piece → ℕ
 status_of (Last n) = 0
 status_of (More n) = 1
-status_of NoRoom = 2
+status_of (NoRoom n) = 2
 status_of (Refused n) = 3
 status_of Memory = 4
+status_of (Missing missing.Glyph) = 5
+status_of (Missing missing.Fault) = 7
+status_of (Missing missing.Numbers) = 8
 
 -- How many bytes of the room were handed over.
 abbrev pub bytes_of : Piece → ℕ
 bytes_of (Last n) = n
 bytes_of (More n) = n
-bytes_of NoRoom = 0
 bytes_of (Refused n) = n
-bytes_of Memory = 0
+bytes_of _ = 0
+
+-- Where it is too small, how many are to be.
+abbrev pub wanted_bytes : Piece → ℕ
+wanted_bytes (NoRoom n) = n
+wanted_bytes piece = bytes_of piece
 
 -- ---- entries
 
@@ -76,34 +81,12 @@ list_keys =
     MinFeature ∷ BlueValues ∷ OtherBlues ∷ FamilyBlues ∷ FamilyOtherBlues ∷ StdHw ∷ StdVw ∷ StemSnapH ∷ StemSnapV ∷ FontMatrix
     ∷ FontBBox ∷ Xuid ∷ []
 
-abbrev pub key_among : ℕ → List Key → Option Key
-key_among n [] = None
-key_among n (key ∷ keys) = if n == key_number key then Some key else key_among n keys
-
 -- The one of these that has a number as faults count keys.
 abbrev pub list_key : ℕ → Option Key
-list_key n = key_among n list_keys
+list_key n = key_among list_keys n
 
 -- ---- pictures and numbers
 
 -- 0 is all steps, 1 the steps up to the one of a number, any other kind the fault of a number.
 abbrev pub extent_of : ℕ → ℕ → Extent
 extent_of kind n = if kind == 0 then All else (if kind == 1 then UpTo n else Fault n)
-
--- The status of what was handed over as a whole.
-abbrev pub whole_status : Whole → ℕ
-whole_status (whole.Text n) = 0
-whole_status (whole.NoRoom n) = 2
-whole_status (whole.Refused n) = 3
-whole_status whole.Memory = 4
-whole_status (whole.Missing missing.Glyph) = 5
-whole_status (whole.Missing missing.Fault) = 7
-whole_status (whole.Missing missing.Numbers) = 8
-
--- How many bytes of the room were handed over; where it is too small, how many are to be.
-abbrev pub whole_bytes : Whole → ℕ
-whole_bytes (whole.Text n) = n
-whole_bytes (whole.NoRoom n) = n
-whole_bytes (whole.Refused n) = n
-whole_bytes (whole.Missing why) = 0
-whole_bytes whole.Memory = 0

@@ -11,7 +11,7 @@ mod numbers;
 
 ghost use Rattle.std.specs.Prelude.{List, None, map};
 ghost use Rattle.t1_forms.specs.PageValues.{PageValue, page_value};
-ghost use Rattle.t1_pieces.specs.Documents.{IsDocumentPiece, subject_read};
+ghost use Rattle.t1_pieces.specs.Documents.{IsDocumentPiece};
 ghost use Rattle.t1_pieces.specs.Reading.{input_in};
 ghost use Rattle.t1_run.specs.FontFiles.{font_of};
 ghost use Rattle.t1_web.specs.Answers.{AreHandedOver, IsDocumentHandedOver, IsEntryHandedOver, IsPictureHandedOver};
@@ -19,7 +19,7 @@ ghost use Rattle.t1_web.specs.Numbers.{edition_of, extent_of, list_key, mark_of,
 
 use crate::numbers::{
     bytes_of, edition_of, extent_of, form_of, list_key, stage_number, stage_of, status_of,
-    whole_bytes, whole_status,
+    wanted_bytes,
 };
 use std::alloc::Global;
 use t1_forms::{Page, Pages, RESULT_COUNTS};
@@ -100,8 +100,8 @@ pub extern "C" fn t1_web_lines(
     status_of(piece)
 }
 
-/// Hands over the document of SARIF of the font of a name from a place on, whole results, as many as the room holds, and moves the place to the
-/// last of them. It has the pages of t1_pages.
+/// Hands over the document of SARIF of the font of a name from a place on, whole results, as many as the room holds, and moves
+/// the place to the last of them. It has the pages of t1_pages.
 #[unsafe(no_mangle)]
 pub extern "C" fn t1_web_document(
     alloc: Global,
@@ -154,8 +154,8 @@ fn document_with<'a>(
     place: &mut Reached,
     room: &mut [u8],
 ) -> Piece
-    ensures { IsDocumentPiece (subject_read name.now (record { list = map page_value list.now; docs = None })
-        (input_in (edition_of edition) font.now waivers.now)) place.old place.new room.new result }
+    ensures { IsDocumentPiece name.now (record { list = map page_value list.now; docs = None })
+        (input_in (edition_of edition) font.now waivers.now) place.old place.new room.new result }
 {
     let request = Request {
         font,
@@ -169,8 +169,8 @@ fn document_with<'a>(
     document(alloc, &request, &wanted, place, room)
 }
 
-/// Hands over the picture of the glyph of a name: with the kind 0 as a whole, with 1 up to the step of a number, with any other that of
-/// the fault of the number in the report. Where the room doesn't hold it, the count is that of its bytes.
+/// Hands over the picture of the glyph of a name: with the kind 0 as a whole, with 1 up to the step of a number, with any other
+/// that of the fault of the number in the report. Where the room doesn't hold it, the count is that of its bytes.
 #[unsafe(no_mangle)]
 pub extern "C" fn t1_web_picture(
     alloc: Global,
@@ -192,12 +192,12 @@ pub extern "C" fn t1_web_picture(
         edition: edition_of(edition),
     };
     let drawn = picture(alloc, &request, glyph, extent_of(kind, number), room);
-    *written = whole_bytes(drawn);
-    whole_status(drawn)
+    *written = wanted_bytes(drawn);
+    status_of(drawn)
 }
 
-/// Hands over the numbers of the entry of a key, by the key's number: how many there are, and the first 16 of them, each after a blank.
-/// Where the room doesn't hold them, the count is that of their bytes.
+/// Hands over the numbers of the entry of a key, by the key's number: how many there are, and the first 16 of them, each after a
+/// blank. Where the room doesn't hold them, the count is that of their bytes.
 #[unsafe(no_mangle)]
 pub extern "C" fn t1_web_entry(
     alloc: Global,
@@ -214,6 +214,6 @@ pub extern "C" fn t1_web_entry(
         return NO_ENTRY;
     };
     let numbers = entry_numbers(alloc, font, key, room);
-    *written = whole_bytes(numbers);
-    whole_status(numbers)
+    *written = wanted_bytes(numbers);
+    status_of(numbers)
 }

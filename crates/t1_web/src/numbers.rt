@@ -1,12 +1,12 @@
 //! What the numbers of a host mean.
 
 ghost use Rattle.std.specs.Prelude.{◌≡◌};
-ghost use Rattle.t1_web.specs.Numbers.{IsFormOf, bytes_of, edition_of, extent_of, list_key, stage_number, stage_of, status_of, whole_bytes, whole_status};
+ghost use Rattle.t1_web.specs.Numbers.{IsFormOf, bytes_of, edition_of, extent_of, list_key, stage_number, stage_of, status_of, wanted_bytes};
 
 use t1_char::Edition;
 use t1_font::Key;
 use t1_picture::Extent;
-use t1_pieces::{Form, Missing, Piece, Stage, Whole};
+use t1_pieces::{Form, Missing, Piece, Stage};
 
 /// The edition that a host names by its number: the first where there is none of that number.
 pub(crate) fn edition_of(number: u32) -> Edition
@@ -58,9 +58,12 @@ pub(crate) fn status_of(piece: Piece) -> u32
     match piece {
         Piece::Last(_) => 0,
         Piece::More(_) => 1,
-        Piece::NoRoom => 2,
+        Piece::NoRoom(_) => 2,
         Piece::Refused(_) => 3,
         Piece::Memory => 4,
+        Piece::Missing(Missing::Glyph) => 5,
+        Piece::Missing(Missing::Fault) => 7,
+        Piece::Missing(Missing::Numbers) => 8,
     }
 }
 
@@ -70,7 +73,18 @@ pub(crate) fn bytes_of(piece: Piece) -> usize
 {
     match piece {
         Piece::Last(count) | Piece::More(count) | Piece::Refused(count) => count,
-        Piece::NoRoom | Piece::Memory => 0,
+        Piece::NoRoom(_) | Piece::Missing(_) | Piece::Memory => 0,
+    }
+}
+
+/// How many bytes were handed over; where the room is too small, how many are to be.
+pub(crate) fn wanted_bytes(piece: Piece) -> usize
+    ensures { result ≡ wanted_bytes piece }
+{
+    match piece {
+        Piece::Last(count) | Piece::More(count) | Piece::NoRoom(count) | Piece::Refused(count) =>
+            count,
+        Piece::Missing(_) | Piece::Memory => 0,
     }
 }
 
@@ -104,30 +118,5 @@ pub(crate) fn list_key(number: u32) -> Option<Key>
         23 => Some(Key::FontBBox),
         24 => Some(Key::Xuid),
         _ => None,
-    }
-}
-
-/// The status of what was handed over as a whole.
-pub(crate) fn whole_status(whole: Whole) -> u32
-    ensures { result ≡ whole_status whole }
-{
-    match whole {
-        Whole::Text(_) => 0,
-        Whole::NoRoom(_) => 2,
-        Whole::Refused(_) => 3,
-        Whole::Memory => 4,
-        Whole::Missing(Missing::Glyph) => 5,
-        Whole::Missing(Missing::Fault) => 7,
-        Whole::Missing(Missing::Numbers) => 8,
-    }
-}
-
-/// How many bytes were handed over as a whole, or are to be.
-pub(crate) fn whole_bytes(whole: Whole) -> usize
-    ensures { result ≡ whole_bytes whole }
-{
-    match whole {
-        Whole::Text(count) | Whole::NoRoom(count) | Whole::Refused(count) => count,
-        Whole::Missing(_) | Whole::Memory => 0,
     }
 }

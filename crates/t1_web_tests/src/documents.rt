@@ -104,7 +104,7 @@ fn is_next(
     let none = document(alloc, request, &wanted(), reached, less.as_mut_slice());
     let mut room = Vec::from_elem(alloc, 0u8, text.len())?;
     let handed = document(alloc, request, &wanted(), reached, room.as_mut_slice());
-    Ok(none == Piece::NoRoom && handed == piece && room.as_slice() == text)
+    Ok(none == Piece::NoRoom(text.len()) && handed == piece && room.as_slice() == text)
 }
 
 /// Each part comes as soon as a room holds it, and none in a room of a byte less.

@@ -68,7 +68,7 @@ fn joined_as(
                 text.extend_from_slice(front(room.as_slice(), count))?;
                 break;
             }
-            Piece::NoRoom | Piece::Memory => break,
+            Piece::NoRoom(_) | Piece::Missing(_) | Piece::Memory => break,
         }
     }
     Ok((text, last))
@@ -99,7 +99,7 @@ fn a_room_that_is_too_small_says_so(rt: HostRuntime) -> Result<(), Fail> {
     for size in 0..38 {
         let (text, last) = joined(rt.alloc(), &request, size)?;
         assert!(rt;
-            text.is_empty() && last == Piece::NoRoom,
+            text.is_empty() && matches!(last, Piece::NoRoom(_)),
             "in rooms of {size}: {last:?}"
         );
     }
@@ -135,7 +135,7 @@ fn a_longer_line_is_handed_over_later(rt: HostRuntime) -> Result<(), Fail> {
     let font = with_glyph(rt.alloc(), FOUR_FAULTS)?;
     let (text, last) = joined(rt.alloc(), &request(font.as_slice(), b""), 43)?;
     assert!(rt;
-        text.len() == 118 && last == Piece::NoRoom,
+        text.len() == 118 && last == Piece::NoRoom(44),
         "{text:?} {last:?}"
     );
     Ok(())
@@ -149,7 +149,7 @@ fn refusals_have_code_and_text(rt: HostRuntime) -> Result<(), Fail> {
         assert!(rt; handed.as_slice() == text.as_bytes(), "{text}: {handed:?}");
         assert!(rt; last == Piece::Refused(text.len()), "{text}: {last:?}");
         assert!(rt;
-            joined(rt.alloc(), &request, text.len() - 1)?.1 == Piece::NoRoom,
+            joined(rt.alloc(), &request, text.len() - 1)?.1 == Piece::NoRoom(text.len()),
             "{text}"
         );
     }

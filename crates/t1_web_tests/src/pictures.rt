@@ -4,7 +4,7 @@ use crate::lines::{FOUR_FAULTS, front, with_glyph};
 use std::test::Fail;
 use t1_char::Edition;
 use t1_picture::Extent;
-use t1_pieces::{Missing, Request, Whole, picture};
+use t1_pieces::{Missing, Piece, Request, picture};
 
 /// `0 500 hsbw`, `50 hmoveto`, `100 hlineto`, `closepath`, `endchar`.
 const LINE: &[u8] = b"\x8b\xf8\x88\x0d\xbd\x16\xef\x06\x09\x0e";
@@ -24,7 +24,7 @@ fn pictures_are_handed_over(rt: HostRuntime) -> Result<(), Fail> {
     let request = request_for(font.as_slice());
     let mut room = Vec::from_elem(rt.alloc(), 0u8, 10_000)?;
     let drawn = picture(rt.alloc(), &request, b"A", Extent::All, room.as_mut_slice());
-    let Whole::Text(count) = drawn else {
+    let Piece::Last(count) = drawn else {
         return Err(Fail::from("a picture"));
     };
     let text = front(room.as_slice(), count);
@@ -38,7 +38,7 @@ fn pictures_are_handed_over(rt: HostRuntime) -> Result<(), Fail> {
         Extent::All,
         short.as_mut_slice(),
     );
-    assert_eq!(rt; drawn, Whole::NoRoom(count));
+    assert_eq!(rt; drawn, Piece::NoRoom(count));
     Ok(())
 }
 
@@ -53,7 +53,7 @@ fn no_picture_is_told_apart_from_a_refusal(rt: HostRuntime) -> Result<(), Fail> 
         Extent::All,
         room.as_mut_slice(),
     );
-    assert_eq!(rt; drawn, Whole::Missing(Missing::Glyph));
+    assert_eq!(rt; drawn, Piece::Missing(Missing::Glyph));
     let refusal = b"E01 not a PFA or PFB";
     let drawn = picture(
         rt.alloc(),
@@ -62,7 +62,7 @@ fn no_picture_is_told_apart_from_a_refusal(rt: HostRuntime) -> Result<(), Fail> 
         Extent::All,
         room.as_mut_slice(),
     );
-    assert_eq!(rt; drawn, Whole::Refused(refusal.len()));
+    assert_eq!(rt; drawn, Piece::Refused(refusal.len()));
     assert!(rt; front(room.as_slice(), refusal.len()) == refusal.as_slice());
     Ok(())
 }
@@ -79,7 +79,7 @@ fn a_fault_is_drawn_by_its_number(rt: HostRuntime) -> Result<(), Fail> {
         Extent::Fault(4),
         room.as_mut_slice(),
     );
-    let Whole::Text(count) = drawn else {
+    let Piece::Last(count) = drawn else {
         return Err(Fail::from("a picture"));
     };
     let text = str::from_utf8(front(room.as_slice(), count)).unwrap_or("");
@@ -88,7 +88,7 @@ fn a_fault_is_drawn_by_its_number(rt: HostRuntime) -> Result<(), Fail> {
     for number in [5, 0] {
         let fault = Extent::Fault(number);
         let drawn = picture(rt.alloc(), &request, b"A", fault, room.as_mut_slice());
-        assert_eq!(rt; drawn, Whole::Missing(Missing::Fault));
+        assert_eq!(rt; drawn, Piece::Missing(Missing::Fault));
     }
     Ok(())
 }

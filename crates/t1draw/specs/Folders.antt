@@ -4,7 +4,7 @@ use Rattle.std.specs.Fmt.{decimal}
 use Rattle.std.specs.List.{flat_map}
 use Rattle.t1_font.specs.Fonts.{FontValue, glyph_name}
 use Rattle.t1_forms.specs.Shown.{shown}
-use Rattle.t1_picture.specs.Texts.{xml_text}
+use Rattle.t1_forms.specs.Xml.{xml_text}
 use Rattle.t1_report.specs.Faults.{FaultValue}
 use Rattle.t1_report.specs.Lines.{line_of}
 use Rattle.t1_report.specs.Waivers.{Waiver}

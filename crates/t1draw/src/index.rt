@@ -2,7 +2,7 @@
 
 ghost use Rattle.std.specs.Prelude.{◌≡◌, ◌++◌, IfOk, None, OnOk, Some, option_map, string_bytes};
 ghost use Rattle.std.specs.List.{All};
-ghost use Rattle.t1_picture.specs.Texts.{xml_text};
+ghost use Rattle.t1_forms.specs.Xml.{xml_text};
 ghost use Rattle.t1_report.specs.Faults.{fault_value, faults_of};
 ghost use Rattle.t1_report.specs.Lines.{IsInFont, line_of};
 ghost use Rattle.t1draw.specs.Folders.{end_of, font_part, glyph_part, glyph_part_of, index_end, index_start, index_text, is_in_part, line_text, no_faults, part_end, part_start, parts_from, parts_or_none, shown_line, turn_to, waivers_part};
@@ -12,8 +12,7 @@ ghost use Rattle.t1draw.specs.Private.Sheets.{font_of, waivers_of};
 use crate::sheet::Sheet;
 use crate::spelling::picture_name;
 use std::alloc::{AllocError, Global};
-use t1_forms::{Text, shown};
-use t1_picture::push_escaped;
+use t1_forms::{Text, push_xml, shown};
 use t1_report::{Fault, write_fault};
 
 const START: &str = "\
@@ -226,7 +225,7 @@ fn push_line(
         ≡ string_bytes html.old ++ line_text (font_of sheet.now) (waivers_of sheet.now) (fault_value fault.now)) }
 {
     let line = line_of(alloc, sheet, fault)?;
-    push_escaped(html, line.as_str())?;
+    push_xml(html, line.as_str())?;
     html.push_str("\n")
 }
 
@@ -256,6 +255,6 @@ fn escaped(alloc: Global, name: &[u8]) -> Result<String, AllocError>
 {
     let name = shown(alloc, name)?;
     let mut text = String::new(alloc);
-    push_escaped(&mut text, name.as_str())?;
+    push_xml(&mut text, name.as_str())?;
     Ok(text)
 }
