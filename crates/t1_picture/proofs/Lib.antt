@@ -1,6 +1,7 @@
 pub mod FaultSteps
 pub mod Joined
 pub mod Made
+pub mod NamedCauses
 pub mod OneFault
 pub mod OnePicture
 pub mod OutlineLayers

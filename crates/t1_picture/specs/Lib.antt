@@ -9,6 +9,7 @@ pub mod Laws
 pub mod Layers
 pub mod Legends
 pub mod Marks
+pub mod NamedCauses
 pub mod Parts
 pub mod Pictures
 pub mod Private

@@ -1,6 +1,7 @@
 //! Laws of pictures. A call of one does nothing but call the laws that it rests on: a proof cites what it ensures.
 
 ghost use Rattle.t1_picture.specs.Laws.{AmpersandsBeginEntities, FontFaultsShowAllSteps, GlyphFaultsShowTheirSteps, HasNoOtherPicture, HasPicture, LegibleTextsAreFit, OneFaultIsMarked, OutlineIsThatOfItsParts, TextsHaveNoMarkup, WholePartsAreOutlines};
+ghost use Rattle.t1_picture.specs.NamedCauses.{MarksAreOfFaults};
 
 use t1_report::faults_of_a_unit_are_the_reports;
 
@@ -26,6 +27,12 @@ pub fn a_fault_is_drawn_up_to_its_step()
     ensures font { FontFaultsShowAllSteps }
     ensures glyph { GlyphFaultsShowTheirSteps }
     ensures marked { OneFaultIsMarked }
+{}
+
+/// The stems, zones, points and components that are marked are exactly those that the reasons of the faults shown name, and
+/// the zones at which faults of the font are.
+pub fn marks_are_what_reasons_name()
+    ensures { MarksAreOfFaults }
 {}
 
 /// No text of a font ends an element of the picture or a value in double quotes: as it is written there, it has no `<`, `>` and

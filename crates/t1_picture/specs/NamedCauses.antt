@@ -1,0 +1,75 @@
+-- What a marked stem, point or zone is of: a reason names it.
+use Rattle.std.specs.Prelude.{◌≡◌, ◌⊎◌, ◌↔◌, ⊤, ◌==◌, Bool, true, false, Some, List}
+use Rattle.std.specs.List.{Contains}
+use Rattle.t1_picture.specs.declared.bands.Direction.{Direction}
+use Rattle.t1_picture.specs.declared.causes.Cause.{Cause}
+use Rattle.t1_picture.specs.declared.causes.Cause.TheVariants.{Accent, Base, Ends, Miss as Missed, Stem as NamedOne, Zone}
+use Rattle.t1_picture.specs.declared.causes.NamedStem.{NamedStem}
+use Rattle.t1_picture.specs.declared.causes.Role.{Role}
+use Rattle.t1_picture.specs.declared.causes.Role.TheVariants.{Other, Own}
+use Rattle.t1_picture.specs.declared.causes.StemPlace.{StemPlace}
+use Rattle.t1_picture.specs.Causes.{means_components, named_stem, zone_at}
+use Rattle.t1_picture.specs.Marks.{faults_of, place_of_stems, reason_of, shown_of}
+use Rattle.t1_picture.specs.Subjects.{ShownValue, Subject, everything, one_fault, up_to}
+use Rattle.t1_reasons.specs.declared.reason.Reason.{Reason}
+use Rattle.t1_reasons.specs.declared.reason.Reason.TheVariants.{Codes, Miss, Open, Sidebearings, Stem as OneStem, Stems, Triple, Zones}
+use Rattle.t1_report.specs.Faults.{FaultValue}
+use Rattle.t1_rules.specs.declared.font_rules.zones.Edges.{Edges}
+use Rattle.t1_rules.specs.declared.rule.Rule.{Rule}
+use Rattle.t1_rules.specs.declared.step_rules.stems.Stem.{Stem}
+
+-- A reason names a stem, the step's own or the other one.
+abbrev pub NamesStem : Reason → Role → Stem → Type 0
+NamesStem (Stems own other) Own stem = stem ≡ own
+NamesStem (Stems own other) Other stem = stem ≡ other.stem
+NamesStem (OneStem own) Own stem = stem ≡ own
+NamesStem (Triple one two three) Own stem = (stem ≡ one) ⊎ ((stem ≡ two) ⊎ (stem ≡ three))
+NamesStem _ role stem = ⊥
+
+-- The other of two zones.
+abbrev pub NamesZone : Reason → Edges → Type 0
+NamesZone (Zones own other distance) zone = zone ≡ other
+NamesZone _ zone = ⊥
+
+-- The codes of both components, and the accent's sidebearing.
+abbrev pub NamesCodes : Reason → Type 0
+NamesCodes (Codes base accent) = ⊤
+NamesCodes _ = ⊥
+
+abbrev pub NamesSidebearings : Reason → Type 0
+NamesSidebearings (Sidebearings told own) = ⊤
+NamesSidebearings _ = ⊥
+
+-- A marked stem is one that the reason names, in the direction of the step's stems and with its own edges.
+pub record IsNamedStem (place : StemPlace) (reason : Reason) (named : NamedStem) : Type 0 where
+  pub stem : Stem
+  pub direction : Direction
+  pub names : NamesStem reason named.role stem
+  pub lies : place.direction ≡ Some direction
+  pub drawn : NamedOne named ≡ named_stem place.edition place.start named.role stem direction
+
+-- What is marked is what a reason names: a stem, a zone, two points; a component, where the rule may mean either.
+abbrev pub IsNamed : StemPlace → Rule → Reason → Cause → Type 0
+IsNamed place rule reason (NamedOne named) = IsNamedStem place reason named
+IsNamed place rule reason (Zone zone) = NamesZone reason zone
+IsNamed place rule reason (Missed named pen) = reason ≡ Miss named pen
+IsNamed place rule reason (Ends start pen) = reason ≡ Open start pen
+IsNamed place rule reason Base = (means_components rule ≡ true) × NamesCodes reason
+IsNamed place rule reason Accent = ((means_components rule ≡ true) × NamesCodes reason) ⊎ NamesSidebearings reason
+
+-- It is of a fault: its reason names it, or the fault is of the font, and at this zone.
+pub data IsOfFault (s : Subject) (fault : FaultValue) (cause : Cause) : Type 0 where
+  by_reason : (reason : Reason) → reason_of s fault ≡ Some reason → IsNamed (place_of_stems s fault) fault.rule reason cause → IsOfFault s fault cause
+  by_place : (fault.unit == 0) ≡ true → zone_at s.font fault.step ≡ Some cause → IsOfFault s fault cause
+
+-- The faults that are shown: one alone, or those of the glyph up to the last step that is drawn.
+abbrev pub IsShownOf : ShownValue → Subject → List FaultValue → FaultValue → Type 0
+IsShownOf (one_fault alone) s faults fault = fault ≡ alone
+IsShownOf everything s faults fault = Contains (shown_of s faults) fault
+IsShownOf (up_to step) s faults fault = Contains (shown_of s faults) fault
+
+-- What is marked is exactly what is of a fault that is shown.
+abbrev pub MarksAreOfFaults : Type 0
+MarksAreOfFaults =
+    (s : Subject) (faults all : List FaultValue) (cause : Cause) →
+    Contains (faults_of s faults all).causes cause ↔ ((fault : FaultValue) × (IsShownOf s.shown s faults fault × IsOfFault s fault cause))
