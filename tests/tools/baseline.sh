@@ -262,6 +262,88 @@ another
 END
 try 'the other file' 0 cat kept/known.new.0
 
+# Nor is one that stopped runs left, however many did.
+for number in $(seq 120); do : >"kept/known.new.$number"; done
+wanted <<'END'
+--
+END
+try 'known faults are replaced beside many files' 0 "$all" -q --baseline kept/known --update-baseline --only C edge.pfb
+for number in $(seq 120); do rm "kept/known.new.$number" || fail "known.new.$number is gone"; done
+
+# What a link leads to is replaced, in its own folder, with its mode. The link stays. The file needn't be there.
+mkdir far
+echo '1 C05 glyph A elsewhere.pfb' >far/known
+chmod 640 far/known
+ln -s known far/second
+ln -s far/second first
+ln -s far/none hanging
+ln -s loop loop
+wanted <<'END'
+--
+END
+try 'known faults behind links' 0 "$all" -q --baseline first --update-baseline edge.pfb
+try 'known faults behind a link to nothing' 0 "$all" -q --baseline hanging --update-baseline edge.pfb
+wanted <<'END'
+far/second
+known
+far/none
+640
+known
+none
+second
+# Known faults: count, rule, unit, font.
+1 C05 glyph A elsewhere.pfb
+1 H02 glyph A edge.pfb
+# Known faults: count, rule, unit, font.
+1 H02 glyph A edge.pfb
+--
+END
+# shellcheck disable=SC2016
+try 'the links and their files' 0 sh -c 'readlink first far/second hanging
+    stat -c %a far/known
+    ls far
+    cat far/known far/none'
+wanted <<'END'
+--
+t1check-all: loop can't be written
+END
+try 'known faults behind a link to itself' 3 "$all" -q --baseline loop --update-baseline edge.pfb
+
+# New rows are on the disk before they have the file's name, and the name is before the run ends. One that is stopped in between leaves the old file.
+if command -v cc >/dev/null && cc -shared -fPIC -o "$scratch/stops.so" "$top/tests/tools/stops.c" 2>/dev/null; then
+    mkdir stopped
+    echo '1 C05 glyph A elsewhere.pfb' >stopped/known
+    wanted <<'END'
+137
+1 C05 glyph A elsewhere.pfb
+# Known faults: count, rule, unit, font.
+1 C05 glyph A elsewhere.pfb
+1 H02 glyph A edge.pfb
+--
+END
+    # shellcheck disable=SC2016
+    try 'a run that is stopped before a rename' 0 sh -c 'exec 2>/dev/null
+        CALLS=$1/calls STOPS=yes LD_PRELOAD=$1/stops.so "$0" -q --baseline stopped/known --update-baseline edge.pfb
+        echo $?
+        cat stopped/known stopped/known.new.0' "$all" "$scratch"
+    rm calls
+    wanted <<'END'
+fsync stopped/known.new.1
+rename stopped/known.new.1 stopped/known
+fsync stopped
+# Known faults: count, rule, unit, font.
+1 C05 glyph A elsewhere.pfb
+1 H02 glyph A edge.pfb
+--
+END
+    # shellcheck disable=SC2016
+    try 'the next run' 0 sh -c 'CALLS=$1/calls LD_PRELOAD=$1/stops.so "$0" -q --baseline stopped/known --update-baseline edge.pfb || exit
+        sed "s|$(pwd -P)/||" calls
+        cat stopped/known' "$all" "$scratch"
+else
+    echo "skipped: a run that is stopped before a rename, since there is no C compiler (Debian: gcc)"
+fi
+
 # New rows that can't be written whole leave the old ones, and nothing beside them.
 awk 'BEGIN { for (i = 1; i <= 200; i++) print "g" i, 1 }' | make_font rows.pfa
 echo '1 C05 glyph A elsewhere.pfb' >kept/known
