@@ -137,6 +137,7 @@ pub(crate) fn write_across(
 }
 
 /// Writes a line from left to right.
+#[tactic(auto, unfolding(crate::specs::Bands::across_line))]
 fn write_across_line(
     svg: &mut String,
     left: Exact,
@@ -149,6 +150,7 @@ fn write_across_line(
 }
 
 /// Writes a box, from its lower side on.
+#[tactic(auto, unfolding(crate::specs::Bands::across_box))]
 fn write_across_box(
     svg: &mut String,
     left: Exact,
@@ -181,6 +183,7 @@ fn write_upright(
 }
 
 /// Writes a line from bottom to top.
+#[tactic(auto, unfolding(crate::specs::Bands::upright_line))]
 pub(crate) fn write_upright_line(
     svg: &mut String,
     x: Exact,
@@ -193,6 +196,7 @@ pub(crate) fn write_upright_line(
 }
 
 /// Writes a box, from its left side on.
+#[tactic(auto, unfolding(crate::specs::Bands::upright_box))]
 fn write_upright_box(
     svg: &mut String,
     left: Exact,

@@ -334,6 +334,7 @@ fn write_edge_at(svg: &mut String, place: Point, number: i64) -> Result<(), Allo
     )
 }
 
+#[tactic(auto, unfolding(crate::specs::CauseTexts::edge_text))]
 fn write_edge(svg: &mut String, x: Exact, y: Exact, number: Exact) -> Result<(), AllocError>
     ensures { OnOk result (string_bytes svg.new ≡ string_bytes svg.old ++ edge_text x y number) }
 {

@@ -122,6 +122,7 @@ fn write_faults(svg: &mut String, frame: &Frame, faults: &FaultLayers<'_>) -> Re
     write_marks(svg, frame, faults.marks)
 }
 
+#[tactic(auto, unfolding(crate::specs::Pictures::drawing_start))]
 fn start_drawing(svg: &mut String, thin: Exact) -> Result<(), AllocError>
     ensures { OnOk result (string_bytes svg.new ≡ string_bytes svg.old ++ drawing_start thin) }
 {
@@ -187,6 +188,7 @@ fn write_lines(svg: &mut String, frame: &Frame, metrics: Option<Metrics>) -> Res
     push(svg, END)
 }
 
+#[tactic(auto, unfolding(crate::specs::Pictures::base_line))]
 fn write_base_line(svg: &mut String, left: Exact, right: Exact) -> Result<(), AllocError>
     ensures { OnOk result (string_bytes svg.new ≡ string_bytes svg.old ++ base_line left right) }
 {
@@ -251,6 +253,7 @@ fn write_open(svg: &mut String, frame: &Frame, text: &str) -> Result<(), AllocEr
     write_path(svg, text)
 }
 
+#[tactic(auto, unfolding(crate::specs::Pictures::open_start))]
 fn start_open(svg: &mut String, broad: Exact, dash: Exact) -> Result<(), AllocError>
     ensures { OnOk result (string_bytes svg.new ≡ string_bytes svg.old ++ open_start broad dash) }
 {

@@ -124,6 +124,7 @@ fn write_size(svg: &mut String, width: i64, height: i64) -> Result<(), AllocErro
 }
 
 /// Writes the part of the plane that is shown.
+#[tactic(auto, unfolding(crate::specs::Pictures::view_box_text))]
 fn write_view_box(
     svg: &mut String,
     x: Exact,
@@ -187,6 +188,7 @@ fn write_square(svg: &mut String, id: &str, size: Exact) -> Result<(), AllocErro
     )
 }
 
+#[tactic(auto, unfolding(crate::specs::Pictures::circles_text))]
 fn write_circle_forms(svg: &mut String, size: Exact, radius: Exact) -> Result<(), AllocError>
     ensures { OnOk result (string_bytes svg.new ≡ string_bytes svg.old ++ circles_text size radius) }
 {
@@ -206,6 +208,7 @@ fn write_cause_forms(svg: &mut String, cross: Exact, end: Exact) -> Result<(), A
     write_square(svg, "end", end)
 }
 
+#[tactic(auto, unfolding(crate::specs::CauseTexts::cross_text))]
 fn write_cross(svg: &mut String, size: Exact) -> Result<(), AllocError>
     ensures { OnOk result (string_bytes svg.new ≡ string_bytes svg.old ++ cross_text size) }
 {
@@ -215,6 +218,7 @@ fn write_cross(svg: &mut String, size: Exact) -> Result<(), AllocError>
     )
 }
 
+#[tactic(auto, unfolding(crate::specs::Pictures::clip_text))]
 fn write_clip(
     svg: &mut String,
     left: Exact,
@@ -230,6 +234,7 @@ fn write_clip(
     )
 }
 
+#[tactic(auto, unfolding(crate::specs::Pictures::ground_text))]
 fn write_ground(
     svg: &mut String,
     x: Exact,

@@ -82,12 +82,14 @@ fn write_numbers_at(
     }
 }
 
+#[tactic(auto, unfolding(crate::specs::Pictures::one_number))]
 fn write_one_number(svg: &mut String, x: Exact, y: Exact, number: u64) -> Result<(), AllocError>
     ensures { OnOk result (string_bytes svg.new ≡ string_bytes svg.old ++ one_number x y number) }
 {
     writeln!(svg, r#"<text x="{x}" y="{y}">{number}</text>"#)
 }
 
+#[tactic(auto, unfolding(crate::specs::Pictures::two_numbers))]
 fn write_two_numbers(
     svg: &mut String,
     x: Exact,
@@ -110,6 +112,7 @@ fn write_legend(svg: &mut String, frame: &Frame, lines: &[String]) -> Result<(),
     push(svg, END)
 }
 
+#[tactic(auto, unfolding(crate::specs::Pictures::legend_start))]
 fn start_legend(svg: &mut String, letters: Exact) -> Result<(), AllocError>
     ensures { OnOk result (string_bytes svg.new ≡ string_bytes svg.old ++ legend_start letters) }
 {

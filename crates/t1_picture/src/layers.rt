@@ -222,6 +222,7 @@ pub(crate) fn write_mark(svg: &mut String, form: &str, point: Point) -> Result<(
     write_use(svg, form, coordinate(point.x), coordinate(point.y))
 }
 
+#[tactic(auto, unfolding(crate::specs::Layers::use_text))]
 fn write_use(svg: &mut String, form: &str, x: Exact, y: Exact) -> Result<(), AllocError>
     ensures { OnOk result (string_bytes svg.new ≡ string_bytes svg.old ++ use_text form.now x y) }
 {
