@@ -15,7 +15,7 @@ use Rattle.t1_picture.specs.declared.extent.Extent.{Extent}
 use Rattle.t1_pieces.specs.declared.form.Form.{Form}
 use Rattle.t1_pieces.specs.declared.piece.Piece.{Piece}
 use Rattle.t1_pieces.specs.declared.stage.Reached.{Reached}
-use Rattle.t1_web.specs.Numbers.{IsFormOf, bytes_of, status_of, wanted_bytes}
+use Rattle.t1_web.specs.Numbers.{IsFormOf, bytes_of, status_of}
 
 -- A status, and so many bytes of a room.
 pub record Answer : Type 0 where
@@ -46,12 +46,12 @@ pub data IsDocumentHandedOver (pages : PagesValue) (name : List ℕ) (read : Res
 pub record IsPictureHandedOver (name : List ℕ) (extent : Extent) (read : Result Input Refusal) (answer : Answer) : Type 0 where
   pub drawn : Piece
   pub is_drawing : IsDrawing name extent read answer.room drawn
-  pub written_is : answer.written ≡ wanted_bytes drawn
+  pub written_is : answer.written ≡ bytes_of drawn
   pub status_is : answer.status ≡ status_of drawn
 
 -- The numbers of an entry, or why there are none: the entry isn't there or is no list of numbers, or no such entry has the number.
 pub data IsEntryHandedOver (key : Option Key) (read : Result FontValue Refusal) (answer : Answer) : Type 0 where
   handed_of :
       (wanted : Key) → key ≡ Some wanted → (numbers : Piece) → IsNumbersPiece wanted read answer.room numbers
-      → answer.written ≡ wanted_bytes numbers → answer.status ≡ status_of numbers → IsEntryHandedOver key read answer
+      → answer.written ≡ bytes_of numbers → answer.status ≡ status_of numbers → IsEntryHandedOver key read answer
   no_key : key ≡ None → answer.written ≡ 0 → answer.status ≡ 8 → IsEntryHandedOver key read answer

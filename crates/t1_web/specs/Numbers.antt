@@ -61,17 +61,13 @@ status_of (Missing missing.Glyph) = 5
 status_of (Missing missing.Fault) = 7
 status_of (Missing missing.Numbers) = 8
 
--- How many bytes of the room were handed over.
+-- How many bytes of the room were handed over; where it is too small, how many are to be.
 abbrev pub bytes_of : Piece → ℕ
 bytes_of (Last n) = n
 bytes_of (More n) = n
+bytes_of (NoRoom n) = n
 bytes_of (Refused n) = n
 bytes_of _ = 0
-
--- Where it is too small, how many are to be.
-abbrev pub wanted_bytes : Piece → ℕ
-wanted_bytes (NoRoom n) = n
-wanted_bytes piece = bytes_of piece
 
 -- ---- entries
 

@@ -1,7 +1,8 @@
 //! The exports of a WebAssembly module by which a page checks fonts, from bytes to bytes.
 //!
 //! Each export takes the bytes of a font and of waivers, and room for what it hands over. It returns a status, of which
-//! `specs/Numbers.antt` has the numbers, and says how many bytes it handed over. A number that no edition has is the first one.
+//! `specs/Numbers.antt` has the numbers, and says how many bytes it handed over; where the room doesn't hold what comes next, how many
+//! that has. A number that no edition has is the first one.
 //!
 //! What is promised: what [`t1_pieces`] promises of its calls. A host that isn't Rattle is checked by nothing: it has to pass
 //! addresses of memory that is its own, with their lengths, and none twice.
@@ -19,7 +20,6 @@ ghost use Rattle.t1_web.specs.Numbers.{edition_of, extent_of, list_key, mark_of,
 
 use crate::numbers::{
     bytes_of, edition_of, extent_of, form_of, list_key, stage_number, stage_of, status_of,
-    wanted_bytes,
 };
 use std::alloc::Global;
 use t1_forms::{Page, Pages, RESULT_COUNTS};
@@ -170,7 +170,7 @@ fn document_with<'a>(
 }
 
 /// Hands over the picture of the glyph of a name: with the kind 0 as a whole, with 1 up to the step of a number, with any other
-/// that of the fault of the number in the report. Where the room doesn't hold it, the count is that of its bytes.
+/// that of the fault of the number in the report.
 #[unsafe(no_mangle)]
 pub extern "C" fn t1_web_picture(
     alloc: Global,
@@ -192,12 +192,12 @@ pub extern "C" fn t1_web_picture(
         edition: edition_of(edition),
     };
     let drawn = picture(alloc, &request, glyph, extent_of(kind, number), room);
-    *written = wanted_bytes(drawn);
+    *written = bytes_of(drawn);
     status_of(drawn)
 }
 
 /// Hands over the numbers of the entry of a key, by the key's number: how many there are, and the first 16 of them, each after a
-/// blank. Where the room doesn't hold them, the count is that of their bytes.
+/// blank.
 #[unsafe(no_mangle)]
 pub extern "C" fn t1_web_entry(
     alloc: Global,
@@ -214,6 +214,6 @@ pub extern "C" fn t1_web_entry(
         return NO_ENTRY;
     };
     let numbers = entry_numbers(alloc, font, key, room);
-    *written = wanted_bytes(numbers);
+    *written = bytes_of(numbers);
     status_of(numbers)
 }

@@ -1,7 +1,7 @@
 //! What the numbers of a host mean.
 
 ghost use Rattle.std.specs.Prelude.{◌≡◌};
-ghost use Rattle.t1_web.specs.Numbers.{IsFormOf, bytes_of, edition_of, extent_of, list_key, stage_number, stage_of, status_of, wanted_bytes};
+ghost use Rattle.t1_web.specs.Numbers.{IsFormOf, bytes_of, edition_of, extent_of, list_key, stage_number, stage_of, status_of};
 
 use t1_char::Edition;
 use t1_font::Key;
@@ -67,19 +67,9 @@ pub(crate) fn status_of(piece: Piece) -> u32
     }
 }
 
-/// How many bytes were handed over.
+/// How many bytes were handed over; where the room is too small, how many are to be.
 pub(crate) fn bytes_of(piece: Piece) -> usize
     ensures { result ≡ bytes_of piece }
-{
-    match piece {
-        Piece::Last(count) | Piece::More(count) | Piece::Refused(count) => count,
-        Piece::NoRoom(_) | Piece::Missing(_) | Piece::Memory => 0,
-    }
-}
-
-/// How many bytes were handed over; where the room is too small, how many are to be.
-pub(crate) fn wanted_bytes(piece: Piece) -> usize
-    ensures { result ≡ wanted_bytes piece }
 {
     match piece {
         Piece::Last(count) | Piece::More(count) | Piece::NoRoom(count) | Piece::Refused(count) =>
