@@ -1,5 +1,5 @@
 -- The words of lists, one after another.
-use Rattle.std.proofs.Common.{◌≡◌, ◌+◌, ◌-◌, ◌^◌, ◌<◌, ℕ, List, [], ◌∷◌, ◌++◌, Global, String, Vec, Result, Ok, Err, arith, ap, append-nil, drop, get_or, length, map, min, string_bytes, subst, sym, take, ◌∙◌}
+use Rattle.std.proofs.Common.{◌≡◌, ◌+◌, ◌-◌, ◌^◌, ◌<◌, ℕ, List, [], ◌∷◌, ◌++◌, Global, String, Vec, Ok, arith, ap, append-nil, drop, get_or, length, map, min, string_bytes, subst, sym, take, ◌∙◌}
 use Rattle.std.proofs.lemmas.Grind.{flat_map-append}
 use Rattle.std.proofs.lemmas.List.{append_assoc, map-append, take-append-drop}
 use Rattle.std.proofs.lemmas.List.Sums.{sum_by_push}

@@ -26,7 +26,6 @@ use Rattle.t1_printers.specs.Documents.{end_written, telling_written}
 use Rattle.t1_printers.specs.Formatting.{Form, FormattedTakes, Formatting, Output, nothing_ends, output_of}
 use Rattle.t1_printers.specs.JsonLines.{clean_written, object_written}
 use Rattle.t1_printers.specs.declared.github.GitHubCommands.{GitHubCommands as Commands}
-use Rattle.t1_rules.specs.declared.mask.Mask.{Mask}
 use Rattle.t1_run.specs.Opening.{Sinks}
 
 -- What comes after all else was written, and all was flushed; or that failed.

@@ -1,5 +1,5 @@
 -- What an outline has still to return, one segment and one step further.
-use Rattle.std.proofs.Common.{◌≡◌, ℕ, ◌+◌, ◌<◌, ◌≤◌, if◌then◌else◌, Bool, true, false, get_or, slice_index_or, List, [], ◌∷◌, ◌++◌, length, length-take, map, take, drop, take_all, refl, sym, ap, ◌∙◌, arith}
+use Rattle.std.proofs.Common.{◌≡◌, ℕ, ◌+◌, ◌<◌, ◌≤◌, if◌then◌else◌, Bool, true, false, get_or, List, [], ◌∷◌, ◌++◌, length, length-take, take, drop, take_all, refl, sym, ap, ◌∙◌, arith}
 use Rattle.std.proofs.lemmas.List.{drop_all, drop_more, get_or-take}
 use Rattle.std.proofs.lemmas.Option.{get_or_from_slice_get}
 use Rattle.t1_char.proofs.EditionLemmas.{limit_few}
@@ -14,7 +14,7 @@ use Rattle.t1_char.specs.Turns.{MachineView, counted_after, is_returned, stepped
 use Rattle.t1_char.proofs.TurnsTaken.{IsStepped, answered_over, stepped_is}
 use Rattle.t1_outline.specs.declared.pen.Pen.{Pen}
 use Rattle.t1_outline.specs.declared.segment.Segment.{Segment}
-use Rattle.t1_outline.specs.Outlines.{drawn, drawn_from, placed}
+use Rattle.t1_outline.specs.Outlines.{drawn}
 use Rattle.t1_outline.specs.Private.Outlining.{IsOutlining, left_in, steps_in}
 use Rattle.t1_rules.specs.Watches.{most_steps}
 

@@ -1,5 +1,5 @@
 -- What a marked stem, point or zone is of: a reason names it.
-use Rattle.std.specs.Prelude.{◌≡◌, ◌⊎◌, ◌↔◌, ⊤, ◌==◌, Bool, true, false, Some, List}
+use Rattle.std.specs.Prelude.{◌≡◌, ◌⊎◌, ◌↔◌, ⊤, ◌==◌, true, Some, List}
 use Rattle.std.specs.List.{Contains}
 use Rattle.t1_picture.specs.declared.bands.Direction.{Direction}
 use Rattle.t1_picture.specs.declared.causes.Cause.{Cause}

@@ -2,8 +2,7 @@
 use Rattle.std.proofs.Common.{◌≡◌, ℕ, Bool, true, false, List, [], ◌∷◌, ◌++◌, Option, None, Some, map, refl, sym, ap, ap₂, ◌∙◌, append_assoc, append-nil}
 use Rattle.t1_forms.specs.JUnit.{JUnitState, begun, case_text, first_failure, found_with, line_text}
 use Rattle.t1_forms.specs.Xml.{xml_name}
-use Rattle.t1_many.specs.Handing.{Handed, done, failure, line}
-use Rattle.t1_many.specs.declared.font_error.FontError.{FontError}
+use Rattle.t1_many.specs.Handing.{Handed, done, line}
 use Rattle.t1_many.specs.declared.font_error.FontError.TheVariants as errors
 use Rattle.t1_printers.specs.Cases.{CheckedFontsHaveACase, OtherFontsHaveACase, case_stream, first_failing, font_lines, is_checked, spelled_line}
 use Rattle.t1_printers.specs.Formatting.{told_fault}

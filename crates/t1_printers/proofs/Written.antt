@@ -1,7 +1,6 @@
 -- What was written of things that were handed on.
 -- The bytes of one thing come right after those of the things before it; where a write fails they are a prefix.
-use Rattle.std.proofs.Common.{◌≡◌, ◌-◌, ℕ, true, Bool, List, [], ◌∷◌, ◌++◌, Option, None, Some, append-nil, append_assoc, ap, arith, inl, inr, length, refl, subst, sym, ◌∙◌}
-use Rattle.std.proofs.KnownBytes.{Appends-nil, Appends-trans}
+use Rattle.std.proofs.Common.{◌≡◌, ◌-◌, ℕ, true, Bool, List, [], ◌∷◌, ◌++◌, Option, None, Some, ap, arith, inl, inr, length, refl, subst, sym, ◌∙◌}
 use Rattle.std.proofs.lemmas.Option.{none-some}
 use Rattle.std.specs.Io.KnownBytes.{Appends}
 use Rattle.t1_printers.proofs.GroupTails.{IsGroup, tail_is}
@@ -17,7 +16,7 @@ use Rattle.t1_printers.specs.Terminals.{room_after, terminal_lines, terminal_wri
 use Rattle.t1_printers.specs.Units.{NamedUnit, names_of}
 use Rattle.t1_printers.specs.Widths.{width_of}
 use Rattle.t1_printers.specs.Writings.{Wording, command_wording, failure_words, held_after, terminal_wording, text_after, text_of_one}
-use Rattle.t1_io.specs.Devices.{AppendsFront, SinkState}
+use Rattle.t1_io.specs.Devices.{AppendsFront}
 use Rattle.t1_font.specs.declared.unread.RefusalCode.{RefusalCode}
 use Rattle.t1_many.proofs.PlainLines.{front-all, front-none, line_printed, none-same, none_printed, stopped_printed, then_printed}
 use Rattle.t1_many.specs.Handing.{Handed, HandsOn, done, failure, line}

@@ -1,5 +1,5 @@
 -- What is written of things that are handed on, in a form of groups.
-use Rattle.std.specs.Prelude.{ℕ, List, [], ◌∷◌, ◌++◌, Bool, Option, None, Some}
+use Rattle.std.specs.Prelude.{ℕ, List, [], ◌∷◌, ◌++◌, Bool, Option}
 use Rattle.t1_printers.specs.Commands.{command_line_of, refusal_command, unchecked_command}
 use Rattle.t1_printers.specs.Grouping.{Grouping}
 use Rattle.t1_printers.specs.Held.{HeldLine, held_line, held_text}

@@ -1,4 +1,4 @@
-use Rattle.std.proofs.Common.{◌≡◌, ap, Some}
+use Rattle.std.proofs.Common.{ap, Some}
 use Rattle.t1_answer_all.proofs.WrittenTexts.{all_of_text}
 use Rattle.t1_answer_all.proofs.ending.known_faults_anew.Goals as goal
 use Rattle.t1_io.specs.Devices.{SinkState}

@@ -1,4 +1,4 @@
-use Rattle.std.proofs.Common.{None, Ok, Some, ap, inl, inr, refl, string_bytes}
+use Rattle.std.proofs.Common.{inr, refl, string_bytes}
 use Rattle.t1_names.specs.declared.causes.Cause.TheVariants.{NoFile}
 use Rattle.t1_answer_all.proofs.Told.{told_so}
 use Rattle.t1_answer_all.proofs.known.text_of_known.Goals as goal
