@@ -37,7 +37,7 @@ OWN(path_mode)(u32 fd, u32 follows, address path, u32 size, address mode);
 OWN(fd_set_mode)(u32 fd, u32 mode);
 
 // Linux's numbers, which std knows.
-enum { ENOENT = 2, EIO = 5, EBADF = 9, EINVAL = 22 };
+enum { ENOENT = 2, EIO = 5, EBADF = 9, EINVAL = 22, ENOSYS = 38 };
 enum { O_ACCESS = 3, O_WRONLY = 1, O_RDWR = 2, O_CREAT = 0100, O_EXCL = 0200, O_TRUNC = 01000, O_APPEND = 02000 };
 enum { AT_FDCWD = -100, AT_SYMLINK_NOFOLLOW = 0x100 };
 enum { PATH_MAX = 4096 };
@@ -156,6 +156,21 @@ int close(int fd) { return ended(wasi_fd_close((u32)fd)); }
 int fsync(int fd) { return ended(wasi_fd_sync((u32)fd)); }
 
 int fchmod(int fd, u32 mode) { return ended(own_fd_set_mode((u32)fd, mode)); }
+
+// What else std names where it changes an open file. No program here calls these.
+int fdatasync(int fd) { return fsync(fd); }
+
+int ftruncate(int fd, ssize_t size) {
+  (void)fd, (void)size;
+  error_now = ENOSYS;
+  return -1;
+}
+
+int flock(int fd, int how) {
+  (void)fd, (void)how;
+  error_now = ENOSYS;
+  return -1;
+}
 
 // As wasi-libc says of a descriptor: a device of characters that has no position.
 int isatty(int fd) {

@@ -5,7 +5,8 @@ typedef long ssize_t;
 typedef unsigned u32;
 
 extern int open(const char *path, int flags, ...);
-extern int close(int fd), fsync(int fd), fchmod(int fd, u32 mode), isatty(int fd), mkdir(const char *path, u32 mode);
+extern int close(int fd), fsync(int fd), fdatasync(int fd), ftruncate(int fd, long size), flock(int fd, int how);
+extern int fchmod(int fd, u32 mode), isatty(int fd), mkdir(const char *path, u32 mode);
 extern int rename(const char *path, const char *to), unlink(const char *path), rattle_errno(void);
 extern int rattle_open_dir_at(int folder, const char *name), statx(int folder, const char *path, int flags, u32 mask, void *found);
 extern ssize_t read(int fd, void *buffer, size_t size), write(int fd, const void *buffer, size_t size), getdents64(int fd, char *buffer, size_t size);
@@ -99,6 +100,9 @@ int main(int count, char **words) {
   tell("write", write(fd, "eight by", 8));
   tell("fchmod", fchmod(fd, 0640));
   tell("fsync", fsync(fd));
+  tell("fdatasync", fdatasync(fd));
+  tell("ftruncate", ftruncate(fd, 8));
+  tell("flock", flock(fd, 2));
   tell("close", close(fd));
   tell("close", close(fd));
   opened("open new", open("made/one", CREATE | NEW, 0666));
