@@ -22,8 +22,45 @@ use Rattle.t1_reason_texts.specs.ZoneTexts.{from_zero, gap_text, needed_text, nu
 use Rattle.t1_rules.specs.declared.rule.Rule.{Rule}
 use Rattle.t1_rules.specs.StepRules.Stems.{lower, upper}
 
+-- Of a reason that speaks of the font, of a charstring as a whole, or of a waiver.
+unfoldable pub font_reason_text : FontValue → Rule → Reason → List ℕ
+font_reason_text font rule (Limit steps) = codes "more than " ++ (decimal steps ++ codes " steps")
+-- What an entry is, and what it should be; of MinFeature its numbers where there are two.
+font_reason_text font rule (Entry found) = entry_text rule found
+font_reason_text font rule (Ids clear private) = value_text clear ++ (codes " in the clear text, " ++ (value_text private ++ codes " in Private"))
+font_reason_text font rule (Features found one two) =
+    if has_two found then codes "it is {" ++ (value_text one ++ (codes " " ++ (value_text two ++ codes "}"))) else found_text found
+font_reason_text font rule (Glyphs count) =
+    if count == 0 then codes "there is no glyph"
+    else (if count == 1 then codes "the only glyph has another name" else codes "none of " ++ (decimal count ++ codes " glyphs"))
+font_reason_text font rule (Form NoEncoding) = codes "it is not there"
+font_reason_text font rule (Form Standard) = codes "it is StandardEncoding"
+font_reason_text font rule (Form Custom) = codes "it is an array of 256 names"
+font_reason_text font rule (Form OtherEncoding) = codes "it is neither StandardEncoding nor an array of 256 names"
+font_reason_text font rule (SubrEntry number twice size) = subr_entry_text number twice (not (nat_lt number size)) size
+font_reason_text font rule (Kind found OneNumber) = found_text found ++ codes "; a number is needed"
+font_reason_text font rule (Kind found ManyNumbers) = found_text found ++ codes "; a list of numbers is needed"
+font_reason_text font rule (TooMany count most) = numbers_text count ++ (codes ", " ++ (decimal most ++ codes " at most"))
+font_reason_text font rule (Numbers count) = numbers_text count
+font_reason_text font rule (Glyph glyph) = codes "the glyph is " ++ shown_name (glyph_name font glyph)
+font_reason_text font rule (Code code) = codes "code " ++ (decimal code ++ (codes " names " ++ shown_name (encoded_name font code)))
+font_reason_text font rule (Corners first last) = value_text first ++ (codes " is above " ++ value_text last)
+font_reason_text font rule (Number number) = number_text rule number
+font_reason_text font rule (LastToken None) = codes "it is empty"
+font_reason_text font rule (LastToken (Some Short)) = codes "it is shorter than lenIV"
+font_reason_text font rule (LastToken (Some token)) = codes "it ends with " ++ token_text token
+font_reason_text font rule (Following before number) =
+    if says_twice rule then value_text number ++ codes " comes twice" else value_text number ++ (codes " comes after " ++ value_text before)
+font_reason_text font rule (Gap upper lower distance) = gap_text upper lower distance ++ would_do (codes "BlueFuzz") (from_zero (fuzz_for_all font))
+font_reason_text font rule (Zones own other distance) =
+    zones_text own other ++ (needed_text distance ++ would_do (codes "BlueFuzz") (from_zero (fuzz_for_both font)))
+font_reason_text font rule (Zone lower upper scale) = zone_text lower upper scale ++ would_do (codes "BlueScale") (from_zero (scale_for_all font))
+font_reason_text font rule (Width width nearest) = width_text width nearest
+font_reason_text font rule (Waiver NoGlyph) = codes "no glyph has this name"
+font_reason_text font rule (Waiver (Unbroken glyph)) = codes "no step of the glyph breaks this rule"
+font_reason_text font rule _ = []
+
 unfoldable pub reason_text : FontValue → Rule → Reason → List ℕ
-reason_text font rule Nothing = []
 -- How many numbers a command takes, and how many are on the stack; then a token that comes to a full stack.
 reason_text font rule (Count command taken there) =
     name_of command ++ (codes " takes " ++ (numbers_text taken ++ (or_more command ++ (codes ", " ++ (are_text there ++ codes " on the stack")))))
@@ -63,40 +100,7 @@ reason_text font rule (Codes base accent) =
     else (if is_meant font rule accent && not (is_meant font rule base) then codes "the accent's " ++ code_text rule accent
     else codes "the base's " ++ (code_text rule base ++ (codes " and the accent's " ++ code_text rule accent)))
 reason_text font rule (Sidebearings told own) = sidebearings_text told own
-reason_text font rule (Limit steps) = codes "more than " ++ (decimal steps ++ codes " steps")
--- What an entry is, and what it should be; of MinFeature its numbers where there are two.
-reason_text font rule (Entry found) = entry_text rule found
-reason_text font rule (Ids clear private) = value_text clear ++ (codes " in the clear text, " ++ (value_text private ++ codes " in Private"))
-reason_text font rule (Features found one two) =
-    if has_two found then codes "it is {" ++ (value_text one ++ (codes " " ++ (value_text two ++ codes "}"))) else found_text found
-reason_text font rule (Glyphs count) =
-    if count == 0 then codes "there is no glyph"
-    else (if count == 1 then codes "the only glyph has another name" else codes "none of " ++ (decimal count ++ codes " glyphs"))
-reason_text font rule (Form NoEncoding) = codes "it is not there"
-reason_text font rule (Form Standard) = codes "it is StandardEncoding"
-reason_text font rule (Form Custom) = codes "it is an array of 256 names"
-reason_text font rule (Form OtherEncoding) = codes "it is neither StandardEncoding nor an array of 256 names"
-reason_text font rule (SubrEntry number twice size) = subr_entry_text number twice (not (nat_lt number size)) size
-reason_text font rule (Kind found OneNumber) = found_text found ++ codes "; a number is needed"
-reason_text font rule (Kind found ManyNumbers) = found_text found ++ codes "; a list of numbers is needed"
-reason_text font rule (TooMany count most) = numbers_text count ++ (codes ", " ++ (decimal most ++ codes " at most"))
-reason_text font rule (Numbers count) = numbers_text count
-reason_text font rule (Glyph glyph) = codes "the glyph is " ++ shown_name (glyph_name font glyph)
-reason_text font rule (Code code) = codes "code " ++ (decimal code ++ (codes " names " ++ shown_name (encoded_name font code)))
-reason_text font rule (Corners first last) = value_text first ++ (codes " is above " ++ value_text last)
-reason_text font rule (Number number) = number_text rule number
-reason_text font rule (LastToken None) = codes "it is empty"
-reason_text font rule (LastToken (Some Short)) = codes "it is shorter than lenIV"
-reason_text font rule (LastToken (Some token)) = codes "it ends with " ++ token_text token
-reason_text font rule (Following before number) =
-    if says_twice rule then value_text number ++ codes " comes twice" else value_text number ++ (codes " comes after " ++ value_text before)
-reason_text font rule (Gap upper lower distance) = gap_text upper lower distance ++ would_do (codes "BlueFuzz") (from_zero (fuzz_for_all font))
-reason_text font rule (Zones own other distance) =
-    zones_text own other ++ (needed_text distance ++ would_do (codes "BlueFuzz") (from_zero (fuzz_for_both font)))
-reason_text font rule (Zone lower upper scale) = zone_text lower upper scale ++ would_do (codes "BlueScale") (from_zero (scale_for_all font))
-reason_text font rule (Width width nearest) = width_text width nearest
-reason_text font rule (Waiver NoGlyph) = codes "no glyph has this name"
-reason_text font rule (Waiver (Unbroken glyph)) = codes "no step of the glyph breaks this rule"
+reason_text font rule reason = font_reason_text font rule reason
 
 -- Whether a reason has a text.
 abbrev pub says_more : Reason → Bool

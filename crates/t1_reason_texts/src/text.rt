@@ -1,7 +1,7 @@
 //! The text of a reason.
 
 ghost use Rattle.std.specs.Prelude.{◌≡◌, Some, IfOk, option_map};
-ghost use Rattle.t1_reason_texts.specs.Texts.{reason_text, says_more, shown_text};
+ghost use Rattle.t1_reason_texts.specs.Texts.{font_reason_text, reason_text, says_more, shown_text};
 
 use crate::decimals::{Coordinates, coordinate, value};
 use crate::font_texts::{EntryText, FoundText, SubrEntryText, encoded_name, has_two};
@@ -76,7 +76,6 @@ impl fmt::Display for ReasonText<'_, '_> {
     fn fmt<W: fmt::Write>(&self, f: &mut fmt::Formatter<W>) -> fmt::Result {
         let rule = self.rule;
         match self.reason {
-            Reason::Nothing => Ok(()),
             Reason::Count {
                 command,
                 taken,
@@ -218,6 +217,33 @@ impl fmt::Display for ReasonText<'_, '_> {
                 let text = SidebearingsText { told, own };
                 write!(f, "{text}")
             }
+            _ => {
+                let text = FontReasonText {
+                    font: self.font,
+                    rule,
+                    reason: self.reason,
+                };
+                write!(f, "{text}")
+            }
+        }
+    }
+}
+
+/// The text of a reason that speaks of the font, of a charstring as a whole, or of a waiver.
+#[derive(Clone, Copy)]
+struct FontReasonText<'a, 'b> {
+    font: &'a Font<'b>,
+    rule: Rule,
+    reason: Reason,
+}
+
+impl fmt::Display for FontReasonText<'_, '_> {
+    ghost output = { λ t. Some (font_reason_text t.font.now t.rule t.reason) };
+
+    #[tactic(auto, unfolding(crate::specs::Texts::font_reason_text))]
+    fn fmt<W: fmt::Write>(&self, f: &mut fmt::Formatter<W>) -> fmt::Result {
+        let rule = self.rule;
+        match self.reason {
             Reason::Limit { steps } => write!(f, "more than {steps} steps"),
             Reason::Entry { found } => {
                 let entry = EntryText(rule, found);
@@ -364,6 +390,7 @@ impl fmt::Display for ReasonText<'_, '_> {
                 Unused::NoGlyph => write!(f, "no glyph has this name"),
                 Unused::Unbroken { .. } => write!(f, "no step of the glyph breaks this rule"),
             },
+            _ => Ok(()),
         }
     }
 }

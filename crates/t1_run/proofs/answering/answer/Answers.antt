@@ -1,4 +1,4 @@
-use Rattle.std.proofs.Common.{ap, map, option_map, refl, sym, ◌∙◌}
+use Rattle.std.proofs.Common.{ap, option_map, refl, sym, ◌∙◌}
 use Rattle.t1_io.specs.Devices.{SourceState}
 use Rattle.t1_run.specs.Answering.Answers.{explained, not_opened, read_file, read_input}
 use Rattle.t1_run.proofs.answering.answer.Goals as goal

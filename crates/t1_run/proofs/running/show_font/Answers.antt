@@ -1,4 +1,4 @@
-use Rattle.std.proofs.Common.{◌≡◌, ◌∙◌, Err, List, Option, Some, ap, false, option_map, refl, subst, sym, true}
+use Rattle.std.proofs.Common.{◌≡◌, ◌∙◌, Err, List, ap, false, option_map, refl, subst, sym, true}
 use Rattle.std.specs.Option.{is_some}
 use Rattle.t1_char.specs.declared.edition.Edition.{Edition}
 use Rattle.t1_report.specs.WaiverViews.{IsReadAs}
