@@ -1,7 +1,7 @@
 -- What is marked is what the reasons of faults name.
-use Rattle.std.proofs.Common.{◌≡◌, ◌↔◌, ◌==◌, ◌<◌, ◌≤◌, ℕ, zero, suc, Bool, true, false, if◌then◌else◌, Option, Some, None, List, [], ◌∷◌, ◌++◌, flat_map, inl, inr, refl, sym, ap, subst, ◌∙◌, arith}
+use Rattle.std.proofs.Common.{◌≡◌, ◌↔◌, ◌==◌, ◌≤◌, Bool, true, false, if◌then◌else◌, Option, Some, None, List, [], ◌∷◌, ◌++◌, flat_map, inl, inr, refl, sym, ap, subst, ◌∙◌, arith}
 use Rattle.std.proofs.lemmas.List.Elements.{Contains-append_cases, Contains-append_left, Contains-append_right}
-use Rattle.std.specs.List.{Contains, slice_index_or}
+use Rattle.std.specs.List.{Contains}
 use Rattle.std.specs.Option.{option_map, option_to_list}
 use Rattle.t1_picture.specs.declared.bands.Direction.{Direction}
 use Rattle.t1_picture.specs.declared.causes.Cause.{Cause}
@@ -13,6 +13,7 @@ use Rattle.t1_picture.specs.Causes.{causes_in, causes_of_reason, means_component
 use Rattle.t1_picture.specs.Marks.{all_causes, causes_of, faults_by, place_of_stems, reason_of, shown_of, zone_of}
 use Rattle.t1_picture.specs.NamedCauses.{IsNamed, IsOfFault, IsShownOf, MarksAreOfFaults, NamesCodes, NamesSidebearings, NamesStem, NamesZone, by_place, by_reason}
 use Rattle.t1_picture.specs.Subjects.{ShownValue, Subject, everything, one_fault, up_to}
+use Rattle.t1_reasons.proofs.NamedStems.{none_in, one_is}
 use Rattle.t1_reasons.specs.declared.reason.Reason.{Reason}
 use Rattle.t1_reasons.specs.declared.reason.Reason.TheVariants.{Codes, Miss, Open, Sidebearings, Stem as OneStem, Stems, Triple, Zones}
 use Rattle.t1_report.specs.Faults.{FaultValue}
@@ -21,16 +22,6 @@ use Rattle.t1_rules.specs.declared.rule.Rule.{Rule}
 use Rattle.t1_rules.specs.declared.step_rules.stems.Stem.{Stem}
 
 -- ---- members
-
-none_in : {A : Type 0} {B : Type 0} (x : A) → Contains [] x → B
-none_in x some = let none : 0 ≤ some.0 = omega arith in absurd (omega (arith, some.1))
-
-one_is : {A : Type 0} (x y : A) → Contains (x ∷ []) y → x ≡ y
-one_is x y some = go some.0 some.1 some.2
-  where
-    go : (k : ℕ) → k < 1 → slice_index_or (x ∷ []) k y ≡ y → x ≡ y
-    go zero less is = is
-    go (suc k) less is = absurd (omega (arith, less))
 
 alone : {A : Type 0} (x y : A) → x ≡ y → Contains (x ∷ []) y
 alone x y same = (0, omega arith, same)

@@ -102,16 +102,6 @@ impl fmt::Display for ReasonText<'_, '_> {
                 let next = TokenText(next);
                 write!(f, "{next}{comes}")
             }
-            Reason::Pairs {
-                moves,
-                points,
-                ends,
-            } => {
-                let needed = needed_pairs(ends, points < moves);
-                let moves = Counted(moves as usize, "move");
-                let points = Counted(points as usize, "point");
-                write!(f, "{moves} and {points}{needed}")
-            }
             Reason::Argument { place, number } => {
                 let bound = bound_words(number);
                 let number = coordinate(number);
@@ -154,6 +144,54 @@ impl fmt::Display for ReasonText<'_, '_> {
                     write!(f, "{none}")
                 }
             },
+            Reason::Othersubr { number, count } => {
+                let words = call_words(rule, number);
+                let number = coordinate(number);
+                let arguments = Arguments(count);
+                write!(f, "OtherSubr {number} with {arguments}{words}")
+            }
+            Reason::Arguments { count, there } => {
+                let count = coordinate(count);
+                let are = Are(there);
+                write!(f, "the count is {count}, {are} there")
+            }
+            _ => {
+                let text = DrawnReasonText {
+                    font: self.font,
+                    rule,
+                    reason: self.reason,
+                };
+                write!(f, "{text}")
+            }
+        }
+    }
+}
+
+/// The text of a reason that speaks of points, of stems or of an accented character, or of what `FontReasonText` says.
+#[derive(Clone, Copy)]
+struct DrawnReasonText<'a, 'b> {
+    font: &'a Font<'b>,
+    rule: Rule,
+    reason: Reason,
+}
+
+impl fmt::Display for DrawnReasonText<'_, '_> {
+    ghost output = { λ t. Some (drawn_reason_text t.font.now t.rule t.reason) };
+
+    #[tactic(auto, unfolding(crate::specs::Texts::drawn_reason_text))]
+    fn fmt<W: fmt::Write>(&self, f: &mut fmt::Formatter<W>) -> fmt::Result {
+        let rule = self.rule;
+        match self.reason {
+            Reason::Pairs {
+                moves,
+                points,
+                ends,
+            } => {
+                let needed = needed_pairs(ends, points < moves);
+                let moves = Counted(moves as usize, "move");
+                let points = Counted(points as usize, "point");
+                write!(f, "{moves} and {points}{needed}")
+            }
             Reason::Open { start, pen } => {
                 if are_same_points(start, pen) {
                     write!(f, "ends where it began, without closepath")
@@ -188,17 +226,6 @@ impl fmt::Display for ReasonText<'_, '_> {
                 let named = Coordinates(named);
                 let pen = Coordinates(pen);
                 write!(f, "the pen is at {pen}, the end names {named}")
-            }
-            Reason::Othersubr { number, count } => {
-                let words = call_words(rule, number);
-                let number = coordinate(number);
-                let arguments = Arguments(count);
-                write!(f, "OtherSubr {number} with {arguments}{words}")
-            }
-            Reason::Arguments { count, there } => {
-                let count = coordinate(count);
-                let are = Are(there);
-                write!(f, "the count is {count}, {are} there")
             }
             Reason::Codes { base, accent } => {
                 let is_base = is_meant(self.font, rule, base);
@@ -304,14 +331,6 @@ impl fmt::Display for FontReasonText<'_, '_> {
                     EntryKind::Numbers => write!(f, "{found}; a list of numbers is needed"),
                 }
             }
-            Reason::TooMany { count, most } => {
-                let numbers = Counted(count, "number");
-                write!(f, "{numbers}, {most} at most")
-            }
-            Reason::Numbers { count } => {
-                let numbers = Counted(count, "number");
-                write!(f, "{numbers}")
-            }
             Reason::Glyph { glyph } => {
                 let name = ShownName(self.font.glyph_name(glyph as usize));
                 write!(f, "the glyph is {name}")
@@ -319,6 +338,53 @@ impl fmt::Display for FontReasonText<'_, '_> {
             Reason::Code { code } => {
                 let name = ShownName(encoded_name(self.font, code));
                 write!(f, "code {code} names {name}")
+            }
+            Reason::LastToken { token } => match token {
+                None => write!(f, "it is empty"),
+                Some(CharToken::Short) => write!(f, "it is shorter than lenIV"),
+                Some(token) => {
+                    let token = TokenText(token);
+                    write!(f, "it ends with {token}")
+                }
+            },
+            Reason::Waiver { unused } => match unused {
+                Unused::NoGlyph => write!(f, "no glyph has this name"),
+                Unused::Unbroken { .. } => write!(f, "no step of the glyph breaks this rule"),
+            },
+            _ => {
+                let text = NumbersReasonText {
+                    font: self.font,
+                    rule,
+                    reason: self.reason,
+                };
+                write!(f, "{text}")
+            }
+        }
+    }
+}
+
+/// The text of a reason that speaks of the numbers of an entry: zones, heights, widths.
+#[derive(Clone, Copy)]
+struct NumbersReasonText<'a, 'b> {
+    font: &'a Font<'b>,
+    rule: Rule,
+    reason: Reason,
+}
+
+impl fmt::Display for NumbersReasonText<'_, '_> {
+    ghost output = { λ t. Some (numbers_reason_text t.font.now t.rule t.reason) };
+
+    #[tactic(auto, unfolding(crate::specs::Texts::numbers_reason_text))]
+    fn fmt<W: fmt::Write>(&self, f: &mut fmt::Formatter<W>) -> fmt::Result {
+        let rule = self.rule;
+        match self.reason {
+            Reason::TooMany { count, most } => {
+                let numbers = Counted(count, "number");
+                write!(f, "{numbers}, {most} at most")
+            }
+            Reason::Numbers { count } => {
+                let numbers = Counted(count, "number");
+                write!(f, "{numbers}")
             }
             Reason::Following { before, number } => {
                 let number = value(number);
@@ -338,14 +404,6 @@ impl fmt::Display for FontReasonText<'_, '_> {
                 let number = NumberText(rule, number);
                 write!(f, "{number}")
             }
-            Reason::LastToken { token } => match token {
-                None => write!(f, "it is empty"),
-                Some(CharToken::Short) => write!(f, "it is shorter than lenIV"),
-                Some(token) => {
-                    let token = TokenText(token);
-                    write!(f, "it ends with {token}")
-                }
-            },
             Reason::Gap {
                 upper,
                 lower,
@@ -386,10 +444,6 @@ impl fmt::Display for FontReasonText<'_, '_> {
                 let text = WidthText { width, nearest };
                 write!(f, "{text}")
             }
-            Reason::Waiver { unused } => match unused {
-                Unused::NoGlyph => write!(f, "no glyph has this name"),
-                Unused::Unbroken { .. } => write!(f, "no step of the glyph breaks this rule"),
-            },
             _ => Ok(()),
         }
     }

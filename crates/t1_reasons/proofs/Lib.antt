@@ -8,7 +8,7 @@ mod Hints
 mod LastCommands
 mod LastSteps
 mod LawProofs
-mod NamedStems
+pub mod NamedStems
 mod NamedSteps
 mod PathStarts
 mod RemedyLaws

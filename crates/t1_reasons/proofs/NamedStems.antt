@@ -56,10 +56,10 @@ all_contained P (x ∷ xs) each = (
   all_contained P xs (λ y in_rest. each y (Contains-append_right (x ∷ []) xs y in_rest)),
 )
 
-none_in : {A : Type 0} {B : Type 0} (x : A) → Contains [] x → B
+pub none_in : {A : Type 0} {B : Type 0} (x : A) → Contains [] x → B
 none_in x some = let none : 0 ≤ some.0 = omega arith in absurd (omega (arith, some.1))
 
-one_is : {A : Type 0} (x y : A) → Contains (x ∷ []) y → x ≡ y
+pub one_is : {A : Type 0} (x y : A) → Contains (x ∷ []) y → x ≡ y
 one_is x y some = go some.0 some.1 some.2
   where
     go : (k : ℕ) → k < 1 → slice_index_or (x ∷ []) k y ≡ y → x ≡ y

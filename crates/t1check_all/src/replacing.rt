@@ -14,17 +14,12 @@ const MOST_LINKS: u32 = 40;
 pub(crate) fn replace(rt: &HostRuntime, name: &str, text: &[u8]) -> io::Result<()> {
     let place = followed(rt, name)?;
     let (beside, file) = create_beside(rt, &place)?;
-    let replaced = match write_synced(rt, file, &place, text) {
-        Ok(()) => fs::rename(rt, &beside, &place),
-        Err(error) => Err(error),
-    };
-    match replaced {
-        Ok(()) => sync_folder(rt, &place),
-        Err(_) => {
-            let _ = fs::remove_file(rt, &beside);
-        }
+    if let Err(error) = put_in_place(rt, file, &beside, &place, text) {
+        let _ = fs::remove_file(rt, &beside);
+        return Err(error);
     }
-    replaced
+    sync_folder(rt, &place);
+    Ok(())
 }
 
 /// The file that a name leads to by links. It needn't be there.
@@ -71,9 +66,20 @@ fn name_beside(rt: &HostRuntime, place: &PathBuf, number: u32) -> Result<String,
     Ok(beside)
 }
 
+/// Writes a text into a new file, and gives it, closed, the name of the file at a place.
+fn put_in_place(
+    rt: &HostRuntime,
+    file: File,
+    beside: &String,
+    place: &PathBuf,
+    text: &[u8],
+) -> io::Result<()> {
+    write_synced(rt, file, place, text)?;
+    fs::rename(rt, beside, place)
+}
+
 /// Writes a text into a new file, which gets the mode of the file at a place, if there is one, and waits until the disk has it.
-fn write_synced(rt: &HostRuntime, file: File, place: &PathBuf, text: &[u8]) -> io::Result<()> {
-    let mut file = file;
+fn write_synced(rt: &HostRuntime, mut file: File, place: &PathBuf, text: &[u8]) -> io::Result<()> {
     if let Ok(old) = fs::metadata(rt, place) {
         file.set_permissions(old.permissions())?;
     }
