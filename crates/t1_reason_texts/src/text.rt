@@ -1,7 +1,7 @@
 //! The text of a reason.
 
 ghost use Rattle.std.specs.Prelude.{◌≡◌, Some, IfOk, option_map};
-ghost use Rattle.t1_reason_texts.specs.Texts.{font_reason_text, reason_text, says_more, shown_text};
+ghost use Rattle.t1_reason_texts.specs.Texts.{drawn_reason_text, font_reason_text, numbers_reason_text, reason_text, says_more, shown_text};
 
 use crate::decimals::{Coordinates, coordinate, value};
 use crate::font_texts::{EntryText, FoundText, SubrEntryText, encoded_name, has_two};
