@@ -20,6 +20,9 @@ pub const LARGEST_FILE: usize = 16_777_216;
 /// How many bytes are requested at once.
 const ROOM: usize = 16_384;
 
+/// How many bytes there is room for from the start: most files of fonts have fewer, and so no byte is moved while they are read.
+const USUAL_FILE: usize = 131_072;
+
 /// Reads the bytes of a font's file: all of a source until its end. More than 16,777,216 are refused, by E05.
 pub fn read_font_file<R: Source>(alloc: Global, source: &mut R) -> Result<Vec<u8>, Failure>
     ensures gathers { MatchResult result (λ bytes. AreAll largest_file (R.state source.old) (R.state source.new) bytes.items)
@@ -66,7 +69,7 @@ fn read_all<R: Source>(
     ensures stops { is_over (R.state source.old) ≡ false
         → (R.state source.new).late_takes ≡ (R.state source.old).late_takes }
 {
-    let mut bytes = Vec::new(alloc);
+    let mut bytes = Vec::with_capacity(alloc, USUAL_FILE)?;
     let mut buffer = [0u8; ROOM];
     for _turn in 0..most + 1 {
         let room = (most + 1 - bytes.len()).min(ROOM);
