@@ -3,7 +3,7 @@
 
 ghost use Rattle.t1_pieces.specs.DocumentLaws.{DocumentCallsEnd, JoinedAreTheDocument, PartsFit};
 ghost use Rattle.t1_pieces.specs.Laws.{CallsEnd, JoinedAreTheReport, LinesFit};
-ghost use Rattle.t1_pieces.specs.T1check.{T1checkRefusesThem, T1checkWritesThem};
+ghost use Rattle.t1_pieces.specs.T1check.{T1checkRefusesThem, T1checkTakesWaivers, T1checkWritesThem};
 
 use t1_report::{a_font_has_one_report, marks_count_the_faults_given};
 
@@ -31,6 +31,7 @@ pub fn pieces_are_the_document()
 /// `--waive` and without.
 pub fn t1check_writes_the_same()
     ensures lines { T1checkWritesThem }
+    ensures waivers { T1checkTakesWaivers }
     ensures refusals { T1checkRefusesThem }
 {
     a_font_has_one_report();
