@@ -25,6 +25,8 @@ pub mod ReadKeys
 pub mod Reading
 pub mod Refused
 pub mod Room
+pub mod RowTurns
+pub mod RowsLeft
 pub mod Running
 pub mod Scanning
 pub mod Shorter

@@ -8,7 +8,7 @@ use Rattle.t1_seal.specs.declared.errors.SealError.{SealError}
 use Rattle.t1_seal.specs.declared.errors.SealError.TheVariants as seal
 use Rattle.t1_seal.proofs.SegmentFaults.{joined_of-refused}
 use Rattle.t1_font.specs.ClearText.{clear_of}
-use Rattle.t1_font.specs.FontFiles.{of_seal_error, marks_in, private_next, section_next, clear_next, font_in}
+use Rattle.t1_font.specs.FontFiles.{before_rest, of_seal_error, marks_in, private_next, read_with, section_next, clear_next, font_in}
 use Rattle.t1_font.specs.Fonts.{Stated, Marks, FontValue}
 use Rattle.t1_font.specs.Texts.{font_read}
 use Rattle.t1_font.specs.TextTurns.{TextRead}
@@ -19,14 +19,15 @@ use Rattle.t1_font.specs.declared.unread.Unread.TheVariants.{Memory}
 use Rattle.t1_font.proofs.Refused.{clear_refusals, font_read_refusals}
 
 -- Each part, over what it is read as.
-private_refused : (read : Result FontValue Unread) → ((e : Unread) → read ≡ Err e → IsPrivateRefusal e) → IfErr read IsPrivateRefusal
-private_refused (Ok font) h = tt
-private_refused (Err e) h = h e refl
+private_refused : (clear text : List ℕ) (read : Result FontValue Unread) → ((e : Unread) → read ≡ Err e → IsPrivateRefusal e)
+    → IfErr (read_with clear text read) IsPrivateRefusal
+private_refused clear text (Ok font) h = tt
+private_refused clear text (Err e) h = h e refl
 
-section_refused : (marks : Marks) (before : List Stated) (section : Result (List ℕ) SealError) → ((e : SealError) → section ≡ Err e → e ≡ seal.TooShort)
-    → IfErr (private_next marks before section) (IsOfSection section)
-section_refused marks before (Ok text) h = private_refused (font_read marks before text) (font_read_refusals marks before text)
-section_refused marks before (Err e) h = rw (h e refl) refl
+section_refused : (marks : Marks) (clear : List ℕ) (before : List Stated) (section : Result (List ℕ) SealError) → ((e : SealError) → section ≡ Err e → e ≡ seal.TooShort)
+    → IfErr (private_next marks clear before section) (IsOfSection section)
+section_refused marks clear before (Ok text) h = private_refused clear text (font_read marks before text) (font_read_refusals marks before text)
+section_refused marks clear before (Err e) h = rw (h e refl) refl
 
 chosen : {A : Type 0} (test : Bool) (x : A) (e : SealError) → cond test (Err seal.TooShort) (Ok x) ≡ Err e → e ≡ seal.TooShort
 chosen true x e h = cc
@@ -36,13 +37,13 @@ too_short : (bytes : List ℕ) (e : SealError) → private_text_of bytes ≡ Err
 unfolding private_text_of opened
 too_short bytes e h = chosen (nat_lt (length (cipher_bytes (section_of bytes))) 4) _ e h
 
-texts_refused : (marks : Marks) (read : Result TextRead Unread) → ((e : Unread) → read ≡ Err e → IsClearRefusal e)
-    → IfErr (section_next marks read) (IsOfTexts read)
-texts_refused marks (Ok clear) h = section_refused marks clear.stated (private_text_of clear.rest) (too_short clear.rest)
-texts_refused marks (Err e) h = h e refl
+texts_refused : (marks : Marks) (s : List ℕ) (read : Result TextRead Unread) → ((e : Unread) → read ≡ Err e → IsClearRefusal e)
+    → IfErr (section_next marks s read) (IsOfTexts read)
+texts_refused marks s (Ok clear) h = section_refused marks (before_rest s clear.rest) clear.stated (private_text_of clear.rest) (too_short clear.rest)
+texts_refused marks s (Err e) h = h e refl
 
 joined_refused : (joined : Result JoinedText SealError) → ((e : SealError) → joined ≡ Err e → IsSegmentFault e) → IfErr (clear_next joined) (IsOfJoined joined)
-joined_refused (Ok joined) h = texts_refused (marks_in joined) (clear_of (marks_in joined) joined.bytes) (clear_refusals (marks_in joined) joined.bytes)
+joined_refused (Ok joined) h = texts_refused (marks_in joined) joined.bytes (clear_of (marks_in joined) joined.bytes) (clear_refusals (marks_in joined) joined.bytes)
 joined_refused (Err e) h = (e, (h e refl, refl))
 
 in_file : (bytes : List ℕ) → IfErr (font_in bytes) (IsOfJoined (joined_of bytes))

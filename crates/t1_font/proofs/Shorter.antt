@@ -60,7 +60,7 @@ wanted_first e s = elim (token_at s) as (λ r. token_at s ≡ r
       ]
     ] refl
 
-ahead_first : (s : List ℕ) → IfSome (token_ahead s) (RestBehind s)
+pub ahead_first : (s : List ℕ) → IfSome (token_ahead s) (RestBehind s)
 unfolding token_ahead
 ahead_first s = elim (token_at s) as (λ r. token_at s ≡ r → IfSome (elim r [ Err _ ↦ None | Ok found ↦ found ]) (RestBehind s)) [
   | Err x ↦ λ h. tt

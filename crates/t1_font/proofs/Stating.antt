@@ -1,6 +1,6 @@
 -- One statement more, and the value of all.
 -- Each kind of statement changes its own part of the value, as an entry put at the end of the list that the part is looked up in.
-use Rattle.std.proofs.Common.{◌≡◌, ◌+◌, ℕ, Bool, true, false, cond, ◌||◌, Some, None, List, [], ◌∷◌, ◌++◌, map, refl, ap, sym, ◌∙◌, arith, nat_eq, nat_lt, count_by, set, inl, inr, flat_map, append_assoc}
+use Rattle.std.proofs.Common.{◌≡◌, ◌+◌, ℕ, zero, suc, length, length-append, slice_index_or, Bool, true, false, cond, ◌||◌, Some, None, List, [], ◌∷◌, ◌++◌, map, refl, ap, sym, ◌∙◌, arith, nat_eq, nat_lt, count_by, set, inl, inr, flat_map, append_assoc}
 use Rattle.std.specs.Option.{option_or, unwrap_or}
 use Rattle.std.proofs.Math.Bool.{or-false}
 use Rattle.std.proofs.lemmas.Grind.{common_steps, flat_map-append}
@@ -18,7 +18,7 @@ use Rattle.t1_font.specs.declared.key.Key.TheVariants.{FontType, PaintType, Uniq
 use Rattle.t1_font.specs.Keys.{same_name, index_of, key_places}
 use Rattle.t1_font.specs.Puts.{put, put_pair, twice_more}
 use Rattle.t1_font.specs.PrivateText.{has_key}
-use Rattle.t1_font.specs.Fonts.{Stated, Marks, FontValue, plain, encoding, code, bad_code, size, subr, glyph, plain_of, encoding_of, code_of, size_of, subr_of, glyph_of, is_encoding, is_bad_code, last_of, after_last, firsts, last_under, keys_of, table_of, repeats, twice_of, value_of}
+use Rattle.t1_font.specs.Fonts.{Stated, Marks, FontValue, plain, encoding, code, bad_code, size, subr, glyph, plain_of, encoding_of, code_of, size_of, subr_of, glyph_of, is_encoding, is_bad_code, last_of, after_last, firsts, last_under, keys_of, table_of, repeats, twice_of, value_of, at_most_two, once_more, times_in}
 use Rattle.t1_font.specs.Laws.Keys.{TwiceIsAgain}
 use Rattle.t1_font.specs.Values.{value_of_entry, value_of_token}
 use Rattle.t1_font.proofs.Tables.{IsExact, nat_exact, name_exact, any_firsts, firsts_one, tab_step}
@@ -138,6 +138,29 @@ module _ {K : Type 0} (eq : K → K → Bool) where
       ap (twice_of eq) (keys_one ps k v) ∙ twice_one e (keys_of ps) k
       ∙ ap (twice_more eq (twice_of eq (keys_of ps)) k) (sym (has_table e d ps k))
 
+-- How often, with one more.
+twice_enough : (n : ℕ) → once_more (at_most_two n) ≡ at_most_two (suc n)
+twice_enough zero = refl
+twice_enough (suc zero) = refl
+twice_enough (suc (suc n)) = refl
+
+one_form : (forms : List Encoding) (form : Encoding) → at_most_two (length (forms ++ form ∷ [])) ≡ once_more (at_most_two (length forms))
+one_form forms form =
+    let longer : length (forms ++ form ∷ []) ≡ suc (length forms) = omega (arith, length-append forms (form ∷ [])) in
+    rw longer (sym (twice_enough (length forms)))
+
+times_more : (j k : ℕ) (ks : List ℕ) → times_in (ks ++ k ∷ []) j ≡ cond (nat_eq j k) (once_more (times_in ks j)) (times_in ks j)
+times_more j k ks = go (nat_eq j k) (sum_by-append (λ x. cond (nat_eq j x) 1 0) ks (k ∷ []))
+  where
+    go : (b : Bool) → count_by (nat_eq j) (ks ++ k ∷ []) ≡ count_by (nat_eq j) ks + (0 + cond b 1 0)
+        → times_in (ks ++ k ∷ []) j ≡ cond b (once_more (times_in ks j)) (times_in ks j)
+    go true is =
+        let more : count_by (nat_eq j) (ks ++ k ∷ []) ≡ suc (count_by (nat_eq j) ks) = omega (arith, is) in
+        rw more (sym (twice_enough (count_by (nat_eq j) ks)))
+    go false is =
+        let same : count_by (nat_eq j) (ks ++ k ∷ []) ≡ count_by (nat_eq j) ks = omega (arith, is) in
+        rw same refl
+
 fm_one : {A : Type 0} (f : Stated → List A) (es : List Stated) (e : Stated) → flat_map f (es ++ e ∷ []) ≡ flat_map f es ++ f e
 fm_one f es e = flat_map-append f es (e ∷ []) ∙ ap (λ xs. flat_map f es ++ xs) (let one : flat_map f (e ∷ []) ≡ f e = grind (arith, common_steps) in one)
 
@@ -155,6 +178,10 @@ value_from marks plains forms codes bad sizes subrs glyphs = record {
   glyphs_twice = twice_of same_name (keys_of glyphs);
   no_end = marks.no_end;
   extra = marks.extra;
+  key_times = map (times_in (keys_of plains)) key_places;
+  encoding_times = at_most_two (length forms);
+  clear_text = [];
+  private_text = [];
 }
 
 module _ (marks : Marks) (es : List Stated) where
@@ -217,11 +244,37 @@ module _ (marks : Marks) (es : List Stated) where
   placed Xuid t = simp last_one
   placed LanguageGroup t = simp last_one
 
+  counted : (k : Key) (t : Lexeme) → map (times_in (keys_of (flat_map plain_of es ++ (index_of k, t) ∷ []))) key_places
+      ≡ set (map (times_in (keys_of (flat_map plain_of es))) key_places) (index_of k)
+      (once_more (slice_index_or (map (times_in (keys_of (flat_map plain_of es))) key_places) (index_of k) 0))
+  counted FontType t = simp (keys_one nat_eq, times_more)
+  counted PaintType t = simp (keys_one nat_eq, times_more)
+  counted UniqueId t = simp (keys_one nat_eq, times_more)
+  counted PrivateUniqueId t = simp (keys_one nat_eq, times_more)
+  counted Password t = simp (keys_one nat_eq, times_more)
+  counted MinFeature t = simp (keys_one nat_eq, times_more)
+  counted LenIv t = simp (keys_one nat_eq, times_more)
+  counted BlueValues t = simp (keys_one nat_eq, times_more)
+  counted OtherBlues t = simp (keys_one nat_eq, times_more)
+  counted FamilyBlues t = simp (keys_one nat_eq, times_more)
+  counted FamilyOtherBlues t = simp (keys_one nat_eq, times_more)
+  counted BlueScale t = simp (keys_one nat_eq, times_more)
+  counted BlueShift t = simp (keys_one nat_eq, times_more)
+  counted BlueFuzz t = simp (keys_one nat_eq, times_more)
+  counted StdHw t = simp (keys_one nat_eq, times_more)
+  counted StdVw t = simp (keys_one nat_eq, times_more)
+  counted StemSnapH t = simp (keys_one nat_eq, times_more)
+  counted StemSnapV t = simp (keys_one nat_eq, times_more)
+  counted FontMatrix t = simp (keys_one nat_eq, times_more)
+  counted FontBBox t = simp (keys_one nat_eq, times_more)
+  counted Xuid t = simp (keys_one nat_eq, times_more)
+  counted LanguageGroup t = simp (keys_one nat_eq, times_more)
+
   -- What one statement more changes.
   pub value_step : (e : Stated) → value_of marks (es ++ e ∷ []) ≡ put (value_of marks es) e
   unfolding value_of
-  value_step (plain k t) = more (plain k t) refl ∙ simp (append-nil, or-false, placed k t)
-  value_step (encoding form) = new_form form ∙ simp (append-nil, last_more)
+  value_step (plain k t) = more (plain k t) refl ∙ simp (append-nil, or-false, placed k t, counted k t)
+  value_step (encoding form) = new_form form ∙ simp (append-nil, last_more, one_form)
   value_step (code n name) = more (code n name) refl ∙ simp (append-nil, or-false, table_one nat_eq nat_exact)
   value_step bad_code = more bad_code refl
       ∙ simp append-nil (ap (λ b. record (value_of marks es) { bad_code = b })

@@ -1,5 +1,5 @@
 -- The value of a font: what was stated last, looked up in the whole list of what its texts state.
-use Rattle.std.specs.Prelude.{ℕ, Bool, true, false, not, Option, Some, None, List, [], ◌∷◌, nat_eq, if◌then◌else◌, map, flat_map, filter, ◌++◌, slice_get}
+use Rattle.std.specs.Prelude.{ℕ, zero, suc, Bool, true, false, not, Option, Some, None, List, [], ◌∷◌, ◌==◌, nat_eq, count_by, length, if◌then◌else◌, map, flat_map, filter, ◌++◌, slice_get, slice_index_or}
 use Rattle.std.specs.Option.{option_or, unwrap_or}
 use Rattle.std.specs.List.{list_any}
 use Rattle.t1_scan.specs.Texts.{Lexeme}
@@ -28,7 +28,9 @@ pub record Marks : Type 0 where
 
 -- The keys have their places, each with its value. Codes, Subrs and glyphs are in the order of their
 -- first appearance, each with what was stated last. The numbers and names that were stated again are in
--- the order in which they first were.
+-- the order in which they first were. Of a key and of the Encoding it is known how often they were stated, where two stands
+-- for more as well. The texts are there when both are read: the clear one to the end of its word
+-- eexec, and all of the private one.
 pub record FontValue : Type 0 where
   pub plain : List Value
   pub encoding : Encoding
@@ -41,6 +43,10 @@ pub record FontValue : Type 0 where
   pub glyphs_twice : List (List ℕ)
   pub no_end : Bool
   pub extra : Bool
+  pub key_times : List ℕ
+  pub encoding_times : ℕ
+  pub clear_text : List ℕ
+  pub private_text : List ℕ
 
 -- What each kind of statement says.
 abbrev pub plain_of : Stated → List (ℕ × Lexeme)
@@ -116,6 +122,17 @@ twice_of eq ks = firsts eq (repeats eq [] ks)
 abbrev pub codes_of : List Stated → List (ℕ × List ℕ)
 codes_of es = table_of nat_eq [] (flat_map code_of (after_last is_encoding es))
 
+-- How often, where two stands for more as well; and once more than that.
+abbrev pub at_most_two : ℕ → ℕ
+at_most_two (suc (suc n)) = 2
+at_most_two n = n
+
+abbrev pub once_more : ℕ → ℕ
+once_more n = at_most_two (suc n)
+
+abbrev pub times_in : List ℕ → ℕ → ℕ
+times_in ks k = at_most_two (count_by (nat_eq k) ks)
+
 -- The value of all that was stated.
 unfoldable pub value_of : Marks → List Stated → FontValue
 value_of marks es =
@@ -133,7 +150,22 @@ value_of marks es =
       glyphs_twice = twice_of same_name (keys_of glyphs);
       no_end = marks.no_end;
       extra = marks.extra;
+      key_times = map (times_in (keys_of (flat_map plain_of es))) key_places;
+      encoding_times = at_most_two (length (flat_map encoding_of es));
+      clear_text = [];
+      private_text = [];
     }
+
+-- A key is stated twice or more; so is the Encoding.
+abbrev pub is_key_twice : FontValue → Key → Bool
+is_key_twice v key = slice_index_or v.key_times (index_of key) 0 == 2
+
+abbrev pub is_encoding_twice : FontValue → Bool
+is_encoding_twice v = v.encoding_times == 2
+
+-- With the texts that it was read from.
+abbrev pub with_texts : List ℕ → List ℕ → FontValue → FontValue
+with_texts clear private v = record v { clear_text = clear; private_text = private }
 
 -- A Subr, by its number, is stated twice; a glyph, by its place, where nothing is past the end.
 abbrev pub is_subr_twice : FontValue → ℕ → Bool

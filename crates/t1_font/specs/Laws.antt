@@ -8,6 +8,7 @@ pub mod Lists
 pub mod Notes
 pub mod Parts
 pub mod Refusals
+pub mod Rows
 pub mod Statements
 pub mod UsualClearText
 pub mod UsualPrivateText

@@ -12,6 +12,7 @@ pub mod PrivateText
 pub mod Puts
 pub mod Readings
 pub mod Refusals
+pub mod Rows
 pub mod Runs
 pub mod TextTurns
 pub mod Texts

@@ -4,5 +4,7 @@ pub mod KeyRows
 pub mod KeyValues
 pub mod Readings
 pub mod Room
+pub mod StatedSoFar
 pub mod Statements
 pub mod Tokens
+pub mod Turning

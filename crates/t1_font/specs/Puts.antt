@@ -1,10 +1,10 @@
 -- One statement more: what it changes of a font's value.
-use Rattle.std.specs.Prelude.{Bool, true, false, Option, Some, None, List, [], ◌∷◌, nat_eq, if◌then◌else◌, set, ◌++◌}
+use Rattle.std.specs.Prelude.{Bool, true, false, Option, Some, None, List, [], ◌∷◌, nat_eq, if◌then◌else◌, set, slice_index_or, ◌++◌}
 use Rattle.std.specs.List.{list_any}
 use Rattle.t1_font.specs.Keys.{same_name, index_of}
 use Rattle.t1_font.specs.PrivateText.{has_key}
 use Rattle.t1_font.specs.Values.{value_of_token}
-use Rattle.t1_font.specs.Fonts.{Stated, FontValue, plain, encoding, code, bad_code, size, subr, glyph}
+use Rattle.t1_font.specs.Fonts.{Stated, FontValue, plain, encoding, code, bad_code, size, subr, glyph, once_more}
 
 -- A key that is there keeps its place and takes the value; a new one goes last.
 abbrev pub put_pair : {K V : Type 0} → (K → K → Bool) → List (K × V) → K → V → List (K × V)
@@ -17,8 +17,11 @@ twice_more eq twice k true = if list_any (eq k) twice then twice else twice ++ k
 twice_more eq twice k false = twice
 
 abbrev pub put : FontValue → Stated → FontValue
-put v (plain k t) = record v { plain = set v.plain (index_of k) (value_of_token t) }
-put v (encoding form) = record v { encoding = form; codes = []; bad_code = false }
+put v (plain k t) = record v {
+  plain = set v.plain (index_of k) (value_of_token t);
+  key_times = set v.key_times (index_of k) (once_more (slice_index_or v.key_times (index_of k) 0));
+}
+put v (encoding form) = record v { encoding = form; codes = []; bad_code = false; encoding_times = once_more v.encoding_times }
 put v (code n name) = record v { codes = put_pair nat_eq v.codes n name }
 put v bad_code = record v { bad_code = true }
 put v (size n) = record v { size = Some n }

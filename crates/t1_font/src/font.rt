@@ -3,7 +3,7 @@
 ghost use Rattle.std.specs.Prelude.{◌≡◌, ◌≤◌, [], false, Some, nat_eq, length, map, is_some, OnOk, IfErr, slice_index_or};
 ghost use Rattle.std.specs.Option.{unwrap_or};
 ghost use Rattle.std.specs.Map.{lookup};
-ghost use Rattle.t1_font.specs.Fonts.{FontValue, Marks, value_of, plain, encoding, code, subr, glyph, glyph_name, is_glyph_twice, is_subr_twice};
+ghost use Rattle.t1_font.specs.Fonts.{FontValue, Marks, value_of, plain, encoding, code, subr, glyph, glyph_name, is_encoding_twice, is_glyph_twice, is_key_twice, is_subr_twice, once_more, with_texts};
 ghost use Rattle.t1_font.specs.Entries.{entry_view};
 ghost use Rattle.t1_font.specs.Keys.{index_of, same_name};
 ghost use Rattle.t1_font.specs.LenIv.{len_iv_of};
@@ -20,7 +20,7 @@ ghost use Rattle.t1_font.specs.Bounds.{most_glyphs};
 use crate::encoding::Encoding;
 use crate::entry::{Entry, value};
 use crate::key::Key;
-use crate::plain_values::PlainValues;
+use crate::plain_values::{PLAIN_KEYS, PlainValues};
 use crate::statement::Statement;
 use crate::unread::Unread;
 use indexmap::{IndexMap, IndexSet};
@@ -42,6 +42,10 @@ pub struct Font<'a> {
     glyphs_twice: IndexSet<&'a [u8]>,
     no_end: bool,
     extra: bool,
+    key_times: [u8; PLAIN_KEYS],
+    encoding_times: u8,
+    clear_text: &'a [u8],
+    private_text: &'a [u8],
 }
 
 impl<'a> Model for Font<'a> {
@@ -64,9 +68,20 @@ impl<'a> Model for Font<'a> {
       glyphs_twice = names_now f.glyphs_twice.keys;
       no_end = f.no_end;
       extra = f.extra;
+      key_times = f.key_times;
+      encoding_times = f.encoding_times;
+      clear_text = f.clear_text.now;
+      private_text = f.private_text.now;
     } };
 
     ghost invariant = { λ f. length f.glyphs.entries ≤ most_glyphs };
+}
+
+/// How often something is stated, with once more; two stands for more as well.
+fn once_more(times: u8) -> u8
+    ensures { result ≡ once_more times }
+{
+    if times == 0 { 1 } else { 2 }
 }
 
 impl<'a> Font<'a> {
@@ -87,7 +102,48 @@ impl<'a> Font<'a> {
             glyphs_twice: IndexSet::new(alloc),
             no_end,
             extra,
+            key_times: [0; PLAIN_KEYS],
+            encoding_times: 0,
+            clear_text: &[],
+            private_text: &[],
         }
+    }
+
+    /// Whether a plain key, or a noted one, was stated twice or more.
+    pub fn is_key_twice(&self, key: Key) -> bool
+        ensures { result ≡ is_key_twice self.now key }
+    {
+        self.key_times[key.place()] == 2
+    }
+
+    /// Whether an Encoding was stated twice or more.
+    pub fn is_encoding_twice(&self) -> bool
+        ensures { result ≡ is_encoding_twice self.now }
+    {
+        self.encoding_times == 2
+    }
+
+    /// Takes the texts that were read: the clear one to the end of its word `eexec`, and the private one.
+    pub(crate) fn with_texts(mut self, clear_text: &'a [u8], private_text: &'a [u8]) -> Font<'a>
+        ensures { result ≡ with_texts clear_text.now private_text.now self.entry }
+    {
+        self.clear_text = clear_text;
+        self.private_text = private_text;
+        self
+    }
+
+    /// The clear text to the end of its word `eexec`.
+    pub fn clear_text(&self) -> &'a [u8]
+        ensures { result.now ≡ self.now.clear_text }
+    {
+        self.clear_text
+    }
+
+    /// The private text, also what follows the `end` of its CharStrings.
+    pub fn private_text(&self) -> &'a [u8]
+        ensures { result.now ≡ self.now.private_text }
+    {
+        self.private_text
     }
 
     /// The glyphs, in the order of their first appearance, each with its last charstring: at most 65,535.
@@ -284,6 +340,8 @@ impl<'a> Font<'a> {
         ensures { self.new ≡ put self.old (plain key (lexeme_of token.entry)) }
     {
         self.plain.put(key, value(token.kind, token.text));
+        let place = key.place();
+        self.key_times[place] = once_more(self.key_times[place]);
     }
 
     fn put_encoding(&mut self, form: Encoding)
@@ -292,6 +350,7 @@ impl<'a> Font<'a> {
         self.encoding = form;
         self.codes.clear();
         self.bad_code = false;
+        self.encoding_times = once_more(self.encoding_times);
     }
 
     #[tactic(auto, using(crate::proofs::FontMaps::number_put))]

@@ -3,6 +3,7 @@
 ghost use Rattle.t1_font.specs.Laws.Blanks.{BlanksAgree};
 ghost use Rattle.t1_font.specs.Laws.Keys.{DifferentStay, FontsHaveDistinctKeys, NoneStandsTwice, TwiceIsAgain};
 ghost use Rattle.t1_font.specs.Laws.Notes.{ClearStaysWithoutNotes, FontsHaveTheirNotes, FontsStayWithoutNotes, PrivateStaysWithoutNotes, ValuesStayWithoutNotes};
+ghost use Rattle.t1_font.specs.Laws.Rows.{RowsGoAsTheReader};
 ghost use Rattle.t1_font.specs.Laws.Statements.{OneMore, ReadAsStated};
 ghost use Rattle.t1_font.specs.declared.mode.ClearMode.{ClearMode};
 ghost use Rattle.t1_font.specs.declared.mode.PrivateMode.{PrivateMode};
@@ -101,7 +102,7 @@ pub fn blanks_of_sections_and_tokens()
     ensures { BlanksAgree }
 {}
 
-/// Keys that are noted change their own values alone: where none is, a text is refused just as it is, or read to the same
+/// Keys that are noted change the values of noted keys alone: where none is, a text is refused just as it is, or read to the same
 /// place, and states the same but for these keys; and the font is the same but that they have no value. So a file that is
 /// read without them is refused just as it is, or its font is the same but for these values.
 pub fn noted_keys_change_nothing_else()
@@ -110,4 +111,10 @@ pub fn noted_keys_change_nothing_else()
     ensures values { ValuesStayWithoutNotes }
     ensures all { FontsHaveTheirNotes }
     ensures fonts { FontsStayWithoutNotes }
+{}
+
+/// The rows of the texts go as the reader goes: a turn that it takes after whatever was stated is the turn of the row.
+#[tactic(auto, using(crate::proofs::RowTurns::rows_go_as_the_reader))]
+pub fn rows_of_texts()
+    ensures { RowsGoAsTheReader }
 {}

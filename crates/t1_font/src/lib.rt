@@ -35,6 +35,7 @@ mod open_font;
 mod plain_values;
 mod private_text;
 mod refusal_laws;
+mod row;
 mod statement;
 mod texts;
 mod tokens;
@@ -51,8 +52,8 @@ pub use key::Key;
 pub use laws::{
     blanks_between_entries, blanks_of_sections_and_tokens, different_keys, idle_additions,
     keys_stand_once, noted_keys_change_nothing_else, one_more_statement, reading_by_statements,
-    repeated_keys, small_usual_font, usual_clear_texts, usual_fonts, usual_private_texts,
-    words_between_entries,
+    repeated_keys, rows_of_texts, small_usual_font, usual_clear_texts, usual_fonts,
+    usual_private_texts, words_between_entries,
 };
 pub use limit_laws::limits_of_fonts;
 pub use open_font::OpenFont;
@@ -60,6 +61,7 @@ pub use refusal_laws::{
     each_part_has_its_refusals, early_ends, long_charstrings, refusals_of_texts,
     small_broken_texts, unclosed_tokens,
 };
+pub use row::{Role, Row, TokenInRow};
 pub use tokens::BILLION;
 pub use unread::{RefusalCode, Unread, refusal_text};
 pub use value_laws::lists_by_tokens;

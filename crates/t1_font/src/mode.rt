@@ -17,3 +17,10 @@ pub enum PrivateMode {
     Subrs,
     Glyphs,
 }
+
+/// In either text.
+#[derive(Clone, Copy)]
+pub enum TextMode {
+    Clear(ClearMode),
+    Private(PrivateMode),
+}

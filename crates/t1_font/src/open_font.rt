@@ -68,7 +68,7 @@ fn read_texts<'a>(
     ensures few { IfOk result (λ font. length font.glyphs ≤ most_glyphs) }
 {
     let clear = read_clear(alloc, joined)?;
-    let (_, section) = joined.bytes.as_slice().split_at(clear.after());
+    let (clear_text, section) = joined.bytes.as_slice().split_at(clear.after());
     match open_eexec(alloc, section) {
         Ok(private) => *kept = private,
         Err(error) => {
@@ -76,5 +76,7 @@ fn read_texts<'a>(
             return Err(Unread::from(error));
         }
     }
-    Ok(read_font(alloc, clear, kept.as_slice())?)
+    let private_text = kept.as_slice();
+    let font = read_font(alloc, clear, private_text)?;
+    Ok(font.with_texts(clear_text, private_text))
 }

@@ -10,7 +10,7 @@ use crate::key::Key;
 use std::marker::Model;
 
 /// How many plain keys there are.
-const PLAIN_KEYS: usize = 22;
+pub const PLAIN_KEYS: usize = 22;
 
 /// What each plain key has, at the key's place.
 #[derive(Drop)]

@@ -1,10 +1,12 @@
 //! Turns of the private text: Type 1 Font Format 1.1, chapters 2, 5 and 6.
 
-ghost use Rattle.std.specs.Prelude.{◌≡◌};
-ghost use Rattle.t1_font.specs.PrivateText.{dup_turn, glyph_turn, glyphs_at, glyphs_token, is_blank_text, is_len_iv, is_len_iv_key, is_minus_one, private_outside, private_turn, private_value, subr_at, subrs_at, subrs_token, subrs_turn};
+ghost use Rattle.std.specs.Prelude.{◌≡◌, ◌&&◌, length, nat_le, not};
+ghost use Rattle.t1_font.specs.Bounds.{most_glyphs};
+ghost use Rattle.t1_font.specs.PrivateText.{dup_turn, glyph_turn, glyphs_at, glyphs_token, has_key, is_blank_text, is_len_iv, is_len_iv_key, is_minus_one, private_outside, private_turn, private_value, subr_at, subrs_at, subrs_token, subrs_turn};
 ghost use Rattle.t1_font.specs.Private.Readings.{Is};
+ghost use Rattle.t1_font.specs.Private.StatedSoFar.{stated_in};
 ghost use Rattle.t1_font.specs.Private.Statements.{turn_view};
-ghost use Rattle.t1_font.specs.Keys.{all_notes, private_key};
+ghost use Rattle.t1_font.specs.Keys.{all_notes, private_key, same_name};
 
 use crate::bounds::{GREATEST_LEN_IV, MOST_GLYPHS, MOST_SUBRS};
 use crate::font::Font;
@@ -101,14 +103,13 @@ fn subrs_at<'a>(text: &'a [u8]) -> Result<Turn<'a, PrivateMode>, Unread>
 }
 
 /// What follows `/Subrs`, which may be there once.
-#[tactic(auto, unfolding(crate::specs::PrivateText::subrs_turn))]
-fn subrs_turn<'a>(font: &Font<'a>, text: &'a [u8]) -> Result<Turn<'a, PrivateMode>, Unread>
-    ensures { Is turn_view result (subrs_turn font.now text.now) }
+#[tactic(auto, unfolding(crate::specs::PrivateText::subrs_turn, crate::specs::Fonts::value_of))]
+fn subrs_turn<'a>(font: Option<&Font<'a>>, text: &'a [u8]) -> Result<Turn<'a, PrivateMode>, Unread>
+    ensures { Is turn_view result (subrs_turn (stated_in font.entry) text.now) }
 {
-    if font.has_size() {
-        Err(Unread::SecondSubrs)
-    } else {
-        subrs_at(text)
+    match font {
+        Some(font) if font.has_size() => Err(Unread::SecondSubrs),
+        _ => subrs_at(text),
     }
 }
 
@@ -128,12 +129,12 @@ fn glyphs_at<'a>(text: &'a [u8]) -> Result<Turn<'a, PrivateMode>, Unread>
 /// A token outside the Subrs and the CharStrings.
 #[tactic(auto, unfolding(crate::specs::PrivateText::private_outside_by))]
 fn private_outside<'a>(
-    font: &Font<'a>,
+    font: Option<&Font<'a>>,
     kind: Kind,
     text: &'a [u8],
     rest: &'a [u8],
 ) -> Result<Turn<'a, PrivateMode>, Unread>
-    ensures { Is turn_view result (private_outside font.now kind text.now rest.now) }
+    ensures { Is turn_view result (private_outside (stated_in font.entry) kind text.now rest.now) }
 {
     if !is_name(kind) {
         return Ok(Turn::Goes(None, PrivateMode::Outside, rest));
@@ -178,12 +179,12 @@ fn dup_turn<'a>(text: &'a [u8]) -> Result<Turn<'a, PrivateMode>, Unread>
 /// A token among the Subrs.
 #[tactic(auto, unfolding(crate::specs::PrivateText::subrs_token_by))]
 fn subrs_token<'a>(
-    font: &Font<'a>,
+    font: Option<&Font<'a>>,
     kind: Kind,
     text: &'a [u8],
     rest: &'a [u8],
 ) -> Result<Turn<'a, PrivateMode>, Unread>
-    ensures { Is turn_view result (subrs_token font.now kind text.now rest.now) }
+    ensures { Is turn_view result (subrs_token (stated_in font.entry) kind text.now rest.now) }
 {
     if is_word(b"dup", kind, text) {
         return dup_turn(rest);
@@ -194,16 +195,27 @@ fn subrs_token<'a>(
     private_outside(font, kind, text, rest)
 }
 
+/// Whether a glyph of this name would be one too many.
+#[tactic(auto, unfolding(crate::specs::Fonts::value_of))]
+fn has_no_room(font: Option<&Font<'_>>, name: &[u8]) -> bool
+    ensures { result ≡ (nat_le most_glyphs (length (stated_in font.entry).glyphs) && not (has_key same_name (stated_in font.entry).glyphs name.now)) }
+{
+    match font {
+        Some(font) => font.glyph_count() >= MOST_GLYPHS as usize && !font.has_glyph(name),
+        None => false,
+    }
+}
+
 /// A glyph, after its name.
 #[tactic(auto, unfolding(crate::specs::PrivateText::glyph_turn))]
 fn glyph_turn<'a>(
-    font: &Font<'a>,
+    font: Option<&Font<'a>>,
     name: &'a [u8],
     text: &'a [u8],
 ) -> Result<Turn<'a, PrivateMode>, Unread>
-    ensures { Is turn_view result (glyph_turn font.now name.now text.now) }
+    ensures { Is turn_view result (glyph_turn (stated_in font.entry) name.now text.now) }
 {
-    if font.glyph_count() >= MOST_GLYPHS as usize && !font.has_glyph(name) {
+    if has_no_room(font, name) {
         return Err(Unread::PastLimit);
     }
     let (bytes, rest) = charstring(text, Unread::BadCharStrings)?;
@@ -217,12 +229,12 @@ fn glyph_turn<'a>(
 /// A token among the glyphs.
 #[tactic(auto, unfolding(crate::specs::PrivateText::glyphs_token))]
 fn glyphs_token<'a>(
-    font: &Font<'a>,
+    font: Option<&Font<'a>>,
     kind: Kind,
     text: &'a [u8],
     rest: &'a [u8],
 ) -> Result<Turn<'a, PrivateMode>, Unread>
-    ensures { Is turn_view result (glyphs_token font.now kind text.now rest.now) }
+    ensures { Is turn_view result (glyphs_token (stated_in font.entry) kind text.now rest.now) }
 {
     if is_word(b"end", kind, text) {
         return Ok(Turn::Over(rest));
@@ -236,14 +248,14 @@ fn glyphs_token<'a>(
     Err(Unread::BadCharStrings)
 }
 
-/// One turn of the private text.
+/// One turn of the private text, after what is stated so far, if anything is.
 #[tactic(auto, unfolding(crate::specs::PrivateText::private_turn_by))]
 pub(crate) fn private_turn<'a>(
-    font: &Font<'a>,
+    font: Option<&Font<'a>>,
     mode: PrivateMode,
     text: &'a [u8],
 ) -> Result<Turn<'a, PrivateMode>, Unread>
-    ensures { Is turn_view result (private_turn font.now mode text.now) }
+    ensures { Is turn_view result (private_turn (stated_in font.entry) mode text.now) }
 {
     let (token, rest) = wanted(text, Unread::BadCharStrings)?;
     match mode {

@@ -10,6 +10,7 @@ use crate::tokens::token_ahead;
 use t1_scan::Token;
 
 /// What a text states.
+#[derive(Clone, Copy)]
 pub enum Statement<'a> {
     /// A plain key and its value.
     Plain(Key, Token<'a>),

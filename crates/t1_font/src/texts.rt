@@ -43,7 +43,7 @@ pub(crate) fn take_private<'a>(font: &mut Font<'a>, text: &'a [u8]) -> Result<()
     let mut left = text;
     let mut mode = PrivateMode::Outside;
     'turns: loop {
-        match private_turn(font, mode, left)? {
+        match private_turn(Some(font), mode, left)? {
             Turn::Over(_) => return Ok(()),
             Turn::Goes(statement, next, rest) => {
                 font.put_one(statement)?;

@@ -49,7 +49,7 @@ braces_ignored p b h k =
     rw (h, none) (elim (b == 125) as (λ c. 0 ≡ (if c then 0 - 1 else 0)) [ true ↦ refl | false ↦ refl ])
 
 -- a byte that is skipped alone
-single_part : (b : ℕ) (s : List ℕ) → (b == 37) ≡ false → (b == 40) ≡ false → (b == 60) ≡ false → part_len b s ≡ Some 1
+pub single_part : (b : ℕ) (s : List ℕ) → (b == 37) ≡ false → (b == 40) ≡ false → (b == 60) ≡ false → part_len b s ≡ Some 1
 unfolding part_len
 single_part b s h k l = rw (h, k, l) refl
 
@@ -89,7 +89,7 @@ line_end_idle true b h = grind (arith, nat_tests)
 line_end_idle false b h = grind (arith, nat_tests)
 
 -- the bytes of a comment, up to the end of its line
-comment_read : (bytes : List ℕ) (line_end : ℕ) (s : List ℕ) → list_all (λ b. not (is_line_end b)) bytes ≡ true → is_line_end line_end ≡ true
+pub comment_read : (bytes : List ℕ) (line_end : ℕ) (s : List ℕ) → list_all (λ b. not (is_line_end b)) bytes ≡ true → is_line_end line_end ≡ true
     → comment_len (bytes ++ (line_end ∷ s)) ≡ length bytes
 comment_read [] line_end s h k = rw k refl
 comment_read (b ∷ bytes) line_end s h k =

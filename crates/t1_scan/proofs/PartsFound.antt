@@ -64,7 +64,7 @@ angle_part f (c ∷ t) m e =
           })
     ]
 
-not_false : (b : Bool) → not b ≡ false → b ≡ true
+pub not_false : (b : Bool) → not b ≡ false → b ≡ true
 not_false true h = refl
 not_false false h = absurd (false≢true (sym h))
 
@@ -90,11 +90,11 @@ pub nothing_inside : (a p : ℕ) → inside_len 0 a p [] ≡ None
 unfolding inside_len
 nothing_inside a p = refl
 
-part_40 : (s : List ℕ) → part_len 40 s ≡ further 1 (string_len false 1 s)
+pub part_40 : (s : List ℕ) → part_len 40 s ≡ further 1 (string_len false 1 s)
 unfolding part_len
 part_40 s = refl
 
-part_60 : (s : List ℕ) → part_len 60 s ≡ further 1 (angle_len s)
+pub part_60 : (s : List ℕ) → part_len 60 s ≡ further 1 (angle_len s)
 unfolding part_len
 part_60 s = refl
 

@@ -46,4 +46,5 @@ pub use laws::{
 };
 pub use runs::run_len;
 pub use scanner::Scanner;
+pub use strings::part_len;
 pub use token::{Kind, Token};

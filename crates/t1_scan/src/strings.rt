@@ -63,7 +63,8 @@ fn angle_len(text: &[u8]) -> Option<usize>
     }
 }
 
-/// What is skipped whole: a comment, a string, `<<`, or else one byte, which begins here.
+/// How many bytes are skipped whole in a procedure or an array, from this first byte on: a comment, to before the end of its
+/// line; a string; `<<`; or else one byte. None where a string isn't closed.
 #[tactic(auto, unfolding(crate::specs::Lengths::part_len))]
 pub fn part_len(first: u8, rest: &[u8]) -> Option<usize>
     ensures value { result ≡ part_len first rest.now }

@@ -5,7 +5,7 @@ use Rattle.t1_seal.specs.Segments.{joined_of}
 use Rattle.t1_seal.specs.declared.errors.SealError.{SealError}
 use Rattle.t1_font.specs.declared.unread.Unread.{Unread}
 use Rattle.t1_font.specs.ClearText.{clear_of, clear_of_by}
-use Rattle.t1_font.specs.FontFiles.{font_in, marks_in, of_seal_error}
+use Rattle.t1_font.specs.FontFiles.{before_rest, font_in, marks_in, of_seal_error, read_with}
 use Rattle.t1_font.specs.Fonts.{FontValue, Marks, Stated, plain, value_of}
 use Rattle.t1_font.specs.Keys.{Notes, all_notes, index_of, no_notes, taken_keys}
 use Rattle.t1_font.specs.PrivateText.{private_of, private_of_by}
@@ -26,9 +26,12 @@ abbrev pub read_without : Result TextRead Unread → Result TextRead Unread
 read_without (Ok read) = Ok (record { stated = without_notes read.stated; rest = read.rest })
 read_without (Err e) = Err e
 
--- A font whose noted keys have no value.
+-- A font whose noted keys have no value, and were never stated.
 abbrev pub unnoted : FontValue → FontValue
-unnoted v = record v { plain = take taken_keys v.plain ++ absent ∷ absent ∷ absent ∷ absent ∷ [] }
+unnoted v = record v {
+  plain = take taken_keys v.plain ++ absent ∷ absent ∷ absent ∷ absent ∷ [];
+  key_times = take taken_keys v.key_times ++ 0 ∷ 0 ∷ 0 ∷ 0 ∷ [];
+}
 
 -- Where no key is noted a text is refused just as it is, or read to the same place, and states the same but for noted keys.
 abbrev pub ClearStaysWithoutNotes : Type 0
@@ -52,7 +55,7 @@ font_by notes bytes =
     of_seal (joined_of bytes) >>= λ joined.
     clear_of_by notes (marks_in joined) joined.bytes >>= λ clear.
     of_seal (private_text_of clear.rest) >>= λ text.
-    font_value_of (marks_in joined) (private_of_by notes (marks_in joined) clear.stated text)
+    read_with (before_rest joined.bytes clear.rest) text (font_value_of (marks_in joined) (private_of_by notes (marks_in joined) clear.stated text))
 
 -- Where all four are noted, it's the font.
 abbrev pub FontsHaveTheirNotes : Type 0

@@ -5,9 +5,10 @@ use Rattle.t1_font.proofs.open_font.read_texts.Goals as goal
 
 pub returns-clause-gives : goal.returns-clause-gives
 returns-clause-gives c =
-    font_found (joined_text c.args.joined.now) c.in_ok-clear.clear c.in_ok-clear.ensures.gives c.in_ok-clear.ensures.behind
-    c.in-Ok.private.items c.in_ok-read_font.field-0 (rw (c.split_at.ensures.back, c.as_slice.ensures.value, c.after.ensures) at c.in-Ok.ensures)
-    (rw c.as_slice-2.ensures.value at c.in_ok-read_font.ensures.stated)
+    rw (c.with_texts.ensures, c.split_at.ensures.front, c.after.ensures, c.as_slice.ensures.value, c.as_slice-private_text.ensures.value)
+    (font_found (joined_text c.args.joined.now) c.in_ok-clear.clear c.in_ok-clear.ensures.gives c.in_ok-clear.ensures.behind
+    c.in-Ok.private.items c.in_ok-font.font (rw (c.split_at.ensures.back, c.as_slice.ensures.value, c.after.ensures) at c.in-Ok.ensures)
+    (rw c.as_slice-private_text.ensures.value at c.in_ok-font.ensures.stated))
 
 pub returns-in_err-clear-clause-gives : goal.returns-in_err-clear-clause-gives
 returns-in_err-clear-clause-gives c =
@@ -20,10 +21,10 @@ returns-in-Err-clause-gives c =
     (no_section (joined_text c.args.joined.now) c.in_ok-clear.clear c.in_ok-clear.ensures.gives c.in_ok-clear.ensures.behind _
     (rw (c.split_at.ensures.back, c.as_slice.ensures.value, c.after.ensures) at c.in-Err.ensures))
 
-pub returns-in_err-read_font-clause-gives : goal.returns-in_err-read_font-clause-gives
-returns-in_err-read_font-clause-gives c =
-    let p = err_from_is_err_and c.from_residual-in_err-read_font.result c.from_residual-in_err-read_font.ensures.1 in
+pub returns-in_err-font-clause-gives : goal.returns-in_err-font-clause-gives
+returns-in_err-font-clause-gives c =
+    let p = err_from_is_err_and c.from_residual-in_err-font.result c.from_residual-in_err-font.ensures.1 in
     rw (p.1, p.2)
     (no_font (joined_text c.args.joined.now) c.in_ok-clear.clear c.in_ok-clear.ensures.gives c.in_ok-clear.ensures.behind
     c.in-Ok.private.items (rw (c.split_at.ensures.back, c.as_slice.ensures.value, c.after.ensures) at c.in-Ok.ensures) _
-    (rw c.as_slice-2.ensures.value at c.in_err-read_font.ensures.stated))
+    (rw c.as_slice-private_text.ensures.value at c.in_err-font.ensures.stated))

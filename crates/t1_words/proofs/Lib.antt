@@ -1,0 +1,5 @@
+pub mod NumbersRead
+pub mod PairsFound
+pub mod PairsRead
+pub mod Steps
+pub mod WordsRead
