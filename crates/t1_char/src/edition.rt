@@ -2,19 +2,22 @@
 
 ghost use Rattle.std.specs.Prelude.{◌≡◌, ◌≤◌};
 ghost use Rattle.t1_char.specs.declared.edition.Edition.TheVariants.{Two};
-ghost use Rattle.t1_char.specs.Editions.{digit_of, edition_numbered, has_later_rules, knows_one_edge, limit_of};
+ghost use Rattle.t1_char.specs.Editions.{digit_of, edition_numbered, has_later_rules, has_latest_rules, knows_one_edge, limit_of};
 
 /// An edition of the rule book. The second looks at ten times as many steps of a glyph, and has a word of
-/// its own for stems of one edge. The third is the second with the rules after number 70.
+/// its own for stems of one edge. The third is the second with the rules after number 70, the fourth the third
+/// with those after number 93.
 #[derive(Clone, Copy, Debug, PartialEq, Eq)]
 pub enum Edition {
     One,
     Two,
     Three,
+    Four,
 }
 
 impl Edition {
-    /// The edition of a number, if there is one: the first has the number 1.
+    /// The edition of a number, if it can be asked for: the first has the number 1. The fourth can't be yet, since
+    /// its rules on what is drawn are to come.
     pub fn numbered(number: u64) -> Option<Edition>
         ensures { result ≡ edition_numbered number }
     {
@@ -34,6 +37,7 @@ impl Edition {
             Edition::One => "1",
             Edition::Two => "2",
             Edition::Three => "3",
+            Edition::Four => "4",
         }
     }
 
@@ -44,7 +48,7 @@ impl Edition {
     {
         match self {
             Edition::One => 100_000,
-            Edition::Two | Edition::Three => 1_000_000,
+            Edition::Two | Edition::Three | Edition::Four => 1_000_000,
         }
     }
 
@@ -54,7 +58,7 @@ impl Edition {
     {
         match self {
             Edition::One => false,
-            Edition::Two | Edition::Three => true,
+            Edition::Two | Edition::Three | Edition::Four => true,
         }
     }
 
@@ -64,7 +68,17 @@ impl Edition {
     {
         match self {
             Edition::One | Edition::Two => false,
-            Edition::Three => true,
+            Edition::Three | Edition::Four => true,
+        }
+    }
+
+    /// Whether it has the rules after number 93.
+    pub fn has_latest_rules(self) -> bool
+        ensures { result ≡ has_latest_rules self }
+    {
+        match self {
+            Edition::One | Edition::Two | Edition::Three => false,
+            Edition::Four => true,
         }
     }
 }

@@ -6,8 +6,9 @@ use Rattle.std.proofs.lemmas.List.Elements.{All-head, All-tail}
 use Rattle.std.proofs.lemmas.Option.{none-some, slice_get-get_or}
 use Rattle.std.specs.List.{list_all}
 use Rattle.t1_font.specs.ClearText.{clear_of}
-use Rattle.t1_font.specs.FontFiles.{clear_next, font_in, marks_in, private_next, section_next}
-use Rattle.t1_font.specs.Fonts.{FontValue, Marks, glyph_name}
+use Rattle.t1_font.specs.FontFiles.{before_rest, clear_next, font_in, marks_in, private_next, read_with, section_next}
+use Rattle.t1_font.specs.Fonts.{FontValue, Marks, glyph_name, with_texts}
+use Rattle.t1_font.specs.Texts.{font_read}
 use Rattle.t1_font.specs.TextTurns.{TextRead}
 use Rattle.t1_font.specs.declared.unread.Unread.{Unread}
 use Rattle.t1_lines.proofs.Cuts.{some_same}
@@ -74,14 +75,19 @@ module _ (font : FontValue) (waivers : List Waiver) where
 
 -- ---- of fonts and waivers that were read
 
+read_named : (before private : List ℕ) (r : Result FontValue Unread) → ((v : FontValue) → r ≡ Ok v → HasNames v) → (font : FontValue)
+    → read_with before private r ≡ Ok font → HasNames font
+read_named before private (Ok v) named font is = let same : with_texts before private v ≡ font = cc in subst HasNames same (named v refl)
+read_named before private (Err e) named font is = cc
+
 private_named : (marks : Marks) (clear : TextRead) (bytes : List ℕ) → clear_of marks bytes ≡ Ok clear → (r : Result (List ℕ) SealError)
-    → (font : FontValue) → private_next marks clear.stated r ≡ Ok font → HasNames font
+    → (font : FontValue) → private_next marks (before_rest bytes clear.rest) clear.stated r ≡ Ok font → HasNames font
 private_named marks clear bytes is_clear (Ok text) font is =
-    fonts_have_names marks bytes text clear font is_clear is
+    read_named (before_rest bytes clear.rest) text (font_read marks clear.stated text) (λ v read. fonts_have_names marks bytes text clear v is_clear read) font is
 private_named marks clear bytes is_clear (Err e) font is = cc
 
 section_named : (marks : Marks) (bytes : List ℕ) (r : Result TextRead Unread) → clear_of marks bytes ≡ r → (font : FontValue)
-    → section_next marks r ≡ Ok font → HasNames font
+    → section_next marks bytes r ≡ Ok font → HasNames font
 section_named marks bytes (Ok clear) is_clear font is = private_named marks clear bytes is_clear (private_text_of clear.rest) font is
 section_named marks bytes (Err e) is_clear font is = cc
 

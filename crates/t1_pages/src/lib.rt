@@ -1026,6 +1026,94 @@ fn w03() -> &'static Page {
     &W03
 }
 
+static F22: Page = Page {
+    code: "F22",
+    anchor: "f22-byte-above-126-in-the-clear-text",
+    title: "byte above 126 in the clear text",
+    text: "Level *should* (Type 1 Format, chapter 2): some programs refuse or change the file.\n\nThe clear text is a program of printable ASCII, blanks and line ends. A byte of 127 or more is mostly an accented letter in a notice or a comment.\nWhat copies the font as text may change it, and the file's lengths with it. Here a comment has the byte of `é` in Latin 1.\n\n    % Ren\\351\n    1: font file 0 F22 byte above 126 in the clear text\n\nMended:\n\n    % Rene\n\nHow much it matters: 18 of 2,084 real fonts have it.\n\nCure: write the letter without its accent, as `(c)` for the copyright sign.",
+};
+
+fn f22() -> &'static Page {
+    &F22
+}
+
+static F23: Page = Page {
+    code: "F23",
+    anchor: "f23-key-given-twice",
+    title: "key given twice",
+    text: "Level *should* (our own rule): some interpreters take the first value, others the last.\n\nAn entry is given twice where its name comes with a value a second time, in the dictionary that it belongs to. t1check takes the last value. Here\ninterpreters differ about FontBBox.\n\n    /FontBBox {0 0 0} def\n    /FontBBox {0 0 1000 1000} def\n    1: font FontBBox 0 F23 key given twice\n\nMended:\n\n    /FontBBox {0 0 1000 1000} def\n\nHow much it matters: 12 of 2,084 real fonts have it. Ten give LanguageGroup two or three times, two a UniqueID in Private.\n\nCure: leave all entries out but the one that you mean.",
+};
+
+fn f23() -> &'static Page {
+    &F23
+}
+
+static F24: Page = Page {
+    code: "F24",
+    anchor: "f24-charstring-word-not-defined",
+    title: "charstring word not defined",
+    text: "Level *must* (Type 1 Format, chapter 2): an interpreter refuses the font at its first charstring.\n\nThe word after a charstring's length, RD or `-|`, reads the charstring's bytes. A font defines it itself, in Private, before the Subrs. The nearest\ndefinition counts. Its procedure is `string currentfile exch readstring pop`; with other words it leaves something else on the stack, or reads other\nbytes. Here `pop` is missing.\n\n    /RD {string currentfile exch readstring} executeonly def\n    1: font file 0 F24 charstring word not defined\n\nMended:\n\n    /RD {string currentfile exch readstring pop} executeonly def\n\nCure: define the word in Private as above. The procedure that ends an entry, ND or `|-`, isn't looked at.",
+};
+
+fn f24() -> &'static Page {
+    &F24
+}
+
+static F25: Page = Page {
+    code: "F25",
+    anchor: "f25-brace-or-bracket-without-a-partner",
+    title: "brace or bracket without a partner",
+    text: "Level *must* (our own rule): an interpreter stops there, or reads the rest of the text as something else.\n\nOutside of procedures and arrays a word `}`, `]`, `)` or `>` closes nothing. Within them brackets pair as a stack does: `{ [ }` and `[ } ]` don't. Up\nto 32 may be open.\n\n    20}dict begin\n    1: font file 0 F25 brace or bracket without a partner\n\nMended:\n\n    20 dict begin\n\nCure: take the sign out, or write its partner.",
+};
+
+fn f25() -> &'static Page {
+    &F25
+}
+
+static F26: Page = Page {
+    code: "F26",
+    anchor: "f26-unknown-word",
+    title: "unknown word",
+    text: "Level *must* (our own rule): an interpreter refuses the font with the error `undefined`.\n\nA word is executed. It has to be a number, or a name that the font has written before it, or one of PostScript's own words. Those that fonts use are\nknown here:\n\n    array begin bind closefile copy currentdict currentfile def definefont dict dup eexec end exch executeonly\n    false findfont FontDirectory for get getinterval if ifelse index known length mark maxlength noaccess pop\n    put putinterval readonly readstring StandardEncoding string systemdict true userdict << >>\n\nHere a letter has come before a word.\n\n    Rversion (1.0) readonly def\n    1: font file 0 F26 unknown word\n\nMended:\n\n    /version (1.0) readonly def\n\nHow much it matters: no word of 2,084 real fonts is reported.\n\nCure: mend the word. A word of your own needs its definition before it.",
+};
+
+fn f26() -> &'static Page {
+    &F26
+}
+
+static F27: Page = Page {
+    code: "F27",
+    anchor: "f27-fontmatrix-cant-be-inverted",
+    title: "FontMatrix can't be inverted",
+    text: "Level *must* (Type 1 Format, chapter 2): an interpreter stops with the error `undefinedresult`, or draws nothing.\n\nA rasteriser also needs the way back from the page to the units of the glyph. Of a matrix whose products `v0 v3` and `v1 v2` are equal there is none:\nall points come to lie on one line.\n\n    /FontMatrix [0.001 0 0.001 0 0 0] def\n    1: font FontMatrix 0 F27 FontMatrix can't be inverted\n\nMended:\n\n    /FontMatrix [0.001 0 0 0.001 0 0] def\n\nCure: write `/FontMatrix [0.001 0 0 0.001 0 0] def`, or your font's own six numbers.",
+};
+
+fn f27() -> &'static Page {
+    &F27
+}
+
+static F28: Page = Page {
+    code: "F28",
+    anchor: "f28-no-private-dictionary",
+    title: "no Private dictionary",
+    text: "Level *must* (Type 1 Format, chapter 2): an interpreter has no dictionary for the entries of the private text, and refuses the font.\n\nThe private text begins with `dup /Private 16 dict dup begin`. This rule looks for `/Private`, a whole number of 1 or more, `dict`, `dup` and `begin`,\none right after the other, before the Subrs and the CharStrings. Here a letter is missing.\n\n    dup /Privat 16 dict dup begin\n    1: font file 0 F28 no Private dictionary\n\nMended:\n\n    dup /Private 16 dict dup begin\n\nCure: begin the dictionary so.",
+};
+
+fn f28() -> &'static Page {
+    &F28
+}
+
+static F29: Page = Page {
+    code: "F29",
+    anchor: "f29-unusual-first-line",
+    title: "unusual first line",
+    text: "Level *must* (Type 1 Format, chapter 2): FreeType doesn't open the file.\n\nPrograms know a Type 1 font by its first bytes, `%!PS-AdobeFont` or `%!FontType`. A PFB file has them after the header of its first segment.\n\n    %!PS-8dobeFont-1.0: T\n    1: font file 0 F29 unusual first line\n\nMended:\n\n    %!PS-AdobeFont-1.0: T\n\nCure: begin the file with `%!PS-AdobeFont-1.0: `, the FontName and the version.",
+};
+
+fn f29() -> &'static Page {
+    &F29
+}
+
 static E01: Page = Page {
     code: "E01",
     anchor: "e01-not-a-pfa-or-pfb",
@@ -1193,7 +1281,7 @@ fn e15() -> &'static Page {
 
 /// All pages, in the order of docs/RULES.md. A page is borrowed by a function of its own: of a static array of all the borrow
 /// checker's part stops at its limit.
-pub fn pages() -> [Page; 108] {
+pub fn pages() -> [Page; 116] {
     [
         *f01(),
         *f02(),
@@ -1288,6 +1376,14 @@ pub fn pages() -> [Page; 108] {
         *o07(),
         *o08(),
         *w03(),
+        *f22(),
+        *f23(),
+        *f24(),
+        *f25(),
+        *f26(),
+        *f27(),
+        *f28(),
+        *f29(),
         *e01(),
         *e02(),
         *e03(),

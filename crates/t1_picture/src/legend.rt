@@ -52,7 +52,7 @@ fn title_line(alloc: Global, edition: Edition, title: &str) -> Result<String, Al
 {
     match edition {
         Edition::One => String::from_str(alloc, title),
-        Edition::Two | Edition::Three => {
+        Edition::Two | Edition::Three | Edition::Four => {
             let digit = edition.digit();
             format!(in alloc; "{title}, edition {digit}")
         }

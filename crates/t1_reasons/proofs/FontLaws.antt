@@ -4,22 +4,22 @@ use Rattle.std.specs.List.{find, list_all, list_any}
 use Rattle.std.specs.Map.{lookup}
 use Rattle.std.specs.Option.{unwrap_or}
 use Rattle.std.specs.Ordering.{int_eq}
-use Rattle.std.proofs.Math.Bool.{and-false}
+use Rattle.std.proofs.Math.Bool.{and-false, or-false}
 use Rattle.std.proofs.lemmas.Bool.{leb-true}
 use Rattle.std.proofs.lemmas.Int.{ints}
 use Rattle.std.proofs.Math.Nat.{le-div_iff_mul-le, mul_comm}
 use Rattle.t1_char.specs.declared.edition.Edition.{Edition}
-use Rattle.t1_char.specs.declared.edition.Edition.TheVariants.{One, Three, Two}
-use Rattle.t1_char.specs.Editions.{has_later_rules}
+use Rattle.t1_char.specs.declared.edition.Edition.TheVariants.{Four, One, Three, Two}
+use Rattle.t1_char.specs.Editions.{has_later_rules, has_latest_rules}
 use Rattle.t1_font.specs.declared.key.Key.{Key}
 use Rattle.t1_font.specs.declared.key.Key.TheVariants.{FontType, PaintType, UniqueId, PrivateUniqueId, Password, MinFeature, BlueValues, BlueScale, BlueShift, BlueFuzz, FontMatrix, FontBBox, Xuid, LanguageGroup}
 use Rattle.t1_font.specs.Fonts.{FontValue, is_subr_twice}
 use Rattle.t1_font.specs.Values.{Value, absent, number as one_number, numbers as several_numbers, other as another}
 use Rattle.t1_scan.specs.Numbers.{billion}
 use Rattle.t1_rules.specs.declared.rule.Rule.{Rule}
-use Rattle.t1_rules.specs.declared.rule.Rule.TheVariants.{F01, F02, F03, F04, F05, F06, F07, F08, F09, F10, F11, F12, F13, F14, F15, F16, F17, F18, F19, F20, F21, Z01, Z02, Z03, Z04, Z05, Z06, Z07, Z08, Z09, Z10, Z11, Z12, Z13, Z14, Z15, Z16, Z17, Z18, Z19}
+use Rattle.t1_rules.specs.declared.rule.Rule.TheVariants.{F01, F02, F03, F04, F05, F06, F07, F08, F09, F10, F11, F12, F13, F14, F15, F16, F17, F18, F19, F20, F21, Z01, Z02, Z03, Z04, Z05, Z06, Z07, Z08, Z09, Z10, Z11, Z12, Z13, Z14, Z15, Z16, Z17, Z18, Z19, F22, F23, F24, F25, F26, F27, F28, F29}
 use Rattle.t1_rules.specs.Book.{last_number_before, number_of}
-use Rattle.t1_rules.specs.FontRules.{FontRule, each, each_of, first_font_rules, font_rules, later_font_rules, later_rules_in, says, violated}
+use Rattle.t1_rules.specs.FontRules.{FontRule, each, each_of, first_font_rules, font_rules, later_font_rules, latest_font_rules, says, violated}
 use Rattle.t1_rules.specs.FontRules.Dictionaries.{are_exchanged as corners_exchanged, has_corners_exchanged, has_number_past_range, is_malformed, is_no_group}
 use Rattle.t1_rules.specs.FontRules.Encoding.{is_no_form}
 use Rattle.t1_rules.specs.FontRules.Hints.{falls_at, has_fraction_at, has_too_many, hint_keys, is_of_another_kind, is_of_kind, is_past_fuzzes, is_past_scales, is_past_shifts, number_at, numbers_at, repeats_at}
@@ -30,7 +30,7 @@ use Rattle.t1_rules.specs.FontRules.Values.{count_in, first_in, is_absent, is_nu
 use Rattle.t1_rules.specs.FontRules.Zones.{begins_zone, come_near, comes_near_high, distance, has_odd_count, high_of, is_too_high, is_too_near, low_zone_keys, meets, scale, zone_keys, zones}
 use Rattle.t1_rules.specs.Keys.{index_count, key_among, key_number, list_limit_of, value_at, xuid_limit}
 use Rattle.t1_rules.proofs.Lemmas.Book.{both}
-use Rattle.t1_rules.proofs.Lemmas.FontRules.{in_later, in_parts, later_rules_change_no_other}
+use Rattle.t1_rules.proofs.Lemmas.FontRules.{in_parts, later_rules_change_no_other}
 use Rattle.t1_rules.specs.declared.font_rules.zones.Edges.{Edges}
 use Rattle.t1_reasons.specs.declared.reason.EntryKind.TheVariants.{Number as OneNumber, Numbers as ManyNumbers}
 use Rattle.t1_reasons.specs.declared.reason.Reason.{Reason}
@@ -354,35 +354,41 @@ told_decides edition font rule key index = and_true is_broken ∙ sym (such_wher
     is_broken : Bool
     is_broken = violated (font_rules edition) (number_of rule) font key index
 
--- A rule that the first part of the book hasn't says what the later part does, where the edition has that.
-later_says : (edition : Edition) (n : ℕ) → without_number n first_font_rules ≡ true → (font : FontValue) (key index : ℕ)
+-- A rule that neither the first part of the book has nor the latest says what the later part does, where the edition has that.
+later_says : (edition : Edition) (n : ℕ) → without_number n first_font_rules ≡ true → without_number n latest_font_rules ≡ true
+    → (font : FontValue) (key index : ℕ)
     → violated (font_rules edition) n font key index ≡ (has_later_rules edition && violated later_font_rules n font key index)
-later_says edition n other font key index =
+later_says edition n other apart font key index =
     in_parts edition n font key index
-    ∙ ap (λ b. b || violated (later_rules_in edition) n font key index) (none_says n first_font_rules other font key index)
-    ∙ in_later edition n font key index
+    ∙ rw (
+      none_says n first_font_rules other font key index,
+      none_says n latest_font_rules apart font key index,
+      and-false (has_latest_rules edition),
+    ) (or-false (has_later_rules edition && violated later_font_rules n font key index))
 
-later_decides : (edition : Edition) (rule : Rule) → without_number (number_of rule) first_font_rules ≡ true → (font : FontValue) (key index : ℕ) (row : FontReasonRow)
+later_decides : (edition : Edition) (rule : Rule) → without_number (number_of rule) first_font_rules ≡ true
+    → without_number (number_of rule) latest_font_rules ≡ true → (font : FontValue) (key index : ℕ) (row : FontReasonRow)
     → violated later_font_rules (number_of rule) font key index ≡ is_some (first_in_font_row row font key index)
     → violated (font_rules edition) (number_of rule) font key index
     ≡ is_some (first_in_font_row (if has_later_rules edition then row else no_font_row) font key index)
-later_decides edition rule other font key index row same = later_says edition (number_of rule) other font key index ∙ go (has_later_rules edition)
+later_decides edition rule other apart font key index row same = later_says edition (number_of rule) other apart font key index ∙ go (has_later_rules edition)
   where
     go : (b : Bool) → (b && violated later_font_rules (number_of rule) font key index) ≡ is_some (first_in_font_row (if b then row else no_font_row) font key index)
     go true = same
     go false = refl
 
 -- One of them that only tells.
-told_later : (edition : Edition) (rule : Rule) → without_number (number_of rule) first_font_rules ≡ true → (font : FontValue) (key index : ℕ)
+told_later : (edition : Edition) (rule : Rule) → without_number (number_of rule) first_font_rules ≡ true
+    → without_number (number_of rule) latest_font_rules ≡ true → (font : FontValue) (key index : ℕ)
     → violated (font_rules edition) (number_of rule) font key index
     ≡ is_some (first_in_font_row (if has_later_rules edition then told_font_row edition rule else no_font_row) font key index)
-told_later edition rule other font key index = go (has_later_rules edition) refl
+told_later edition rule other apart font key index = go (has_later_rules edition) refl
   where
     go : (b : Bool) → has_later_rules edition ≡ b → violated (font_rules edition) (number_of rule) font key index
         ≡ is_some (first_in_font_row (if b then told_font_row edition rule else no_font_row) font key index)
     go true has = told_decides edition font rule key index
     go false has =
-        later_says edition (number_of rule) other font key index ∙ ap (λ b. b && violated later_font_rules (number_of rule) font key index) has
+        later_says edition (number_of rule) other apart font key index ∙ ap (λ b. b && violated later_font_rules (number_of rule) font key index) has
 
 -- The row of a rule up to number 70 decides, in the first part of the book.
 first_decides : (edition : Edition) (n place : ℕ) (r : FontRule) → nat_le n last_number_before ≡ true → slice_get first_font_rules place ≡ Some r
@@ -395,7 +401,7 @@ first_decides edition n place r few there own front rest font key index =
 -- ---- all of them
 
 pub fonts_broken_where_reason : FontsBreakWhereThereIsAReason
-unfolding first_font_rules later_font_rules
+unfolding first_font_rules later_font_rules latest_font_rules
 fonts_broken_where_reason edition font F03 key index =
     first_decides edition 3 2 _ refl refl refl refl refl font key index
     ∙ keys_agree (is_wrong_entry F03) (λ font k index. index == 0 && not (is_the_number 1 (value_at font k))) entries_at (entry_agrees F03 (λ v. not (is_the_number 1 v)) not_one) (FontType ∷ []) font key index
@@ -452,46 +458,46 @@ fonts_broken_where_reason edition font Z10 key index =
 fonts_broken_where_reason edition font Z11 key index =
     first_decides edition 25 24 _ refl refl refl refl refl font key index
     ∙ keys_agree is_apart (λ font k index. index == 0 && width_is_apart font k) widths_at snapped snap_keys font key index
-fonts_broken_where_reason edition font F15 key index = later_decides edition F15 refl font key index (later_font_row edition F15)
+fonts_broken_where_reason edition font F15 key index = later_decides edition F15 refl refl font key index (later_font_row edition F15)
     (font_row_decides 71 later_font_rules 0 _ refl refl refl refl font key index
     ∙ keys_agree (is_wrong_entry F15) (λ font k index. index == 0 && not (is_so_many 6 (value_at font k))) entries_at (entry_agrees F15 (λ v. not (is_so_many 6 v)) not_six) (FontMatrix ∷ []) font key index)
-fonts_broken_where_reason edition font F16 key index = later_decides edition F16 refl font key index (later_font_row edition F16)
+fonts_broken_where_reason edition font F16 key index = later_decides edition F16 refl refl font key index (later_font_row edition F16)
     (font_row_decides 72 later_font_rules 1 _ refl refl refl refl font key index
     ∙ keys_agree (is_wrong_entry F16) (λ font k index. index == 0 && not (is_so_many 4 (value_at font k))) entries_at (entry_agrees F16 (λ v. not (is_so_many 4 v)) not_four) (FontBBox ∷ []) font key index)
-fonts_broken_where_reason edition font F17 key index = later_decides edition F17 refl font key index (later_font_row edition F17)
+fonts_broken_where_reason edition font F17 key index = later_decides edition F17 refl refl font key index (later_font_row edition F17)
     (font_row_decides 73 later_font_rules 2 _ refl refl refl refl font key index
     ∙ keys_agree are_exchanged (λ font k index. has_corners_exchanged (value_at font k) index) corners_at exchanged_at (FontBBox ∷ []) font key index)
-fonts_broken_where_reason edition font F18 key index = later_decides edition F18 refl font key index (later_font_row edition F18)
+fonts_broken_where_reason edition font F18 key index = later_decides edition F18 refl refl font key index (later_font_row edition F18)
     (font_row_decides 74 later_font_rules 3 _ refl refl refl refl font key index
     ∙ keys_agree (is_wrong_entry F18) (λ font k index. index == 0 && is_malformed (value_at font k)) entries_at (entry_agrees F18 is_malformed malformed) (Xuid ∷ []) font key index)
-fonts_broken_where_reason edition font F19 key index = later_decides edition F19 refl font key index (later_font_row edition F19)
+fonts_broken_where_reason edition font F19 key index = later_decides edition F19 refl refl font key index (later_font_row edition F19)
     (font_row_decides 75 later_font_rules 4 _ refl refl refl refl font key index
     ∙ keys_agree (is_wrong_listed F19) (λ font k index. has_number_past_range (value_at font k) index) (λ font k index. listed_in (first_in xuid_limit (value_at font k)) index) (λ font k index. listed F19 (first_in xuid_limit (value_at font k)) index) (Xuid ∷ []) font key index)
-fonts_broken_where_reason edition font F20 key index = later_decides edition F20 refl font key index (later_font_row edition F20)
+fonts_broken_where_reason edition font F20 key index = later_decides edition F20 refl refl font key index (later_font_row edition F20)
     (font_row_decides 76 later_font_rules 5 _ refl refl refl refl font key index
     ∙ keys_agree (is_wrong_entry F20) (λ font k index. index == 0 && is_no_group (value_at font k)) entries_at (entry_agrees F20 is_no_group no_group) (LanguageGroup ∷ []) font key index)
-fonts_broken_where_reason edition font Z12 key index = later_decides edition Z12 refl font key index (later_font_row edition Z12)
+fonts_broken_where_reason edition font Z12 key index = later_decides edition Z12 refl refl font key index (later_font_row edition Z12)
     (font_row_decides 78 later_font_rules 7 _ refl refl refl refl font key index
     ∙ keys_agree (is_wrong_entry Z12) (λ font k index. index == 0 && is_absent (value_at font k)) entries_at (entry_agrees Z12 is_absent nothing_there) (BlueValues ∷ []) font key index)
-fonts_broken_where_reason edition font Z13 key index = later_decides edition Z13 refl font key index (later_font_row edition Z13)
+fonts_broken_where_reason edition font Z13 key index = later_decides edition Z13 refl refl font key index (later_font_row edition Z13)
     (font_row_decides 79 later_font_rules 8 _ refl refl refl refl font key index
     ∙ keys_agree (is_wrong_listed Z13) (λ font k index. index == 0 && is_not_above_zero (first_in 1 (value_at font k))) first_widths_at not_above width_keys font key index)
-fonts_broken_where_reason edition font Z14 key index = later_decides edition Z14 refl font key index (later_font_row edition Z14)
+fonts_broken_where_reason edition font Z14 key index = later_decides edition Z14 refl refl font key index (later_font_row edition Z14)
     (font_row_decides 80 later_font_rules 9 _ refl refl refl refl font key index
     ∙ keys_agree (is_wrong_listed Z14) (λ font k index. has_fraction_at (numbers_at font k) index) (λ font k index. listed_in (numbers_at font k) index) (λ font k index. listed Z14 (numbers_at font k) index) zone_keys font key index)
-fonts_broken_where_reason edition font Z15 key index = later_decides edition Z15 refl font key index (later_font_row edition Z15)
+fonts_broken_where_reason edition font Z15 key index = later_decides edition Z15 refl refl font key index (later_font_row edition Z15)
     (font_row_decides 81 later_font_rules 10 _ refl refl refl refl font key index
     ∙ keys_agree repeats (λ font k index. repeats_at (numbers_at font k) index) (λ font k index. falls_in (numbers_at font k) index) (λ font k index. repeated (numbers_at font k) index) snap_keys font key index)
-fonts_broken_where_reason edition font Z16 key index = later_decides edition Z16 refl font key index (later_font_row edition Z16)
+fonts_broken_where_reason edition font Z16 key index = later_decides edition Z16 refl refl font key index (later_font_row edition Z16)
     (font_row_decides 82 later_font_rules 11 _ refl refl refl refl font key index
     ∙ keys_agree is_any (λ font k index. index == 0 && has_no_snap font k) unsnapped_at unsnapped snap_keys font key index)
-fonts_broken_where_reason edition font Z17 key index = later_decides edition Z17 refl font key index (later_font_row edition Z17)
+fonts_broken_where_reason edition font Z17 key index = later_decides edition Z17 refl refl font key index (later_font_row edition Z17)
     (font_row_decides 83 later_font_rules 12 _ refl refl refl refl font key index
     ∙ keys_agree (is_wrong_entry Z17) (λ font k index. index == 0 && (is_number_so is_past_scales) (value_at font k)) entries_at (entry_agrees Z17 (is_number_so is_past_scales) (number_so is_past_scales)) (BlueScale ∷ []) font key index)
-fonts_broken_where_reason edition font Z18 key index = later_decides edition Z18 refl font key index (later_font_row edition Z18)
+fonts_broken_where_reason edition font Z18 key index = later_decides edition Z18 refl refl font key index (later_font_row edition Z18)
     (font_row_decides 84 later_font_rules 13 _ refl refl refl refl font key index
     ∙ keys_agree (is_wrong_entry Z18) (λ font k index. index == 0 && (is_number_so is_past_shifts) (value_at font k)) entries_at (entry_agrees Z18 (is_number_so is_past_shifts) (number_so is_past_shifts)) (BlueShift ∷ []) font key index)
-fonts_broken_where_reason edition font Z19 key index = later_decides edition Z19 refl font key index (later_font_row edition Z19)
+fonts_broken_where_reason edition font Z19 key index = later_decides edition Z19 refl refl font key index (later_font_row edition Z19)
     (font_row_decides 85 later_font_rules 14 _ refl refl refl refl font key index
     ∙ keys_agree (is_wrong_entry Z19) (λ font k index. index == 0 && (is_number_so is_past_fuzzes) (value_at font k)) entries_at (entry_agrees Z19 (is_number_so is_past_fuzzes) (number_so is_past_fuzzes)) (BlueFuzz ∷ []) font key index)
 fonts_broken_where_reason edition font F01 key index = told_decides edition font F01 key index
@@ -500,17 +506,34 @@ fonts_broken_where_reason edition font F09 key index = told_decides edition font
 fonts_broken_where_reason edition font F10 key index = told_decides edition font F10 key index
 fonts_broken_where_reason edition font F12 key index = told_decides edition font F12 key index
 fonts_broken_where_reason edition font F13 key index = told_decides edition font F13 key index
-fonts_broken_where_reason edition font F21 key index = told_later edition F21 refl font key index
+fonts_broken_where_reason edition font F22 key index = told_decides edition font F22 key index
+fonts_broken_where_reason edition font F23 key index = told_decides edition font F23 key index
+fonts_broken_where_reason edition font F24 key index = told_decides edition font F24 key index
+fonts_broken_where_reason edition font F25 key index = told_decides edition font F25 key index
+fonts_broken_where_reason edition font F26 key index = told_decides edition font F26 key index
+fonts_broken_where_reason edition font F27 key index = told_decides edition font F27 key index
+fonts_broken_where_reason edition font F28 key index = told_decides edition font F28 key index
+fonts_broken_where_reason edition font F29 key index = told_decides edition font F29 key index
+fonts_broken_where_reason edition font F21 key index = told_later edition F21 refl refl font key index
 fonts_broken_where_reason edition font rule key index =
-    later_decides edition rule refl font key index no_font_row (none_says (number_of rule) later_font_rules refl font key index)
+    later_decides edition rule refl refl font key index no_font_row (none_says (number_of rule) later_font_rules refl font key index)
 
 -- The rules that compare nothing.
 pub others_compare : OthersCompareNumbersInFonts
 others_compare _ F21 is = refl
 others_compare _ Z16 is = refl
+others_compare _ F22 is = refl
+others_compare _ F23 is = refl
+others_compare _ F24 is = refl
+others_compare _ F25 is = refl
+others_compare _ F26 is = refl
+others_compare _ F27 is = refl
+others_compare _ F28 is = refl
+others_compare _ F29 is = refl
 others_compare One _ is = is
 others_compare Two _ is = is
 others_compare Three _ is = is
+others_compare Four _ is = is
 
 pub reasons_are_against : FontReasonsAreAgainstTheirRules
 reasons_are_against edition font rule key index reason e = record {

@@ -13,7 +13,7 @@ use Rattle.t1_font.specs.declared.key.Key.TheVariants.{FontType, PaintType, Uniq
 use Rattle.t1_font.specs.Fonts.{FontValue, is_subr_twice}
 use Rattle.t1_font.specs.Values.{Value, absent, number as one_number, numbers as several_numbers, other as another}
 use Rattle.t1_rules.specs.declared.rule.Rule.{Rule}
-use Rattle.t1_rules.specs.declared.rule.Rule.TheVariants.{F01, F02, F03, F04, F05, F06, F07, F08, F09, F10, F11, F12, F13, F14, F15, F16, F17, F18, F19, F20, F21, Z01, Z02, Z03, Z04, Z05, Z06, Z07, Z08, Z09, Z10, Z11, Z12, Z13, Z14, Z15, Z16, Z17, Z18, Z19}
+use Rattle.t1_rules.specs.declared.rule.Rule.TheVariants.{F01, F02, F03, F04, F05, F06, F07, F08, F09, F10, F11, F12, F13, F14, F15, F16, F17, F18, F19, F20, F21, Z01, Z02, Z03, Z04, Z05, Z06, Z07, Z08, Z09, Z10, Z11, Z12, Z13, Z14, Z15, Z16, Z17, Z18, Z19, F22, F23, F24, F25, F26, F27, F28, F29}
 use Rattle.t1_rules.specs.Book.{number_of}
 use Rattle.t1_rules.specs.FontRules.{font_rules, violated}
 use Rattle.t1_rules.specs.FontRules.Encoding.{is_no_form}
@@ -360,7 +360,7 @@ no_font_row = font_reason_row (λ font key index. []) (λ reason. false)
 
 -- The rules on fonts that compare nothing. Z16 tells the standard width that has no snap beside it.
 abbrev pub font_rules_that_only_tell : List Rule
-font_rules_that_only_tell = F01 ∷ F02 ∷ F09 ∷ F10 ∷ F12 ∷ F13 ∷ F21 ∷ Z16 ∷ []
+font_rules_that_only_tell = F01 ∷ F02 ∷ F09 ∷ F10 ∷ F12 ∷ F13 ∷ F21 ∷ Z16 ∷ F22 ∷ F23 ∷ F24 ∷ F25 ∷ F26 ∷ F27 ∷ F28 ∷ F29 ∷ []
 
 -- The rows of the rules after number 70, in an edition that has them.
 abbrev pub later_font_row : Edition → Rule → FontReasonRow
@@ -382,7 +382,7 @@ later_font_row edition Z18 = entry_row Z18 (BlueShift ∷ [])
 later_font_row edition Z19 = entry_row Z19 (BlueFuzz ∷ [])
 later_font_row edition _ = no_font_row
 
--- Each rule's row: those of the rules up to number 70, and the others.
+-- Each rule's row: those of the rules up to number 70, of those after number 93, which only tell, and the others.
 abbrev pub font_row_of : Edition → Rule → FontReasonRow
 font_row_of edition F01 = told_font_row edition F01
 font_row_of edition F02 = told_font_row edition F02
@@ -409,6 +409,14 @@ font_row_of edition Z08 = entry_row Z08 width_keys
 font_row_of edition Z09 = font_reason_row (at_keys snap_keys excess_at) is_excess
 font_row_of edition Z10 = font_reason_row (at_keys snap_keys (λ font k index. falls_in (numbers_at font k) index)) falls
 font_row_of edition Z11 = font_reason_row (at_keys snap_keys widths_at) is_apart
+font_row_of edition F22 = told_font_row edition F22
+font_row_of edition F23 = told_font_row edition F23
+font_row_of edition F24 = told_font_row edition F24
+font_row_of edition F25 = told_font_row edition F25
+font_row_of edition F26 = told_font_row edition F26
+font_row_of edition F27 = told_font_row edition F27
+font_row_of edition F28 = told_font_row edition F28
+font_row_of edition F29 = told_font_row edition F29
 font_row_of edition rule = if has_later_rules edition then later_font_row edition rule else no_font_row
 
 -- The first candidate that is against the rule.

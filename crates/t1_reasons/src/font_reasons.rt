@@ -69,9 +69,20 @@ pub fn font_reason(
     ensures { result ≡ font_reason edition font.now rule key index }
 {
     match rule {
-        Rule::F01 | Rule::F02 | Rule::F09 | Rule::F10 | Rule::F12 | Rule::F13 => {
-            told_reason(font, rule, key, index, edition)
-        }
+        Rule::F01
+        | Rule::F02
+        | Rule::F09
+        | Rule::F10
+        | Rule::F12
+        | Rule::F13
+        | Rule::F22
+        | Rule::F23
+        | Rule::F24
+        | Rule::F25
+        | Rule::F26
+        | Rule::F27
+        | Rule::F28
+        | Rule::F29 => told_reason(font, rule, key, index, edition),
         Rule::F03 => entry_reason(rule, font, key_among(&[Key::FontType], key)?, index),
         Rule::F04 => entry_reason(rule, font, key_among(&[Key::PaintType], key)?, index),
         Rule::F05 => entry_reason(rule, font, key_among(&ID_KEYS, key)?, index),

@@ -7,7 +7,7 @@ use t1_rules::{Edges, Point, Stem};
 
 /// What a rule compares where it is broken, or what it tells of that place. Numbers of charstrings are in units of 1/65536, those of
 /// dictionaries in units of 10^-9. Steps are numbered from 1.
-#[derive(Clone, Copy, Debug, PartialEq, Eq)]
+#[derive(Clone, Copy, PartialEq, Eq)]
 pub enum Reason {
     /// The rule and its place say all.
     Nothing,

@@ -955,7 +955,7 @@ fn reasons_at_steps(rt: HostRuntime) -> Result<(), Fail> {
     for rows in [TOKENS, OUTLINES, PATHS, CALLS] {
         for (glyphs, step, rule, reason) in rows {
             let found = reason_of(rt.alloc(), glyphs, Edition::One, *step, *rule)?;
-            assert_eq!(rt; found, *reason, "{glyphs}");
+            assert!(rt; found == *reason, "{glyphs}");
         }
     }
     Ok(())
@@ -966,6 +966,6 @@ fn reasons_at_steps(rt: HostRuntime) -> Result<(), Fail> {
 fn reasons_by_the_second_edition(rt: HostRuntime) -> Result<(), Fail> {
     let glyphs = "T: 0 500 hsbw 0 -20 hstem -10 5 hstem endchar";
     let found = reason_of(rt.alloc(), glyphs, Edition::Two, 9, Rule::H02)?;
-    assert_eq!(rt; found, None);
+    assert!(rt; found == None);
     Ok(())
 }

@@ -723,7 +723,7 @@ fn entries_have_reasons(rt: HostRuntime) -> Result<(), Fail> {
             Some(found) => Some(Reason::Entry { found: *found }),
             None => None,
         };
-        assert_eq!(rt; reason, want, "{clear} {lines}");
+        assert!(rt; reason == want, "{clear} {lines}");
     }
     for (clear, lines, rule, key, index, want) in ENTRIES {
         let reason = entry_reason(
@@ -735,7 +735,7 @@ fn entries_have_reasons(rt: HostRuntime) -> Result<(), Fail> {
             *index,
             Edition::Three,
         )?;
-        assert_eq!(rt; reason, *want, "{clear} {lines}");
+        assert!(rt; reason == *want, "{clear} {lines}");
     }
     Ok(())
 }
@@ -744,7 +744,7 @@ fn entries_have_reasons(rt: HostRuntime) -> Result<(), Fail> {
 fn steps_have_reasons(rt: HostRuntime) -> Result<(), Fail> {
     for (words, step, rule, want) in STEPS {
         let reason = step_reason(rt.alloc(), words, *step, *rule, Edition::Three)?;
-        assert_eq!(rt; reason, *want, "{words}");
+        assert!(rt; reason == *want, "{words}");
     }
     Ok(())
 }
@@ -754,15 +754,15 @@ fn earlier_editions_have_none(rt: HostRuntime) -> Result<(), Fail> {
     for edition in [Edition::One, Edition::Two] {
         for (clear, lines, rule, key, _found) in FOUND {
             let reason = entry_reason(rt.alloc(), clear, lines, *rule, *key, 0, edition)?;
-            assert_eq!(rt; reason, None, "{clear} {lines}");
+            assert!(rt; reason == None, "{clear} {lines}");
         }
         for (clear, lines, rule, key, index, _want) in ENTRIES {
             let reason = entry_reason(rt.alloc(), clear, lines, *rule, *key, *index, edition)?;
-            assert_eq!(rt; reason, None, "{clear} {lines}");
+            assert!(rt; reason == None, "{clear} {lines}");
         }
         for (words, step, rule, _want) in STEPS {
             let reason = step_reason(rt.alloc(), words, *step, *rule, edition)?;
-            assert_eq!(rt; reason, None, "{words}");
+            assert!(rt; reason == None, "{words}");
         }
     }
     Ok(())

@@ -1,8 +1,8 @@
 //! Laws above the definitions: each is the contract of a function without a body.
 
 ghost use Rattle.t1_report.specs.Laws.Editions.{CleanFontsStayClean, UsualFontsHaveOneReport};
-ghost use Rattle.t1_report.specs.Laws.LaterRules.{EarlierReportsHaveNoLaterRule, EarlierReportsKnowNoNotes, ThirdReportsAsTheSecond};
-ghost use Rattle.t1_char.specs.declared.edition.Edition.TheVariants.{One, Three, Two};
+ghost use Rattle.t1_report.specs.Laws.LaterRules.{EarlierReportsHaveNoLaterRule, EarlierReportsKnowNoNotes, FirstThreeReportNoLatestRule, FourthReportsAsTheThird, ThirdReportsAsTheSecond};
+ghost use Rattle.t1_char.specs.declared.edition.Edition.TheVariants.{Four, One, Three, Two};
 ghost use Rattle.t1_report.specs.Laws.Limits.{AreCheckedTo};
 ghost use Rattle.t1_report.specs.Laws.PassedLines.{PassedLinesBreakNoRule, WatchersMoveOnByLines};
 ghost use Rattle.t1_report.specs.Laws.PassedNumbers.{CalmIsBehindNoReplacement, CalmWatchersStandBehindNumbers, PassedNumbersBreakNoRule};
@@ -63,6 +63,7 @@ pub fn the_limit_is_one_step()
     ensures first { AreCheckedTo 100000 One }
     ensures second { AreCheckedTo 1000000 Two }
     ensures third { AreCheckedTo 1000000 Three }
+    ensures fourth { AreCheckedTo 1000000 Four }
 {}
 
 /// Numbers that a machine passes break no rule, unless the first of them is directly after a hint replacement or the
@@ -98,6 +99,13 @@ pub fn later_rules_stand_beside()
     ensures earlier { EarlierReportsHaveNoLaterRule }
     ensures notes { EarlierReportsKnowNoNotes }
     ensures others { ThirdReportsAsTheSecond }
+{}
+
+/// The first three editions report no rule after number 93. The fourth reports the other rules as the third does, where
+/// waivers are of these alone.
+pub fn latest_rules_stand_beside()
+    ensures first_three { FirstThreeReportNoLatestRule }
+    ensures others { FourthReportsAsTheThird }
 {}
 
 /// Without waivers what is reported is what is broken, and no step is requested for one.

@@ -43,10 +43,11 @@ pub use faults::Fault;
 pub use laws::{
     a_font_has_one_report, clean_fonts_stay_clean, each_font_has_a_report,
     faults_after_a_mark_are_the_rest, faults_after_the_first_mark_are_the_report,
-    faults_of_a_unit_are_the_reports, later_rules_stand_beside, marks_count_the_faults_given,
-    no_waivers_change_nothing, order_and_repetition_have_no_say, passed_lines_break_no_rule,
-    passed_numbers_break_no_rule, the_limit_is_one_step, usual_fonts_have_one_report,
-    waiver_lines_are_waivers, waivers_are_asked_to_the_first_use, waivers_leave_out_what_they_say,
+    faults_of_a_unit_are_the_reports, later_rules_stand_beside, latest_rules_stand_beside,
+    marks_count_the_faults_given, no_waivers_change_nothing, order_and_repetition_have_no_say,
+    passed_lines_break_no_rule, passed_numbers_break_no_rule, the_limit_is_one_step,
+    usual_fonts_have_one_report, waiver_lines_are_waivers, waivers_are_asked_to_the_first_use,
+    waivers_leave_out_what_they_say,
 };
 pub use lines::write_fault;
 pub use marks::Mark;

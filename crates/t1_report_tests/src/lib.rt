@@ -15,7 +15,7 @@
 //! | `arguments`, `calls`, `paths`, `stems`, `replacements` | rules on tokens, calls, paths and hints |
 //! | `flex`, `flex_ends`, `current_point`, `othersubrs` | rules on flex and OtherSubrs |
 //! | `seac`, `sidebearings`, `components` | rules on accented characters |
-//! | `editions`, `third_edition`, `limit` | the editions of the rule book, what the third adds, and the limit of steps |
+//! | `editions`, `third_edition`, `fourth_edition`, `limit` | the editions of the rule book, what the third and the fourth add, and the limit of steps |
 //! | `order`, `lines` | order and lines of faults |
 //! | `machines`, `marks`, `units`, `waivers` | machines; faults one at a time, from any mark on, of one unit, and with waivers |
 //! | `hostile` | fonts that are made to take long |
@@ -42,6 +42,8 @@ mod flex;
 mod flex_ends;
 #[cfg(test)]
 mod fonts;
+#[cfg(test)]
+mod fourth_edition;
 #[cfg(test)]
 mod hostile;
 #[cfg(test)]

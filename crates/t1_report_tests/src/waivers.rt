@@ -94,7 +94,7 @@ const TEXTS: &[(&[u8], Option<&[u8]>)] = &[
 
 #[test]
 fn texts_are_waivers_or_not(rt: HostRuntime) -> Result<(), Fail> {
-    for edition in [Edition::One, Edition::Two, Edition::Three] {
+    for edition in [Edition::One, Edition::Two, Edition::Three, Edition::Four] {
         for (text, pairs) in TEXTS {
             assert!(rt; has_pairs(rt.alloc(), text, edition, *pairs)?, "{text:?}");
         }
@@ -114,13 +114,19 @@ const LATER: &[(&[u8], Option<&[u8]>)] = &[
     (b"A F21", None),
     (b"A Z12", None),
     (b"A Z19", None),
+    (b"A F22", None),
+    (b"A F29", None),
 ];
 
 #[test]
-fn later_rules_are_waived_in_the_third_edition(rt: HostRuntime) -> Result<(), Fail> {
+fn later_rules_are_waived_from_the_third_edition_on(rt: HostRuntime) -> Result<(), Fail> {
     for (text, pairs) in LATER {
         assert!(rt;
             has_pairs(rt.alloc(), text, Edition::Three, *pairs)?,
+            "{text:?}"
+        );
+        assert!(rt;
+            has_pairs(rt.alloc(), text, Edition::Four, *pairs)?,
             "{text:?}"
         );
         assert!(rt;

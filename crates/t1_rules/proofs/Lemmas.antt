@@ -39,6 +39,7 @@ pub mod StandardNames
 pub mod StemLaws
 pub mod Stems
 pub mod StepRules
+pub mod Texts
 pub mod Tokens
 pub mod Triples
 pub mod Watches

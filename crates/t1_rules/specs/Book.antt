@@ -4,7 +4,7 @@ use Rattle.t1_font.specs.Keys.{same_name}
 use Rattle.t1_rules.specs.declared.level.Level.{Level}
 use Rattle.t1_rules.specs.declared.level.Level.TheVariants.{Must, Should, Tidy}
 use Rattle.t1_rules.specs.declared.rule.Rule.{Rule}
-use Rattle.t1_rules.specs.declared.rule.Rule.TheVariants.{F01, F02, F03, F04, F05, F06, F07, F08, F09, F10, F11, F12, F13, F14, Z01, Z02, Z03, Z04, Z05, Z06, Z07, Z08, Z09, Z10, Z11, C01, C02, C03, C04, C05, C06, C07, C08, C09, S01, S02, S03, S04, GE01, GE02, W01, W02, P01, P02, P03, H01, H02, H03, H04, R01, R02, X01, X02, X03, X04, X05, X06, O01, O02, O03, O04, K01, K02, K03, K04, K05, K06, K07, L01, U01, F15, F16, F17, F18, F19, F20, F21, Z12, Z13, Z14, Z15, Z16, Z17, Z18, Z19, H05, H06, H07, O05, O06, O07, O08, W03}
+use Rattle.t1_rules.specs.declared.rule.Rule.TheVariants.{F01, F02, F03, F04, F05, F06, F07, F08, F09, F10, F11, F12, F13, F14, Z01, Z02, Z03, Z04, Z05, Z06, Z07, Z08, Z09, Z10, Z11, C01, C02, C03, C04, C05, C06, C07, C08, C09, S01, S02, S03, S04, GE01, GE02, W01, W02, P01, P02, P03, H01, H02, H03, H04, R01, R02, X01, X02, X03, X04, X05, X06, O01, O02, O03, O04, K01, K02, K03, K04, K05, K06, K07, L01, U01, F15, F16, F17, F18, F19, F20, F21, Z12, Z13, Z14, Z15, Z16, Z17, Z18, Z19, H05, H06, H07, O05, O06, O07, O08, W03, F22, F23, F24, F25, F26, F27, F28, F29}
 
 -- An entry of the book: a rule's number, which is its place there, from 1 on; how much a violation matters; the
 -- rule's code, as it is in a line of the report; and what is reported of a violation.
@@ -111,6 +111,14 @@ entry_of O06 = entry 90 Must (codes "O06") (codes "counter control again")
 entry_of O07 = entry 91 Must (codes "O07") (codes "counter control leaves numbers")
 entry_of O08 = entry 92 Must (codes "O08") (codes "counter control has no end")
 entry_of W03 = entry 93 Must (codes "W03") (codes "OtherSubr before hsbw or sbw")
+entry_of F22 = entry 94 Should (codes "F22") (codes "byte above 126 in the clear text")
+entry_of F23 = entry 95 Should (codes "F23") (codes "key given twice")
+entry_of F24 = entry 96 Must (codes "F24") (codes "charstring word not defined")
+entry_of F25 = entry 97 Must (codes "F25") (codes "brace or bracket without a partner")
+entry_of F26 = entry 98 Must (codes "F26") (codes "unknown word")
+entry_of F27 = entry 99 Must (codes "F27") (codes "FontMatrix can't be inverted")
+entry_of F28 = entry 100 Must (codes "F28") (codes "no Private dictionary")
+entry_of F29 = entry 101 Must (codes "F29") (codes "unusual first line")
 
 abbrev pub number_of : Rule → ℕ
 number_of rule = (entry_of rule).number
@@ -125,12 +133,15 @@ code_of rule = (entry_of rule).code
 abbrev pub text_of : Rule → List ℕ
 text_of rule = (entry_of rule).text
 
--- The greatest number of a rule of the first two editions, and of a rule.
+-- The greatest number of a rule of the first two editions, of the third, and of a rule.
 abbrev pub last_number_before : ℕ
 last_number_before = 70
 
+abbrev pub last_number_of_third : ℕ
+last_number_of_third = 93
+
 abbrev pub last_number : ℕ
-last_number = 93
+last_number = 101
 
 -- All rules, in the order of their numbers.
 abbrev pub rules : List Rule
@@ -141,7 +152,8 @@ rules =
     ∷ P01 ∷ P02 ∷ P03 ∷ H01 ∷ H02 ∷ H03 ∷ H04 ∷ R01 ∷ R02 ∷ X01 ∷ X02 ∷ X03 ∷ X04 ∷ X05
     ∷ X06 ∷ O01 ∷ O02 ∷ O03 ∷ O04 ∷ K01 ∷ K02 ∷ K03 ∷ K04 ∷ K05 ∷ K06 ∷ K07 ∷ L01 ∷ U01
     ∷ F15 ∷ F16 ∷ F17 ∷ F18 ∷ F19 ∷ F20 ∷ F21 ∷ Z12 ∷ Z13 ∷ Z14 ∷ Z15 ∷ Z16 ∷ Z17 ∷ Z18 ∷ Z19
-    ∷ H05 ∷ H06 ∷ H07 ∷ O05 ∷ O06 ∷ O07 ∷ O08 ∷ W03 ∷ []
+    ∷ H05 ∷ H06 ∷ H07 ∷ O05 ∷ O06 ∷ O07 ∷ O08 ∷ W03
+    ∷ F22 ∷ F23 ∷ F24 ∷ F25 ∷ F26 ∷ F27 ∷ F28 ∷ F29 ∷ []
 
 -- The first of these rules that has a code.
 unfoldable pub coded_in : List ℕ → List Rule → Option Rule

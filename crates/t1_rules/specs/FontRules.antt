@@ -6,22 +6,25 @@ pub mod Hints
 pub mod Ids
 pub mod Stems
 pub mod Subrs
+pub mod Texts
 pub mod Values
 pub mod Zones
 use Rattle.std.specs.Prelude.{ℕ, ◌==◌, ◌&&◌, ◌||◌, Bool, false, not, List, [], ◌∷◌, ◌++◌, map, if◌then◌else◌}
 use Rattle.std.specs.List.{list_any}
-use Rattle.t1_char.specs.Editions.{has_later_rules}
+use Rattle.t1_char.specs.Editions.{has_later_rules, has_latest_rules}
 use Rattle.t1_char.specs.declared.edition.Edition.{Edition}
 use Rattle.t1_font.specs.declared.key.Key.{Key}
 use Rattle.t1_font.specs.declared.key.Key.TheVariants.{FontType, PaintType, PrivateUniqueId, Password, MinFeature, BlueValues, BlueScale, BlueShift, BlueFuzz, FontMatrix, FontBBox, Xuid, LanguageGroup}
-use Rattle.t1_font.specs.Fonts.{FontValue}
+use Rattle.t1_font.specs.Fonts.{FontValue, is_encoding_twice, is_key_twice}
 use Rattle.t1_font.specs.Values.{Value}
 use Rattle.t1_rules.specs.declared.rule.Rule.{Rule}
-use Rattle.t1_rules.specs.declared.rule.Rule.TheVariants.{F01, F02, F03, F04, F05, F06, F07, F08, F09, F10, F11, F12, F13, F14, Z01, Z02, Z03, Z04, Z05, Z06, Z07, Z08, Z09, Z10, Z11, F15, F16, F17, F18, F19, F20, F21, Z12, Z13, Z14, Z15, Z16, Z17, Z18, Z19}
+use Rattle.t1_rules.specs.declared.rule.Rule.TheVariants.{F01, F02, F03, F04, F05, F06, F07, F08, F09, F10, F11, F12, F13, F14, Z01, Z02, Z03, Z04, Z05, Z06, Z07, Z08, Z09, Z10, Z11, F15, F16, F17, F18, F19, F20, F21, Z12, Z13, Z14, Z15, Z16, Z17, Z18, Z19, F22, F23, F24, F25, F26, F27, F28, F29}
 use Rattle.t1_rules.specs.Book.{number_of}
 use Rattle.t1_rules.specs.Keys.{file_key, encoding_key, subrs_key, glyphs_key, key_number, value_at}
 use Rattle.t1_rules.specs.FontRules.Values.{first_in, is_absent, is_number_so, is_so_many, is_the_number, is_sixteen_twice}
-use Rattle.t1_rules.specs.FontRules.Dictionaries.{has_corners_exchanged, has_number_past_range, is_malformed, is_no_group}
+use Rattle.t1_words.specs.Headers.{begins_as_type1, has_high_byte}
+use Rattle.t1_rules.specs.FontRules.Dictionaries.{has_corners_exchanged, has_number_past_range, is_malformed, is_no_group, is_singular}
+use Rattle.t1_rules.specs.FontRules.Texts.{has_unknown_word, has_unpaired, has_unread_charstring, lacks_private, plain_keys}
 use Rattle.t1_rules.specs.FontRules.Ids.{id_keys, is_past_range, ids_differ}
 use Rattle.t1_rules.specs.FontRules.Glyphs.{not_defined, has_glyph, is_glyph_given_twice}
 use Rattle.t1_rules.specs.FontRules.Encoding.{is_no_form, encodes_missing}
@@ -149,12 +152,36 @@ later_font_rules =
     ∷ font_row Z19 (value BlueFuzz (is_number_so is_past_fuzzes))
     ∷ []
 
--- The rules on fonts of an edition: the later ones too, where it has them.
+-- The part after number 93.
+unfoldable pub latest_font_rules : List FontRule
+latest_font_rules =
+    -- A byte of the clear text is above 126. Type 1 Font Format, chapter 2.
+    font_row F22 (once file_key (λ font. has_high_byte font.clear_text))
+    -- An entry is given twice. Own.
+    ∷ font_row F23 (once encoding_key is_encoding_twice ++ each_of plain_keys (λ font k index. index == 0 && is_key_twice font k))
+    -- A word before a charstring isn't defined to read it. Type 1 Font Format, chapter 2.
+    ∷ font_row F24 (once file_key has_unread_charstring)
+    -- A brace or a bracket has no partner. Own.
+    ∷ font_row F25 (once file_key has_unpaired)
+    -- A word is neither known nor given. Own.
+    ∷ font_row F26 (once file_key has_unknown_word)
+    -- FontMatrix has no inverse. Type 1 Font Format, chapter 2.
+    ∷ font_row F27 (value FontMatrix is_singular)
+    -- No Private dictionary is begun before the Subrs and the CharStrings. Type 1 Font Format, chapter 2.
+    ∷ font_row F28 (once file_key lacks_private)
+    -- The file begins as no Type 1 font does. Type 1 Font Format, chapter 2.
+    ∷ font_row F29 (once file_key (λ font. not (begins_as_type1 font.clear_text)))
+    ∷ []
+
+-- The rules on fonts of an edition: the later ones and the latest too, where it has them.
 abbrev pub later_rules_in : Edition → List FontRule
 later_rules_in edition = if has_later_rules edition then later_font_rules else []
 
+abbrev pub latest_rules_in : Edition → List FontRule
+latest_rules_in edition = if has_latest_rules edition then latest_font_rules else []
+
 abbrev pub font_rules : Edition → List FontRule
-font_rules edition = first_font_rules ++ later_rules_in edition
+font_rules edition = first_font_rules ++ (later_rules_in edition ++ latest_rules_in edition)
 
 -- What the tests of a rule say at a key and an index; nothing at a key that none of them has.
 abbrev pub says : List KeyTest → FontValue → ℕ → ℕ → Bool

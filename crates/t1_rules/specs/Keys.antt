@@ -3,7 +3,7 @@
 -- Format, chapters 2 and 5).
 use Rattle.std.specs.Prelude.{ℕ, ◌+◌, ◌==◌, min, max, if◌then◌else◌, Option, List, [], ◌∷◌, codes, length, map, slice_index_or}
 use Rattle.std.specs.List.{find}
-use Rattle.t1_char.specs.Editions.{has_later_rules}
+use Rattle.t1_char.specs.Editions.{has_later_rules, has_latest_rules}
 use Rattle.t1_char.specs.declared.edition.Edition.{Edition}
 use Rattle.t1_font.specs.declared.key.Key.{Key}
 use Rattle.t1_font.specs.declared.key.Key.TheVariants.{FontType, PaintType, UniqueId, PrivateUniqueId, Password, MinFeature, LenIv, BlueValues, OtherBlues, FamilyBlues, FamilyOtherBlues, BlueScale, BlueShift, BlueFuzz, StdHw, StdVw, StemSnapH, StemSnapV, FontMatrix, FontBBox, Xuid, LanguageGroup}
@@ -117,12 +117,16 @@ of_entry edition font = 1
 abbrev pub of_later : ℕ → Edition → FontValue → ℕ
 of_later count edition font = if has_later_rules edition then count else 0
 
+-- The same of the rules after number 93.
+abbrev pub of_latest : ℕ → Edition → FontValue → ℕ
+of_latest count edition font = if has_latest_rules edition then count else 0
+
 -- One for each number that a list can have, and one more, for the first that is too much.
 abbrev pub of_list : Key → Edition → FontValue → ℕ
 of_list key edition font = list_limit_of key + 1
 
--- The keys in the order of their numbers, from 0 on. No rule speaks of lenIV; an Encoding's indexes are its codes. Of
--- FontBBox the indexes are the corners' coordinates, of XUID its numbers.
+-- The keys in the order of their numbers, from 0 on. Of lenIV the rules after number 93 alone speak; an Encoding's indexes
+-- are its codes. Of FontBBox the indexes are the corners' coordinates, of XUID its numbers.
 abbrev pub key_rows : List KeyRow
 key_rows =
     key_row (codes "file") of_entry
@@ -133,7 +137,7 @@ key_rows =
     ∷ key_row (codes "PrivateUniqueID") of_entry
     ∷ key_row (codes "password") of_entry
     ∷ key_row (codes "MinFeature") of_entry
-    ∷ key_row (codes "lenIV") (λ edition font. 0)
+    ∷ key_row (codes "lenIV") (of_latest 1)
     ∷ key_row (codes "BlueValues") (of_list BlueValues)
     ∷ key_row (codes "OtherBlues") (of_list OtherBlues)
     ∷ key_row (codes "FamilyBlues") (of_list FamilyBlues)

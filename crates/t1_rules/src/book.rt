@@ -205,6 +205,29 @@ static BOOK: [Row; RULE_COUNT] = [
         "W03",
         "OtherSubr before hsbw or sbw",
     ),
+    (
+        Rule::F22,
+        Level::Should,
+        "F22",
+        "byte above 126 in the clear text",
+    ),
+    (Rule::F23, Level::Should, "F23", "key given twice"),
+    (Rule::F24, Level::Must, "F24", "charstring word not defined"),
+    (
+        Rule::F25,
+        Level::Must,
+        "F25",
+        "brace or bracket without a partner",
+    ),
+    (Rule::F26, Level::Must, "F26", "unknown word"),
+    (
+        Rule::F27,
+        Level::Must,
+        "F27",
+        "FontMatrix can't be inverted",
+    ),
+    (Rule::F28, Level::Must, "F28", "no Private dictionary"),
+    (Rule::F29, Level::Must, "F29", "unusual first line"),
 ];
 
 /// The rows of the book.

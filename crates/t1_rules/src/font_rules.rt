@@ -1,7 +1,7 @@
 //! The font rules: those on the file and on the entries of the dictionaries. Type 1 Font Format 1.1, chapters 2 and 5.
 
 ghost use Rattle.std.specs.Prelude.{◌≡◌, ℕ};
-ghost use Rattle.t1_rules.specs.FontRules.{first_font_rules, font_rules, later_font_rules, violated};
+ghost use Rattle.t1_rules.specs.FontRules.{first_font_rules, font_rules, later_font_rules, latest_font_rules, violated};
 ghost use Rattle.t1_rules.specs.Keys.{key_number, kind_number};
 ghost use Rattle.t1_rules.specs.Mask.{has};
 
@@ -14,6 +14,7 @@ pub(crate) mod hints;
 pub(crate) mod ids;
 pub(crate) mod stems;
 pub(crate) mod subrs;
+mod texts;
 pub(crate) mod values;
 pub(crate) mod zones;
 
@@ -30,6 +31,7 @@ use stems::{later_snap_faults, sign_faults, snap_faults, width_faults};
 use subrs::{return_faults, subr_faults};
 use t1_char::Edition;
 use t1_font::{Font, Key};
+use texts::{encoding_repeated_faults, repeated_faults, text_faults};
 use zones::{high_zone_faults, low_zone_faults};
 
 /// Returns the font rules of an edition that are broken at a key and an index. Index 0 is for what is said of the key as a
@@ -42,8 +44,12 @@ pub fn font_faults(font: &Font<'_>, key: u8, index: u32, edition: Edition) -> Ma
         return Mask::empty();
     };
     let faults = faults_at(font, kind, index);
-    if edition.has_later_rules() {
-        faults.join(later_faults_at(font, kind, index))
+    if !edition.has_later_rules() {
+        return faults;
+    }
+    let faults = faults.join(later_faults_at(font, kind, index));
+    if edition.has_latest_rules() {
+        faults.join(latest_faults_at(font, kind, index))
     } else {
         faults
     }
@@ -70,6 +76,18 @@ fn later_faults_at(font: &Font<'_>, kind: KeyKind, index: u32) -> Mask
         KeyKind::Value(key) => later_value_faults(font, key, index),
         KeyKind::Subrs => return_faults(font, index),
         KeyKind::File | KeyKind::Encoding | KeyKind::CharStrings => Mask::empty(),
+    }
+}
+
+/// The latest rules, by the kind of a key.
+fn latest_faults_at(font: &Font<'_>, kind: KeyKind, index: u32) -> Mask
+    ensures { (n : ℕ) → has result n ≡ violated latest_font_rules n font.now (kind_number kind) index }
+{
+    match kind {
+        KeyKind::File => text_faults(font, index),
+        KeyKind::Value(key) => repeated_faults(font, key, index),
+        KeyKind::Encoding => encoding_repeated_faults(font, index),
+        KeyKind::Subrs | KeyKind::CharStrings => Mask::empty(),
     }
 }
 

@@ -4,7 +4,7 @@
 ghost use Rattle.std.specs.Prelude.{◌≡◌, ◌≤◌, ◌+◌, ◌==◌, IfNone, IfSome, map};
 ghost use Rattle.std.specs.List.{range_with_len};
 ghost use Rattle.t1_font.specs.Fonts.{FontValue};
-ghost use Rattle.t1_rules.specs.Keys.{glyph_places, key_among, key_count, key_number, key_text_of, key_texts, kind_number, list_limit_of, of_later, places_of, subr_places};
+ghost use Rattle.t1_rules.specs.Keys.{glyph_places, key_among, key_count, key_number, key_text_of, key_texts, kind_number, list_limit_of, of_later, of_latest, places_of, subr_places};
 
 use crate::font_rules::hints::list_limit_of;
 use t1_char::Edition;
@@ -155,12 +155,19 @@ fn later_places(count: u32, edition: Edition) -> u32
     if edition.has_later_rules() { count } else { 0 }
 }
 
-/// How many of a plain key: one, for what is said of it as a whole, unless it is a list. No rule speaks of lenIV.
+/// So many, where it has those after number 93.
+fn latest_places(count: u32, edition: Edition) -> u32
+    ensures { (font : FontValue) → result ≡ of_latest count edition font }
+{
+    if edition.has_latest_rules() { count } else { 0 }
+}
+
+/// How many of a plain key: one, for what is said of it as a whole, unless it is a list.
 fn value_places(key: Key, edition: Edition) -> u32
     ensures { (font : FontValue) → result ≡ places_of edition font (key_number key) }
 {
     match key {
-        Key::LenIv => 0,
+        Key::LenIv => latest_places(1, edition),
         Key::FontMatrix => later_places(1, edition),
         Key::FontBBox => later_places(2, edition),
         Key::Xuid => later_places(XUID_PLACES, edition),

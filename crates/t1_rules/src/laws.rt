@@ -4,8 +4,8 @@ ghost use Rattle.t1_rules.specs.Laws.Book.{CodesAreOfTheirRules, EachRuleStands,
 ghost use Rattle.t1_rules.specs.Laws.Levels.{LevelsHaveTheirWords};
 ghost use Rattle.t1_rules.specs.Laws.Arguments.{KeptIsNotPast, NoneAreTooManyAtTheTop, NumbersOverflowAt24, OthersHaveNoArguments, TooFewAreFewerThanWanted, TooManyAreMoreThanArguments};
 ghost use Rattle.t1_rules.specs.Laws.Calls.{SoundCallsGoIn};
-ghost use Rattle.t1_rules.specs.Laws.FontRules.{AbsentEntriesBreakNothing, AbsentEntriesBreakTheirRules, BrokenIsInTheBook, EarlierEditionsKnowNoLaterRule, LaterRulesChangeNoOther, NothingIsBrokenPastLast, NothingIsBrokenPastPlaces, RuleNumbersAreInOrder};
-ghost use Rattle.t1_rules.specs.Laws.Later.{EarlierEditionsBreakNoLaterRule, OneStemStandsBeside, ReplacementsHaveNoSay, ThirdAgreesWithSecond};
+ghost use Rattle.t1_rules.specs.Laws.FontRules.{AbsentEntriesBreakNothing, AbsentEntriesBreakTheirRules, BrokenIsInTheBook, EarlierEditionsKnowNoLaterRule, FirstThreeKnowNoLatestRule, FourthAgreesWithThird, LaterRulesChangeNoOther, NothingIsBrokenPastLast, NothingIsBrokenPastPlaces, RuleNumbersAreInOrder};
+ghost use Rattle.t1_rules.specs.Laws.Later.{EarlierEditionsBreakNoLaterRule, FirstThreeBreakNoLatestRule, FourthBreaksAsTheThird, OneStemStandsBeside, ReplacementsHaveNoSay, ThirdAgreesWithSecond};
 ghost use Rattle.t1_rules.specs.Laws.Components.{CapitalsNameThemselves, CodesAreCounted, NamesAreCounted, NoNameStandsTwice, OwnEncodingHasNoSay, PlacesHaveNoSay, SmallLettersNameThemselves};
 ghost use Rattle.t1_rules.specs.Laws.Editions.{EditionsAgreeOnOtherRules, EditionsAgreeOnShortComponents, EditionsAgreeOnUsualSteps, EditionsAgreeWithoutOneEdge, OneEdgeOverlapsNothing, OtherStemsOverlapAsBefore, OverlapByIsMutual, SecondTellsNoMore, SecondTellsNoMoreInFonts, StemsAreKept};
 ghost use Rattle.t1_rules.specs.Laws.Flex.{ClosepathLeavesThePoint, EndsLeadOutOfFlex, GlyphsBeginAtTheOrigin, OtherCountsAreNoFlex, SetcurrentpointAloneFollows, SetcurrentpointFollowsFlex, SetcurrentpointPutsThePoint, SevenPairsAreAFlex, ShortFormsLeadAsFar, StartsLeadIntoFlex, StepsMoveThePoint, VectorsPutThePoint, WidthsSetThePoint};
@@ -16,7 +16,7 @@ ghost use Rattle.t1_rules.specs.Laws.StepRules.{ArgumentsCountFromTheBottom, Bro
 ghost use Rattle.t1_rules.specs.Laws.Stems.{HintSetsAreBounded, OneStemIsKept, OthersAreNotUneven, OthersLeaveHintSets, OverlapIsMutual, ReplacementsEmptyHintSets, SignsHaveNoSay, StemsOverlapWhereTheyShareAPlace, ThreeStemsAreEven, ThreeStemsAreKept};
 ghost use Rattle.t1_rules.specs.Laws.Zones.{ZonesAreApartWhereOneIsAbove, ZonesMeetOneOfTheOthers, ZonesAreNearBothWays, ZonesAreNearTheOneBefore, NoZoneIsPastPairs, ZonesReachOne, ListsRiseWhereNoneFalls, ZonesArePairs};
 
-/// The font rules have the numbers from 1 to 25 and from 71 to 85, and what is broken is a rule of the book.
+/// The font rules have the numbers from 1 to 25, from 71 to 85 and from 94 to 101, and what is broken is a rule of the book.
 #[tactic(auto, using(crate::proofs::Lemmas::FontRules::numbers_in_order, crate::proofs::Lemmas::FontRules::broken_is_in_the_book))]
 pub fn rules_have_their_numbers()
     ensures order { RuleNumbersAreInOrder }
@@ -30,6 +30,14 @@ pub fn later_rules_stand_alone()
     ensures others { LaterRulesChangeNoOther }
 {}
 
+/// An edition without the font rules after number 93 breaks none of them; which of the others are broken is the same in the
+/// fourth edition as in the third.
+#[tactic(auto, using(crate::proofs::Lemmas::FontRules::first_three_know_no_latest_rule, crate::proofs::Lemmas::FontRules::fourth_agrees_with_third))]
+pub fn latest_rules_stand_alone()
+    ensures first_three { FirstThreeKnowNoLatestRule }
+    ensures others { FourthAgreesWithThird }
+{}
+
 /// Nothing is broken past the places of a key, past the last key or past the last index.
 #[tactic(auto, using(crate::proofs::Lemmas::Keys::past_places, crate::proofs::Lemmas::Keys::none_past_last))]
 pub fn rules_have_their_places()
@@ -37,7 +45,7 @@ pub fn rules_have_their_places()
     ensures last { NothingIsBrokenPastLast }
 {}
 
-/// An entry that isn't there breaks no rule but F03, F04, F07, F08, F15, F16 and Z12. Where it is the entry of one of
+/// An entry that isn't there breaks no rule but F03, F04, F07, F08, F15, F16 and Z12, and F23, which counts. Where it is the entry of one of
 /// these, it does.
 pub fn absent_entries_are_fine()
     ensures nothing { AbsentEntriesBreakNothing }
@@ -87,6 +95,13 @@ pub fn step_rules_have_their_numbers()
 pub fn later_step_rules_stand_alone()
     ensures earlier { EarlierEditionsBreakNoLaterRule }
     ensures others { ThirdAgreesWithSecond }
+{}
+
+/// A step breaks no rule after number 93 in an edition that hasn't them, and the others in the fourth edition as in the third.
+#[tactic(auto, using(crate::proofs::Lemmas::LaterLaws::first_three_break_no_latest_rule, crate::proofs::Lemmas::LaterLaws::fourth_breaks_as_the_third))]
+pub fn latest_step_rules_stand_alone()
+    ensures first_three { FirstThreeBreakNoLatestRule }
+    ensures others { FourthBreaksAsTheThird }
 {}
 
 /// H06 and H07 are on the whole glyph, whose hint replacements have no say; H06 has one place at most for each direction.

@@ -201,6 +201,22 @@ pub enum Rule {
     O08,
     /// No OtherSubr is called before the first command. Type 1 Font Format, chapter 6.
     W03,
+    /// The clear text has no byte above 126. Type 1 Font Format, chapter 2.
+    F22,
+    /// An entry is given once.
+    F23,
+    /// The word before a charstring is defined to read it. Type 1 Font Format, chapter 2.
+    F24,
+    /// Each brace and each bracket has its partner.
+    F25,
+    /// Each word is known, or the font's own.
+    F26,
+    /// `/FontMatrix` has an inverse. Type 1 Font Format, chapter 2.
+    F27,
+    /// There is a Private dictionary. Type 1 Font Format, chapter 2.
+    F28,
+    /// The first line says that this is a Type 1 font. Type 1 Font Format, chapter 2.
+    F29,
 }
 
 impl fmt::Debug for Rule {
@@ -236,7 +252,7 @@ impl Rule {
 }
 
 /// How many rules there are.
-pub const RULE_COUNT: usize = 93;
+pub const RULE_COUNT: usize = 101;
 
 /// The rules, in the order of their numbers.
 static RULES: [Rule; RULE_COUNT] = [
@@ -333,6 +349,14 @@ static RULES: [Rule; RULE_COUNT] = [
     Rule::O07,
     Rule::O08,
     Rule::W03,
+    Rule::F22,
+    Rule::F23,
+    Rule::F24,
+    Rule::F25,
+    Rule::F26,
+    Rule::F27,
+    Rule::F28,
+    Rule::F29,
 ];
 
 /// All rules, in the order of their numbers.

@@ -5,7 +5,7 @@ use Rattle.std.proofs.lemmas.Bool.Decides.{nat_tests}
 use Rattle.std.specs.Prelude.{option_and_then}
 use Rattle.t1_char.specs.declared.edition.Edition.{Edition}
 use Rattle.t1_font.specs.ClearText.{clear_of}
-use Rattle.t1_font.specs.FontFiles.{clear_next, font_in, marks_in, private_next, section_next}
+use Rattle.t1_font.specs.FontFiles.{before_rest, clear_next, font_in, marks_in, private_next, read_with, section_next}
 use Rattle.t1_font.specs.Fonts.{FontValue, Marks}
 use Rattle.t1_font.specs.Laws.Limits.{FontsWithinLimits}
 use Rattle.t1_font.specs.TextTurns.{TextRead}
@@ -25,18 +25,20 @@ use Rattle.t1_run.specs.WaiverFiles.{as_waivers, waivers_in}
 abbrev pub HasFew : FontValue → Type 0
 HasFew font = length font.glyphs ≤ 65535
 
-of_read : (read : Result FontValue Unread) → ((font : FontValue) → read ≡ Ok font → HasFew font) → IfOk read HasFew
-of_read (Ok font) few = few font refl
-of_read (Err e) few = tt
+of_read : (before private : List ℕ) (read : Result FontValue Unread) → ((font : FontValue) → read ≡ Ok font → HasFew font)
+    → IfOk (read_with before private read) HasFew
+of_read before private (Ok font) few = few font refl
+of_read before private (Err e) few = tt
 
 of_section : FontsWithinLimits → (marks : Marks) (text : List ℕ) (clear : TextRead) → clear_of marks text ≡ Ok clear
-    → (section : Result (List ℕ) SealError) → IfOk (private_next marks clear.stated section) HasFew
+    → (section : Result (List ℕ) SealError) → IfOk (private_next marks (before_rest text clear.rest) clear.stated section) HasFew
 of_section limits marks text clear is (Ok private) =
-    of_read (font_read marks clear.stated private) (λ font read. (limits marks text private clear font is read).glyphs)
+    of_read (before_rest text clear.rest) private (font_read marks clear.stated private)
+    (λ font read. (limits marks text private clear font is read).glyphs)
 of_section limits marks text clear is (Err e) = tt
 
 of_clear : FontsWithinLimits → (marks : Marks) (text : List ℕ) (clear : Result TextRead Unread) → clear_of marks text ≡ clear
-    → IfOk (section_next marks clear) HasFew
+    → IfOk (section_next marks text clear) HasFew
 of_clear limits marks text (Ok clear) is = of_section limits marks text clear is (private_text_of clear.rest)
 of_clear limits marks text (Err e) is = tt
 

@@ -16,6 +16,14 @@ const TEXTS: &[(Rule, u8, &str)] = &[
     (Rule::Z19, 85, "BlueFuzz out of range"),
     (Rule::H05, 86, "stem below half a unit"),
     (Rule::W03, 93, "OtherSubr before hsbw or sbw"),
+    (Rule::F22, 94, "byte above 126 in the clear text"),
+    (Rule::F23, 95, "key given twice"),
+    (Rule::F24, 96, "charstring word not defined"),
+    (Rule::F25, 97, "brace or bracket without a partner"),
+    (Rule::F26, 98, "unknown word"),
+    (Rule::F27, 99, "FontMatrix can't be inverted"),
+    (Rule::F28, 100, "no Private dictionary"),
+    (Rule::F29, 101, "unusual first line"),
 ];
 
 #[test]

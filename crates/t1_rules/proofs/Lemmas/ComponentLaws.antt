@@ -87,11 +87,11 @@ then_same run next other_next same = go run.finished
     go true = refl
     go false = ap (after run.steps) (same run.state)
 
--- The font with other entries, the same lenIV, other glyphs and another Encoding.
-module _ (font : FontValue) (plain : List Value) (encoding : Encoding) (codes : List (ℕ × List ℕ)) (bad_code : Bool) (glyphs : List (List ℕ × List ℕ))
+-- The font with other entries, stated so often, the same lenIV, other glyphs and another Encoding.
+module _ (font : FontValue) (plain : List Value) (key_times : List ℕ) (encoding : Encoding) (codes : List (ℕ × List ℕ)) (bad_code : Bool) (glyphs : List (List ℕ × List ℕ))
     (same_len_iv : len_iv_in (record font { plain = plain }) ≡ len_iv_in font) where
   abbrev changed : FontValue
-  changed = record font { plain = plain; encoding = encoding; codes = codes; bad_code = bad_code; glyphs = glyphs }
+  changed = record font { plain = plain; key_times = key_times; encoding = encoding; codes = codes; bad_code = bad_code; glyphs = glyphs }
 
   pub same_tokens : (code : List ℕ) → tokens_in changed code ≡ tokens_in font code
   same_tokens code = ap (λ len_iv. charstring_tokens len_iv code) same_len_iv
@@ -122,7 +122,7 @@ same_component limit font encoding codes bad_code code = by_name (standard_name 
     by_glyph : (found : Option ℕ) → component_of_glyph limit (encoded_anew font encoding codes bad_code) found ≡ component_of_glyph limit font found
     by_glyph None = refl
     by_glyph (Some glyph) = ap (λ (run : Run). component_in (take limit run.steps))
-        (same_run font font.plain encoding codes bad_code font.glyphs refl most_calls [] (tokens_in font (code_at font glyph)) at_start)
+        (same_run font font.plain font.key_times encoding codes bad_code font.glyphs refl most_calls [] (tokens_in font (code_at font glyph)) at_start)
 
     by_name : (name : List ℕ) → component_named limit (encoded_anew font encoding codes bad_code) name ≡ component_named limit font name
     by_name [] = refl
@@ -173,4 +173,4 @@ places_have_no_say limit font front rest name code letters others =
     ∙ ap (λ found. component_in (take limit (expansion (record font { glyphs = glyphs }) most_calls [] (tokens_in font (code_or_empty found)) at_start).steps))
     (get_behind front rest (name, code))
     ∙ ap (λ (run : Run). component_in (take limit run.steps))
-    (same_run font font.plain font.encoding font.codes font.bad_code glyphs refl most_calls [] (tokens_in font code) at_start)
+    (same_run font font.plain font.key_times font.encoding font.codes font.bad_code glyphs refl most_calls [] (tokens_in font code) at_start)

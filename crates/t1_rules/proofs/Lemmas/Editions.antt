@@ -7,7 +7,7 @@ use Rattle.std.proofs.lemmas.List.{take_all}
 use Rattle.std.proofs.lemmas.List.Folds.{list_any-append}
 use Rattle.t1_char.specs.declared.command.Command.{Command as Commands}
 use Rattle.t1_char.specs.declared.edition.Edition.{Edition}
-use Rattle.t1_char.specs.declared.edition.Edition.TheVariants.{One, Three, Two}
+use Rattle.t1_char.specs.declared.edition.Edition.TheVariants.{Four, One, Three, Two}
 use Rattle.t1_char.specs.Arguments.{is_hint_replacement}
 use Rattle.t1_char.specs.Editions.{limit_of}
 use Rattle.t1_char.specs.Steps.{StepView, steps_of}
@@ -46,6 +46,7 @@ pub overlap_by_is_mutual : OverlapByIsMutual
 overlap_by_is_mutual One one other = overlap_is_mutual one other
 overlap_by_is_mutual Two one other = rw (turned (has_one_edge one) (has_one_edge other), overlap_is_mutual one other) refl
 overlap_by_is_mutual Three one other = rw (turned (has_one_edge one) (has_one_edge other), overlap_is_mutual one other) refl
+overlap_by_is_mutual Four one other = rw (turned (has_one_edge one) (has_one_edge other), overlap_is_mutual one other) refl
 
 pub one_edge_overlaps_nothing : OneEdgeOverlapsNothing
 one_edge_overlaps_nothing one other edge = rw edge refl

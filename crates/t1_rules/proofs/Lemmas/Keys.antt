@@ -1,27 +1,29 @@
 -- No rule is broken past the places of a key.
-use Rattle.std.proofs.Common.{nat_le, inl, inr, slice_index_or, ◌≡◌, ℕ, zero, suc, ◌+◌, ◌%◌, ◌<◌, ◌≤◌, ◌==◌, ◌&&◌, Bool, true, false, None, nat_eq, nat_lt, ℤ, List, [], ◌∷◌, length, refl, ◌∙◌, arith}
+use Rattle.std.proofs.Common.{nat_le, if◌then◌else◌, ◌||◌, ap, inl, inr, slice_index_or, ◌≡◌, ℕ, zero, suc, ◌+◌, ◌%◌, ◌<◌, ◌≤◌, ◌==◌, ◌&&◌, Bool, true, false, None, nat_eq, nat_lt, ℤ, List, [], ◌∷◌, length, refl, ◌∙◌, arith}
 use Rattle.std.proofs.Math.Bool.{and-false}
 use Rattle.std.proofs.lemmas.Bool.{ne_eqb, le-ltb, ltb-true, le-leb, leb-true}
 use Rattle.std.proofs.lemmas.List.{length-take}
 use Rattle.std.specs.Map.{lookup}
 use Rattle.std.specs.List.{list_all}
-use Rattle.t1_char.specs.Editions.{has_later_rules}
+use Rattle.t1_char.specs.Editions.{has_later_rules, has_latest_rules}
 use Rattle.t1_char.specs.declared.edition.Edition.{Edition}
-use Rattle.t1_char.specs.declared.edition.Edition.TheVariants.{One, Three, Two}
-use Rattle.t1_font.specs.Fonts.{FontValue}
+use Rattle.t1_char.specs.declared.edition.Edition.TheVariants.{Four, One, Three, Two}
+use Rattle.t1_font.specs.Fonts.{FontValue, is_key_twice}
 use Rattle.t1_font.specs.Values.{Value, absent, number, numbers, other}
+use Rattle.t1_font.specs.declared.key.Key.{Key}
 use Rattle.t1_font.specs.declared.key.Key.TheVariants as keys
 use Rattle.t1_rules.specs.Laws.FontRules.{NothingIsBrokenPastLast, NothingIsBrokenPastPlaces}
 use Rattle.t1_rules.specs.Keys.{value_at, subr_places, glyph_places, places_of, places_by_key}
 use Rattle.t1_rules.specs.FontRules.Dictionaries.{are_exchanged}
+use Rattle.t1_rules.specs.FontRules.Texts.{plain_keys}
 use Rattle.t1_rules.specs.FontRules.Values.{first_in, is_so_many}
 use Rattle.t1_rules.specs.FontRules.Hints.{falls_at, has_fraction_at, numbers_at, repeats_at}
 use Rattle.t1_rules.specs.FontRules.Zones.{distance, scale, is_too_near, meets, is_too_high}
 use Rattle.t1_rules.specs.FontRules.Subrs.{is_wrong_subr, lacks_return}
 use Rattle.t1_rules.specs.FontRules.Glyphs.{is_glyph_given_twice}
-use Rattle.t1_rules.specs.FontRules.{first_font_rules, later_font_rules, violated}
+use Rattle.t1_rules.specs.FontRules.{FontRule, KeyTest, each_of, first_font_rules, later_font_rules, latest_font_rules, says, violated}
 use Rattle.t1_rules.proofs.Lemmas.Book.{both}
-use Rattle.t1_rules.proofs.Lemmas.FontRules.{first_past, in_later, in_parts, later_past, past_last}
+use Rattle.t1_rules.proofs.Lemmas.FontRules.{first_past, in_parts, later_past, past_last}
 
 differs : (m n : ℕ) → n < m → (m == n) ≡ false
 differs m n less = ne_eqb m n (λ e. omega arith)
@@ -196,16 +198,114 @@ later_past_places font (suc (suc (suc (suc (suc (suc (suc (suc (suc (suc (suc (s
     later_past (suc (suc (suc (suc (suc (suc (suc (suc (suc (suc (suc (suc (suc (suc (suc (suc (suc (suc (suc (suc (suc (suc (suc (suc (suc (suc key))))))))))))))))))))))))))
     (omega arith) font index n
 
-later_in_past_places : (edition : Edition) (font : FontValue) (key index : ℕ) → places_of edition font key ≤ index → (n : ℕ)
-    → (has_later_rules edition && violated later_font_rules n font key index) ≡ false
-later_in_past_places One font key index past n = refl
-later_in_past_places Two font key index past n = refl
-later_in_past_places Three font key index past n = later_past_places font key index past n
+-- ---- the latest rules
+
+-- Each of their tests is of a key that has a place.
+says_nowhere : (font : FontValue) (tests : List KeyTest) → list_all (λ t. nat_le 1 (places_of Four font t.key)) tests ≡ true → (key index : ℕ)
+    → places_of Four font key ≡ 0 → says tests font key index ≡ false
+says_nowhere font [] some key index none = refl
+says_nowhere font (t ∷ ts) some key index none =
+    let parts = both (nat_le 1 (places_of Four font t.key)) (list_all (λ u. nat_le 1 (places_of Four font u.key)) ts) some in
+    let one : 1 ≤ places_of Four font t.key = leb-true 1 (places_of Four font t.key) parts.0 in
+    let other : (key == t.key) ≡ false =
+    ne_eqb key t.key (λ e. let same : places_of Four font key ≡ places_of Four font t.key = ap (places_of Four font) e in omega (arith, same, none, one)) in
+    rw other (says_nowhere font ts parts.1 key index none)
+
+nowhere : (font : FontValue) (rules : List FontRule) → list_all (λ r. list_all (λ t. nat_le 1 (places_of Four font t.key)) r.tests) rules ≡ true
+    → (key index n : ℕ) → places_of Four font key ≡ 0 → violated rules n font key index ≡ false
+nowhere font [] some key index n none = refl
+nowhere font (r ∷ rs) some key index n none =
+    let parts =
+    both (list_all (λ t. nat_le 1 (places_of Four font t.key)) r.tests) (list_all (λ q. list_all (λ t. nat_le 1 (places_of Four font t.key)) q.tests) rs) some in
+    rw (says_nowhere font r.tests parts.0 key index none) (nowhere font rs parts.1 key index n none)
+
+-- None says anything past index 0.
+abbrev AreOff : FontValue → ℕ → List KeyTest → Type 0
+AreOff font index [] = Unit {0}
+AreOff font index (t ∷ ts) = (t.is_broken font index ≡ false) × AreOff font index ts
+
+abbrev RulesAreOff : FontValue → ℕ → List FontRule → Type 0
+RulesAreOff font index [] = Unit {0}
+RulesAreOff font index (r ∷ rs) = AreOff font index r.tests × RulesAreOff font index rs
+
+either : (b here there : Bool) → here ≡ false → there ≡ false → (if b then here else there) ≡ false
+either true here there is so = is
+either false here there is so = so
+
+says_off : (font : FontValue) (key index : ℕ) (tests : List KeyTest) → AreOff font index tests → says tests font key index ≡ false
+says_off font key index [] off = refl
+says_off font key index (t ∷ ts) off =
+    either (key == t.key) (t.is_broken font index) (says ts font key index) off.0 (says_off font key index ts off.1)
+
+all_off : (font : FontValue) (key index n : ℕ) (rules : List FontRule) → RulesAreOff font index rules → violated rules n font key index ≡ false
+all_off font key index n [] off = refl
+all_off font key index n (r ∷ rs) off = rw (says_off font key index r.tests off.0) (all_off font key index n rs off.1)
+
+each_off : (font : FontValue) (index : ℕ) → (index == 0) ≡ false → (ks : List Key)
+    → AreOff font index (each_of ks (λ font k index. index == 0 && is_key_twice font k))
+each_off font index past [] = tt
+each_off font index past (k ∷ ks) = (rw past refl, each_off font index past ks)
+
+latest_off : (font : FontValue) (index : ℕ) → (index == 0) ≡ false → RulesAreOff font index latest_font_rules
+unfolding latest_font_rules
+latest_off font index past = (
+  (rw past refl, tt),
+  (
+    (rw past refl, each_off font index past plain_keys),
+    (
+      (rw past refl, tt),
+      (
+        (rw past refl, tt),
+        (
+          (rw past refl, tt),
+          ((rw past refl, tt), ((rw past refl, tt), ((rw past refl, tt), tt))),
+        ),
+      ),
+    ),
+  ),
+)
+
+latest_nowhere : (font : FontValue) (key n : ℕ) → places_of Four font key ≡ 0 → violated latest_font_rules n font key 0 ≡ false
+unfolding latest_font_rules
+latest_nowhere font key n none = nowhere font latest_font_rules refl key 0 n none
+
+latest_past_places : (font : FontValue) (key index : ℕ) → places_of Four font key ≤ index → (n : ℕ) → violated latest_font_rules n font key index ≡ false
+latest_past_places font key zero past n = latest_nowhere font key n (omega (arith, past))
+latest_past_places font key (suc i) past n =
+    all_off font key (suc i) n latest_font_rules (latest_off font (suc i) (differs (suc i) 0 (omega arith)))
+
+-- ---- all of them
+
+-- The third edition has no more places than the fourth.
+fewer_places : (font : FontValue) (key : ℕ) → places_of Three font key ≤ places_of Four font key
+fewer_places font key =
+    go key (places_by_key Three font) (places_by_key Four font)
+    (rw (le-leb (subr_places font.subrs) (subr_places font.subrs) (omega arith), le-leb (glyph_places font) (glyph_places font) (omega arith)) refl)
+  where
+    are_fewer : List ℕ → List ℕ → Bool
+    are_fewer [] qs = true
+    are_fewer (p ∷ ps) [] = false
+    are_fewer (p ∷ ps) (q ∷ qs) = nat_le p q && are_fewer ps qs
+
+    go : (key : ℕ) (ps qs : List ℕ) → are_fewer ps qs ≡ true → slice_index_or ps key 0 ≤ slice_index_or qs key 0
+    go key [] qs fewer = omega arith
+    go key (p ∷ ps) [] fewer = let no : false ≡ true = fewer in cc
+    go zero (p ∷ ps) (q ∷ qs) fewer = leb-true p q (both (nat_le p q) (are_fewer ps qs) fewer).0
+    go (suc key) (p ∷ ps) (q ∷ qs) fewer = go key ps qs (both (nat_le p q) (are_fewer ps qs) fewer).1
+
+further_past_places : (edition : Edition) (font : FontValue) (key index : ℕ) → places_of edition font key ≤ index → (n : ℕ)
+    → (has_later_rules edition && violated later_font_rules n font key index || has_latest_rules edition && violated latest_font_rules n font key index) ≡ false
+further_past_places One font key index past n = refl
+further_past_places Two font key index past n = refl
+further_past_places Three font key index past n = rw (later_past_places font key index past n) refl
+further_past_places Four font key index past n =
+    let fewer = fewer_places font key in
+    rw (later_past_places font key index (omega (arith, past, fewer)) n) (latest_past_places font key index past n)
 
 pub past_places : NothingIsBrokenPastPlaces
 past_places edition font key index past n =
     in_parts edition n font key index
-    ∙ rw (first_past_places edition font key index past n) (in_later edition n font key index ∙ later_in_past_places edition font key index past n)
+    ∙ rw (first_past_places edition font key index past n) (further_past_places edition font key index past n)
 
 subr_places_bound : (subrs : List (ℕ × List ℕ)) → subr_places subrs ≤ 65536
 subr_places_bound [] = omega arith
@@ -229,6 +329,7 @@ few_places edition font key = none_over 65536 (places_by_key edition font) (few 
     few One = simp (subrs_few, glyphs_few) refl
     few Two = simp (subrs_few, glyphs_few) refl
     few Three = simp (subrs_few, glyphs_few) refl
+    few Four = simp (subrs_few, glyphs_few) refl
 
 pub none_past_last : NothingIsBrokenPastLast
 none_past_last edition font key index (inl past) n = past_last edition key (omega arith) font index n

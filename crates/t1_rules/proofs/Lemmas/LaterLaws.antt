@@ -15,11 +15,11 @@ use Rattle.t1_char.specs.Steps.{StepView}
 use Rattle.t1_rules.specs.declared.rule.Rule.TheVariants.{H06, H07}
 use Rattle.t1_rules.specs.declared.sidebearings.Component.{Component}
 use Rattle.t1_rules.specs.declared.step_rules.triples.Triple.{Triple}
-use Rattle.t1_rules.specs.Book.{last_number, last_number_before}
+use Rattle.t1_rules.specs.Book.{last_number_before, last_number_of_third}
 use Rattle.t1_rules.specs.Components.{components_of}
-use Rattle.t1_rules.specs.Laws.Later.{EarlierEditionsBreakNoLaterRule, HasNoSay, OneStemStandsBeside, ReplacementsHaveNoSay, StandsBesideAt, ThirdAgreesWithSecond}
+use Rattle.t1_rules.specs.Laws.Later.{EarlierEditionsBreakNoLaterRule, FirstThreeBreakNoLatestRule, FourthBreaksAsTheThird, HasNoSay, OneStemStandsBeside, ReplacementsHaveNoSay, StandsBesideAt, ThirdAgreesWithSecond}
 use Rattle.t1_rules.specs.Laws.Stems.{across, upright}
-use Rattle.t1_rules.specs.StepRules.{breaks, component_rules, counter_rules, step_rules, triple_rules}
+use Rattle.t1_rules.specs.StepRules.{breaks, charstring_rules, component_rules, counter_rules, stem_rules, step_rules, triple_rules}
 use Rattle.t1_rules.specs.StepRules.Stems.{lies_across, stands_upright}
 use Rattle.t1_rules.specs.StepRules.Tokens.{is_command}
 use Rattle.t1_rules.specs.StepRules.Triples.{came, is_first_beside, is_hstem, is_hstem3, is_vstem, is_vstem3, last_triple, changes_by, sets_beside, stands_beside, triple_of}
@@ -41,7 +41,7 @@ pub earlier_editions_break_no_later_rule : EarlierEditionsBreakNoLaterRule
 earlier_editions_break_no_later_rule edition none font n before step broken =
     go (breaks (step_rules edition) n before step) refl (sym (all_rules edition (components_of (limit_of edition) font) n before step) ∙ broken)
   where
-    of_steps : ((26 ≤ n) × (n ≤ 67)) ⊎ ((has_later_rules edition ≡ true) × ((86 ≤ n) × (n ≤ last_number))) → n ≤ last_number_before
+    of_steps : ((26 ≤ n) × (n ≤ 67)) ⊎ ((has_later_rules edition ≡ true) × ((86 ≤ n) × (n ≤ last_number_of_third))) → n ≤ last_number_before
     of_steps (inl less) = omega (arith, less.1)
     of_steps (inr more) = let no : true ≡ false = sym more.0 ∙ none in cc
 
@@ -62,7 +62,7 @@ none_up_to edition n before step few = go (breaks (triple_rules edition ++ count
     go : (b : Bool) → breaks (triple_rules edition ++ counter_rules edition) n before step ≡ b → b ≡ false
     go false is = refl
     go true is =
-        let numbers = number_between 86 last_number (triple_rules edition ++ counter_rules edition) (later_between edition) n before step is in
+        let numbers = number_between 86 last_number_of_third (triple_rules edition ++ counter_rules edition) (later_between edition) n before step is in
         absurd (omega (arith, few, numbers.0))
 
 pub third_agrees_with_second : ThirdAgreesWithSecond
@@ -77,6 +77,28 @@ third_agrees_with_second font n before step few =
         ∙ ap (λ b. breaks (first_rules Three) n before step || b) (none_up_to Three n before step few ∙ sym (none_up_to Two n before step few))
         ∙ ap (λ b. b || breaks (triple_rules Two ++ counter_rules Two) n before step) (first_agrees n before step)
         ∙ sym (in_parts Two n before step)
+
+-- What a step of an edition breaks is of a rule up to number 93, but for those of the fourth edition alone.
+pub first_three_break_no_latest_rule : FirstThreeBreakNoLatestRule
+first_three_break_no_latest_rule edition none font n before step broken =
+    go (breaks (step_rules edition) n before step) refl (sym (all_rules edition (components_of (limit_of edition) font) n before step) ∙ broken)
+  where
+    of_steps : ((26 ≤ n) × (n ≤ 67)) ⊎ ((has_later_rules edition ≡ true) × ((86 ≤ n) × (n ≤ last_number_of_third))) → n ≤ last_number_of_third
+    of_steps (inl less) = omega (arith, less.1)
+    of_steps (inr more) = more.1.1
+
+    go : (b : Bool) → breaks (step_rules edition) n before step ≡ b
+        → (breaks (step_rules edition) n before step || breaks (component_rules (components_of (limit_of edition) font)) n before step) ≡ true
+        → n ≤ last_number_of_third
+    go true is some = of_steps (broken_have_these_numbers edition n before step is)
+    go false is some =
+        let numbers = component_number (components_of (limit_of edition) font) n before step
+        (sym (ap (λ b. b || breaks (component_rules (components_of (limit_of edition) font)) n before step) is) ∙ some) in
+        omega (arith, numbers.1)
+
+pub fourth_breaks_as_the_third : FourthBreaksAsTheThird
+unfolding charstring_rules step_rules stem_rules triple_rules counter_rules
+fourth_breaks_as_the_third font n before step few = refl
 
 -- ---- hint replacements
 

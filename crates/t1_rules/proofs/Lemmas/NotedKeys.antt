@@ -18,7 +18,7 @@ use Rattle.t1_rules.specs.Laws.Editions.{rules_in}
 use Rattle.t1_rules.specs.StandardEncoding.{standard_name}
 use Rattle.t1_rules.specs.StepRules.{charstring_rules}
 use Rattle.t1_rules.proofs.Lemmas.ComponentLaws.{map_same, same_run, same_tokens}
-use Rattle.t1_rules.proofs.Lemmas.FontRules.{in_later, in_parts}
+use Rattle.t1_rules.proofs.Lemmas.FontRules.{only_first}
 
 -- ---- the keys that are taken
 
@@ -62,14 +62,6 @@ first_same n font key index =
       value_same font 17 (lit< tt),
     ) refl
 
--- An edition without the rules after number 70 breaks just those of the first part.
-only_first : (edition : Edition) → has_later_rules edition ≡ false → (n : ℕ) (font : FontValue) (key index : ℕ)
-    → violated (font_rules edition) n font key index ≡ violated first_font_rules n font key index
-only_first edition none n font key index =
-    in_parts edition n font key index
-    ∙ ap (λ b. violated first_font_rules n font key index || b) (in_later edition n font key index ∙ ap (λ b. b && violated later_font_rules n font key index) none)
-    ∙ or-false (violated first_font_rules n font key index)
-
 pub font_rules_same : (edition : Edition) → has_later_rules edition ≡ false → (n : ℕ) (font : FontValue) (key index : ℕ)
     → violated (font_rules edition) n (unnoted font) key index ≡ violated (font_rules edition) n font key index
 font_rules_same edition none n font key index =
@@ -84,9 +76,9 @@ pub steps_same : (font : FontValue) (glyph : ℕ) → steps_of (unnoted font) gl
 unfolding steps_of
 steps_same font glyph =
     ap (λ tokens. (expansion (unnoted font) most_calls [] tokens at_start).steps)
-    (same_tokens font (unnoted font).plain font.encoding font.codes font.bad_code font.glyphs (same_len_iv font) (code_at font glyph))
+    (same_tokens font (unnoted font).plain (unnoted font).key_times font.encoding font.codes font.bad_code font.glyphs (same_len_iv font) (code_at font glyph))
     ∙ ap (λ (run : Run). run.steps)
-    (same_run font (unnoted font).plain font.encoding font.codes font.bad_code font.glyphs (same_len_iv font) most_calls []
+    (same_run font (unnoted font).plain (unnoted font).key_times font.encoding font.codes font.bad_code font.glyphs (same_len_iv font) most_calls []
     (tokens_in font (code_at font glyph)) at_start)
 
 component_same : (limit : ℕ) (font : FontValue) (code : ℕ) → component_at limit (unnoted font) code ≡ component_at limit font code

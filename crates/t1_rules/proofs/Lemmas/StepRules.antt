@@ -12,7 +12,7 @@ use Rattle.t1_char.specs.Numbers.{clamped}
 use Rattle.t1_char.specs.Since.{any_from, any_so_far}
 use Rattle.t1_char.specs.Steps.{StepView}
 use Rattle.t1_char.proofs.SincePlaces.{since_is_by_places}
-use Rattle.t1_rules.specs.Book.{last_number, number_of}
+use Rattle.t1_rules.specs.Book.{last_number_of_third, number_of}
 use Rattle.t1_rules.specs.Laws.StepRules.{StepRuleNumbersAreInOrder, ComponentRuleNumbersAreInOrder, BrokenStepsHaveTheseNumbers, LaterStepsHaveNoSay, ArgumentsCountFromTheBottom, SurplusNumbersAreNotPast, EndsBreakOneRule, OneStepStartsWithoutWidth, FlexIsByPlaces, MovedIsByPlaces, OpenIsByPlaces}
 use Rattle.t1_rules.specs.StepRules.{StepRule, argument_rules, call_rules, component_rules, flex_rules, othersubr_rules, path_rules, seac_rules, stem_rules, step_rules, breaks, breaks_next, breaks_at, triple_rules, counter_rules}
 use Rattle.t1_rules.specs.StepRules.Arguments.{is_past}
@@ -71,7 +71,7 @@ first_between : (edition : Edition) → numbers_between 26 67 (first_rules editi
 unfolding first_rules argument_rules call_rules path_rules stem_rules flex_rules othersubr_rules seac_rules
 first_between edition = refl
 
-pub later_between : (edition : Edition) → numbers_between 86 last_number (triple_rules edition ++ counter_rules edition) ≡ true
+pub later_between : (edition : Edition) → numbers_between 86 last_number_of_third (triple_rules edition ++ counter_rules edition) ≡ true
 unfolding triple_rules counter_rules
 later_between edition = refl
 
@@ -90,10 +90,10 @@ broken_have_these_numbers edition n before step broken =
 
     go : (first has : Bool) → breaks (first_rules edition) n before step ≡ first → has_later_rules edition ≡ has
         → (breaks (first_rules edition) n before step || breaks later n before step) ≡ true
-        → ((26 ≤ n) × (n ≤ 67)) ⊎ ((has_later_rules edition ≡ true) × ((86 ≤ n) × (n ≤ last_number)))
+        → ((26 ≤ n) × (n ≤ 67)) ⊎ ((has_later_rules edition ≡ true) × ((86 ≤ n) × (n ≤ last_number_of_third)))
     go true has is there some = inl (number_between 26 67 (first_rules edition) (first_between edition) n before step is)
     go false true is there some =
-        inr (there, number_between 86 last_number later (later_between edition) n before step (sym (ap (λ b. b || breaks later n before step) is) ∙ some))
+        inr (there, number_between 86 last_number_of_third later (later_between edition) n before step (sym (ap (λ b. b || breaks later n before step) is) ∙ some))
     go false false is there some =
         let no : false ≡ true = sym (none_before edition there n before step) ∙ sym (ap (λ b. b || breaks later n before step) is) ∙ some in cc
 

@@ -1,5 +1,6 @@
 -- Entries of the font's dictionary and of the Private one that are looked at alone (Type 1 Font Format, chapters 2 and 5).
-use Rattle.std.specs.Prelude.{ℕ, ◌==◌, ◌&&◌, ◌||◌, Bool, false, not, nat_lt, ℤ, List, [], ◌∷◌, length, int_lt}
+use Rattle.std.specs.Prelude.{ℕ, ◌==◌, ◌&&◌, ◌||◌, Bool, false, not, nat_lt, ℤ, ◌*ℤ◌, List, [], ◌∷◌, length, int_lt}
+use Rattle.std.specs.Ordering.{int_eq}
 use Rattle.t1_font.specs.Values.{Value}
 use Rattle.t1_rules.specs.FontRules.Hints.{number_at}
 use Rattle.t1_rules.specs.FontRules.Ids.{is_whole_to}
@@ -27,3 +28,11 @@ has_number_past_range value index =
 -- The entry is there, and is neither 0 nor 1.
 abbrev pub is_no_group : Value → Bool
 is_no_group value = not (is_absent value) && not (is_the_number 0 value || is_the_number 1 value)
+
+-- A matrix of six numbers has an inverse unless the products of its diagonals are the same.
+abbrev pub has_equal_products : List ℤ → Bool
+has_equal_products (a ∷ (b ∷ (c ∷ (d ∷ more)))) = int_eq (a *ℤ d) (b *ℤ c)
+has_equal_products _ = false
+
+abbrev pub is_singular : Value → Bool
+is_singular value = is_so_many 6 value && has_equal_products (first_in 6 value)

@@ -9,7 +9,7 @@ use Rattle.t1_char.specs.Steps.{StepView, is_end}
 use Rattle.t1_rules.specs.declared.rule.Rule.{Rule}
 use Rattle.t1_rules.specs.declared.rule.Rule.TheVariants.{S04, GE01, W01}
 use Rattle.t1_rules.specs.declared.sidebearings.Component.{Component}
-use Rattle.t1_rules.specs.Book.{last_number, number_of}
+use Rattle.t1_rules.specs.Book.{last_number_of_third, number_of}
 use Rattle.t1_rules.specs.StepRules.{StepRule, component_rules, step_rules, breaks, breaks_at}
 use Rattle.t1_rules.specs.StepRules.Arguments.{one_is_past}
 use Rattle.t1_rules.specs.StepRules.Paths.{flex_start, flex_end, in_flex, outer_move, drawing, closing_step, is_moved, is_open}
@@ -35,7 +35,7 @@ abbrev pub BrokenStepsHaveTheseNumbers : Type 0
 BrokenStepsHaveTheseNumbers =
     (edition : Edition) (n : ℕ) (before : List StepView) (step : StepView) →
     breaks (step_rules edition) n before step ≡ true →
-    ((26 ≤ n) × (n ≤ 67)) ⊎ ((has_later_rules edition ≡ true) × ((86 ≤ n) × (n ≤ last_number)))
+    ((26 ≤ n) × (n ≤ 67)) ⊎ ((has_later_rules edition ≡ true) × ((86 ≤ n) × (n ≤ last_number_of_third)))
 
 -- What is broken at a place of a list depends on the steps up to there alone, whatever the rules.
 abbrev pub LaterStepsHaveNoSay : Type 0

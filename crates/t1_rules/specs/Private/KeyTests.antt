@@ -1,13 +1,14 @@
 -- What the rules say of one list at an index: each rule with its test, and which of them are broken.
-use Rattle.std.specs.Prelude.{ℕ, ◌==◌, ◌&&◌, Bool, false, List, [], ◌∷◌}
+use Rattle.std.specs.Prelude.{ℕ, ◌==◌, ◌&&◌, Bool, true, false, List, [], ◌∷◌}
 use Rattle.std.specs.List.{list_any}
 use Rattle.t1_font.specs.declared.key.Key.{Key}
-use Rattle.t1_font.specs.declared.key.Key.TheVariants.{BlueValues}
-use Rattle.t1_font.specs.Fonts.{FontValue}
+use Rattle.t1_font.specs.declared.key.Key.TheVariants.{BlueValues, FontMatrix}
+use Rattle.t1_font.specs.Fonts.{FontValue, is_key_twice}
 use Rattle.t1_rules.specs.declared.rule.Rule.{Rule}
-use Rattle.t1_rules.specs.declared.rule.Rule.TheVariants.{Z01, Z02, Z03, Z04, Z05, Z06, Z07, Z08, Z09, Z10, Z11, Z12, Z13, Z14, Z15, Z16}
+use Rattle.t1_rules.specs.declared.rule.Rule.TheVariants.{Z01, Z02, Z03, Z04, Z05, Z06, Z07, Z08, Z09, Z10, Z11, Z12, Z13, Z14, Z15, Z16, F23, F27}
 use Rattle.t1_rules.specs.Book.{number_of}
 use Rattle.t1_rules.specs.Keys.{value_at}
+use Rattle.t1_rules.specs.FontRules.Dictionaries.{is_singular}
 use Rattle.t1_rules.specs.FontRules.Values.{first_in, is_absent}
 use Rattle.t1_rules.specs.FontRules.Hints.{is_of_another_kind, numbers_at, has_too_many, falls_at, has_fraction_at, repeats_at}
 use Rattle.t1_rules.specs.FontRules.Zones.{has_odd_count, distance, scale, is_too_near, meets, is_too_high}
@@ -77,4 +78,17 @@ abbrev pub later_snap_tests : FontValue → Key → Key → ℕ → List (Rule �
 later_snap_tests font k width index =
     (Z15, repeats_at (numbers_at font k) index)
     ∷ (Z16, index == 0 && lacks_snap (first_in 1 (value_at font width)) (value_at font k))
+    ∷ []
+
+-- ---- by the latest
+
+abbrev pub is_matrix : Key → Bool
+is_matrix FontMatrix = true
+is_matrix _ = false
+
+-- Of a plain key.
+abbrev pub repeated_tests : FontValue → Key → ℕ → List (Rule × Bool)
+repeated_tests font k index =
+    (F23, index == 0 && is_key_twice font k)
+    ∷ (F27, is_matrix k && (index == 0 && is_singular (value_at font k)))
     ∷ []

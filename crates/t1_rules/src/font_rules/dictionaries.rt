@@ -1,10 +1,10 @@
 //! The rules on entries of the dictionaries that are looked at alone: Type 1 Font Format 1.1, chapters 2 and 5.
 
-ghost use Rattle.std.specs.Prelude.{◌≡◌, ℕ};
+ghost use Rattle.std.specs.Prelude.{◌≡◌, ◌*ℤ◌, ℕ};
 ghost use Rattle.t1_font.specs.Entries.{entry_view};
 ghost use Rattle.t1_font.specs.declared.key.Key.TheVariants as keys;
 ghost use Rattle.t1_rules.specs.FontRules.{later_font_rules, violated};
-ghost use Rattle.t1_rules.specs.FontRules.Dictionaries.{are_exchanged, has_corners_exchanged, has_number_past_range, is_malformed, is_no_group};
+ghost use Rattle.t1_rules.specs.FontRules.Dictionaries.{are_exchanged, has_corners_exchanged, has_equal_products, has_number_past_range, is_malformed, is_no_group, is_singular};
 ghost use Rattle.t1_rules.specs.FontRules.Values.{is_so_many};
 ghost use Rattle.t1_rules.specs.Keys.{key_number};
 ghost use Rattle.t1_rules.specs.Mask.{has};
@@ -59,6 +59,32 @@ pub fn is_no_group(value: &Entry) -> bool
     ensures { result ≡ is_no_group (entry_view value.now) }
 {
     !matches!(value, Entry::Absent) && !(is_the_number(0, value) || is_the_number(1, value))
+}
+
+/// Returns the product of two numbers.
+fn product(one: i64, other: i64) -> i128
+    ensures { result ≡ one *ℤ other }
+{
+    let first = i128::from(one);
+    let second = i128::from(other);
+    first * second
+}
+
+/// Whether the products of a matrix's diagonals are the same.
+fn has_equal_products(numbers: &[i64]) -> bool
+    ensures { result ≡ has_equal_products numbers.now }
+{
+    match numbers {
+        [a, b, c, d, ..] => product(*a, *d) == product(*b, *c),
+        _ => false,
+    }
+}
+
+/// Whether a value is a matrix of six numbers without an inverse.
+pub(crate) fn is_singular(value: &Entry) -> bool
+    ensures { result ≡ is_singular (entry_view value.now) }
+{
+    is_so_many(6, value) && has_equal_products(first_in(6, value))
 }
 
 /// What FontMatrix breaks of the later rules at an index.
