@@ -1,7 +1,7 @@
 //! The text of a reason.
 
 ghost use Rattle.std.specs.Prelude.{◌≡◌, Some, IfOk, option_map};
-ghost use Rattle.t1_reason_texts.specs.Texts.{drawn_reason_text, font_reason_text, numbers_reason_text, reason_text, says_more, shown_text};
+ghost use Rattle.t1_reason_texts.specs.Texts.{font_reason_text, reason_text, says_more, shown_text};
 
 use crate::decimals::{Coordinates, coordinate, value};
 use crate::font_texts::{EntryText, FoundText, SubrEntryText, encoded_name, has_two};
@@ -155,33 +155,6 @@ impl fmt::Display for ReasonText<'_, '_> {
                 let are = Are(there);
                 write!(f, "the count is {count}, {are} there")
             }
-            _ => {
-                let text = DrawnReasonText {
-                    font: self.font,
-                    rule,
-                    reason: self.reason,
-                };
-                write!(f, "{text}")
-            }
-        }
-    }
-}
-
-/// The text of a reason that speaks of points, of stems or of an accented character, or of what `FontReasonText` says.
-#[derive(Clone, Copy)]
-struct DrawnReasonText<'a, 'b> {
-    font: &'a Font<'b>,
-    rule: Rule,
-    reason: Reason,
-}
-
-impl fmt::Display for DrawnReasonText<'_, '_> {
-    ghost output = { λ t. Some (drawn_reason_text t.font.now t.rule t.reason) };
-
-    #[tactic(auto, unfolding(crate::specs::Texts::drawn_reason_text))]
-    fn fmt<W: fmt::Write>(&self, f: &mut fmt::Formatter<W>) -> fmt::Result {
-        let rule = self.rule;
-        match self.reason {
             Reason::Pairs {
                 moves,
                 points,
@@ -245,32 +218,24 @@ impl fmt::Display for DrawnReasonText<'_, '_> {
                 write!(f, "{text}")
             }
             _ => {
-                let text = FontReasonText {
-                    font: self.font,
-                    rule,
-                    reason: self.reason,
-                };
+                let text = FontReasonText(*self);
                 write!(f, "{text}")
             }
         }
     }
 }
 
-/// The text of a reason that speaks of the font, of a charstring as a whole, or of a waiver.
+/// The text of a reason that speaks of the font and the numbers of its entries, of a charstring as a whole, or of a waiver.
 #[derive(Clone, Copy)]
-struct FontReasonText<'a, 'b> {
-    font: &'a Font<'b>,
-    rule: Rule,
-    reason: Reason,
-}
+struct FontReasonText<'a, 'b>(ReasonText<'a, 'b>);
 
 impl fmt::Display for FontReasonText<'_, '_> {
-    ghost output = { λ t. Some (font_reason_text t.font.now t.rule t.reason) };
+    ghost output = { λ t. Some (font_reason_text t.0.font.now t.0.rule t.0.reason) };
 
     #[tactic(auto, unfolding(crate::specs::Texts::font_reason_text))]
     fn fmt<W: fmt::Write>(&self, f: &mut fmt::Formatter<W>) -> fmt::Result {
-        let rule = self.rule;
-        match self.reason {
+        let ReasonText { font, rule, reason } = self.0;
+        match reason {
             Reason::Limit { steps } => write!(f, "more than {steps} steps"),
             Reason::Entry { found } => {
                 let entry = EntryText(rule, found);
@@ -332,11 +297,11 @@ impl fmt::Display for FontReasonText<'_, '_> {
                 }
             }
             Reason::Glyph { glyph } => {
-                let name = ShownName(self.font.glyph_name(glyph as usize));
+                let name = ShownName(font.glyph_name(glyph as usize));
                 write!(f, "the glyph is {name}")
             }
             Reason::Code { code } => {
-                let name = ShownName(encoded_name(self.font, code));
+                let name = ShownName(encoded_name(font, code));
                 write!(f, "code {code} names {name}")
             }
             Reason::LastToken { token } => match token {
@@ -351,33 +316,6 @@ impl fmt::Display for FontReasonText<'_, '_> {
                 Unused::NoGlyph => write!(f, "no glyph has this name"),
                 Unused::Unbroken { .. } => write!(f, "no step of the glyph breaks this rule"),
             },
-            _ => {
-                let text = NumbersReasonText {
-                    font: self.font,
-                    rule,
-                    reason: self.reason,
-                };
-                write!(f, "{text}")
-            }
-        }
-    }
-}
-
-/// The text of a reason that speaks of the numbers of an entry: zones, heights, widths.
-#[derive(Clone, Copy)]
-struct NumbersReasonText<'a, 'b> {
-    font: &'a Font<'b>,
-    rule: Rule,
-    reason: Reason,
-}
-
-impl fmt::Display for NumbersReasonText<'_, '_> {
-    ghost output = { λ t. Some (numbers_reason_text t.font.now t.rule t.reason) };
-
-    #[tactic(auto, unfolding(crate::specs::Texts::numbers_reason_text))]
-    fn fmt<W: fmt::Write>(&self, f: &mut fmt::Formatter<W>) -> fmt::Result {
-        let rule = self.rule;
-        match self.reason {
             Reason::TooMany { count, most } => {
                 let numbers = Counted(count, "number");
                 write!(f, "{numbers}, {most} at most")
@@ -414,7 +352,7 @@ impl fmt::Display for NumbersReasonText<'_, '_> {
                     lower,
                     distance,
                 };
-                let does = WouldDo("BlueFuzz", from_zero(fuzz_that_does(self.font)));
+                let does = WouldDo("BlueFuzz", from_zero(fuzz_that_does(font)));
                 write!(f, "{gap}{does}")
             }
             Reason::Zones {
@@ -424,7 +362,7 @@ impl fmt::Display for NumbersReasonText<'_, '_> {
             } => {
                 let zones = ZonesText(own, other);
                 let needed = NeededText(distance);
-                let does = WouldDo("BlueFuzz", from_zero(fuzz_across(self.font)));
+                let does = WouldDo("BlueFuzz", from_zero(fuzz_across(font)));
                 write!(f, "{zones}{needed}{does}")
             }
             Reason::Zone {
@@ -437,14 +375,35 @@ impl fmt::Display for NumbersReasonText<'_, '_> {
                     upper,
                     scale,
                 };
-                let does = WouldDo("BlueScale", from_zero(scale_that_does(self.font)));
+                let does = WouldDo("BlueScale", from_zero(scale_that_does(font)));
                 write!(f, "{zone}{does}")
             }
             Reason::Width { width, nearest } => {
                 let text = WidthText { width, nearest };
                 write!(f, "{text}")
             }
-            _ => Ok(()),
+            Reason::Nothing
+            | Reason::Count { .. }
+            | Reason::Full { .. }
+            | Reason::Length { .. }
+            | Reason::Ending { .. }
+            | Reason::Behind { .. }
+            | Reason::Argument { .. }
+            | Reason::Quotient { .. }
+            | Reason::Depth { .. }
+            | Reason::Subr { .. }
+            | Reason::Token { .. }
+            | Reason::Since { .. }
+            | Reason::Othersubr { .. }
+            | Reason::Arguments { .. }
+            | Reason::Pairs { .. }
+            | Reason::Open { .. }
+            | Reason::Stems { .. }
+            | Reason::Stem { .. }
+            | Reason::Triple { .. }
+            | Reason::Miss { .. }
+            | Reason::Codes { .. }
+            | Reason::Sidebearings { .. } => Ok(()),
         }
     }
 }

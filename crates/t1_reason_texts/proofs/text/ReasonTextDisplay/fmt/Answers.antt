@@ -1,7 +1,7 @@
-use Rattle.t1_reason_texts.specs.Texts.{drawn_reason_text}
-use Rattle.t1_reason_texts.proofs.text.DrawnReasonTextDisplay.fmt.Goals as goal
+use Rattle.t1_reason_texts.specs.Texts.{reason_text}
+use Rattle.t1_reason_texts.proofs.text.ReasonTextDisplay.fmt.Goals as goal
 
 pub returns-in-Triple-clause-writes : goal.returns-in-Triple-clause-writes
-unfolding drawn_reason_text
+unfolding reason_text
 returns-in-Triple-clause-writes g c =
     rw c.in-Triple.is (rw (c.off_words-off.ensures, c.middle_that_does.ensures) at c.write-in-Triple.ensures.writes)
