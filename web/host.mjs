@@ -2,7 +2,7 @@
 // crates/t1_web says what each export does. The page has a copy of this file in its worker.
 
 // How a call ended; crates/t1_web/specs/Numbers.antt has the same numbers.
-const LAST = 0, MORE = 1, NO_ROOM = 2, REFUSED = 3, MEMORY = 4, NO_GLYPH = 5, BAD_NAME = 6, NO_FAULT = 7, NO_NUMBERS = 8;
+const LAST = 0, MORE = 1, NO_ROOM = 2, REFUSED = 3, MEMORY = 4, NO_GLYPH = 5, BAD_NAME = 6, NO_FAULT = 7, NO_NUMBERS = 8, NO_EDITION = 9;
 
 // How much of a glyph is drawn.
 const ALL = 0, UP_TO = 1, FAULT = 2;
@@ -14,7 +14,7 @@ const KEYS = {
 };
 
 // How many rules and refusals there are.
-const CODES = 93 + 15;
+const CODES = 101 + 15;
 
 // The forms of a report: the export that hands it over, its words for the form, and how many bytes are kept between two calls. Of a document
 // these have a count of 8 bytes for each code.
@@ -91,6 +91,7 @@ class Call {
     if (status === NO_NUMBERS) return { kind: 'no numbers' };
     if (status === MEMORY) return { kind: 'memory' };
     if (status === BAD_NAME) throw new TypeError('the name is not UTF-8');
+    if (status === NO_EDITION) throw new TypeError('there is no such edition');
     if (status !== REFUSED) throw new Error(`status ${status}`);
     const text = new TextDecoder().decode(this.handed());
     return { kind: 'refused', code: text.slice(0, 3), text: text.slice(4) };

@@ -128,6 +128,25 @@ if (host.picture) {
   same('no such fault', none, { kind: 'no fault' });
 }
 
+// Editions that can't be asked for: none is taken for the first.
+const messageOf = (call) => {
+  try {
+    return call();
+  } catch (error) {
+    return error.message;
+  }
+};
+for (const edition of [0, Math.max(...EDITIONS) + 1]) {
+  const bytes = fs.readFileSync(letter);
+  for (const form of ['text', 'json', 'sarif']) {
+    const ended = () => whole(host.report(module, bytes, { ...SMALL, edition, form, name: 'letter.pfb' })).end;
+    same(`${form} by edition ${edition}`, messageOf(ended), 'there is no such edition');
+  }
+  if (host.picture) {
+    same(`a picture by edition ${edition}`, messageOf(() => host.picture(module, bytes, { edition, glyph: Buffer.from('A') })), 'there is no such edition');
+  }
+}
+
 // The numbers of entries, as the fonts have them.
 for (const [name, key, numbers] of [
   ['zones_and_glyphs.pfb', 'BlueValues', { kind: 'numbers', count: 2, numbers: ['0', '26'] }],

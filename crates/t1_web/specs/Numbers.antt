@@ -1,10 +1,6 @@
 -- What the numbers of a host mean.
 use Rattle.std.specs.Prelude.{◌≡◌, ℕ, ◌==◌, if◌then◌else◌, List, [], ◌∷◌, Option, None, Some}
-use Rattle.std.specs.Option.{unwrap_or}
 use Rattle.std.specs.Str.{IsUtf8}
-use Rattle.t1_char.specs.declared.edition.Edition.{Edition}
-use Rattle.t1_char.specs.declared.edition.Edition.TheVariants.{One}
-use Rattle.t1_char.specs.Editions.{edition_numbered}
 use Rattle.t1_font.specs.declared.key.Key.{Key}
 use Rattle.t1_font.specs.declared.key.Key.TheVariants.{BlueValues, FamilyBlues, FamilyOtherBlues, FontBBox, FontMatrix, MinFeature, OtherBlues, StdHw, StdVw, StemSnapH, StemSnapV, Xuid}
 use Rattle.t1_picture.specs.declared.extent.Extent.{Extent}
@@ -21,10 +17,6 @@ use Rattle.t1_pieces.specs.declared.stage.Stage.{Stage}
 use Rattle.t1_pieces.specs.declared.stage.Stage.TheVariants.{Beginning, Nothing, Results}
 use Rattle.t1_web.specs.declared.HostMark.{HostMark}
 use Rattle.t1_web.specs.declared.HostReached.{HostReached}
-
--- The edition of a number, or the first.
-abbrev pub edition_of : ℕ → Edition
-edition_of n = unwrap_or (edition_numbered n) One
 
 -- 0 is t1check's line, any other number an object of the font of a name; there is none where the name isn't UTF-8.
 abbrev pub IsFormOf : ℕ → List ℕ → Option Form → Type 0

@@ -2,7 +2,7 @@
 //!
 //! Each export takes the bytes of a font and of waivers, and room for what it hands over. It returns a status, of which
 //! `specs/Numbers.antt` has the numbers, and says how many bytes it handed over; where the room doesn't hold what comes next, how many
-//! that has. A number that no edition has is the first one.
+//! that has. A number that no edition has is refused.
 //!
 //! What is promised: what [`t1_pieces`] promises of its calls. A host that isn't Rattle is checked by nothing: it has to pass
 //! addresses of memory that is its own, with their lengths, and none twice.
@@ -11,17 +11,17 @@
 mod numbers;
 
 ghost use Rattle.std.specs.Prelude.{List, None, map};
+ghost use Rattle.t1_char.specs.Editions.{edition_numbered};
 ghost use Rattle.t1_forms.specs.PageValues.{PageValue, page_value};
 ghost use Rattle.t1_pieces.specs.Documents.{IsDocumentPiece};
 ghost use Rattle.t1_pieces.specs.Reading.{input_in};
 ghost use Rattle.t1_run.specs.FontFiles.{font_of};
 ghost use Rattle.t1_web.specs.Answers.{AreHandedOver, IsDocumentHandedOver, IsEntryHandedOver, IsPictureHandedOver};
-ghost use Rattle.t1_web.specs.Numbers.{edition_of, extent_of, list_key, mark_of, reached_of};
+ghost use Rattle.t1_web.specs.Numbers.{extent_of, list_key, mark_of, reached_of};
 
-use crate::numbers::{
-    bytes_of, edition_of, extent_of, form_of, list_key, stage_number, stage_of, status_of,
-};
+use crate::numbers::{bytes_of, extent_of, form_of, list_key, stage_number, stage_of, status_of};
 use std::alloc::Global;
+use t1_char::Edition;
 use t1_forms::{Page, Pages, RESULT_COUNTS};
 use t1_pages::pages;
 use t1_pieces::{
@@ -56,6 +56,9 @@ pub struct HostReached {
 /// The status where a name isn't UTF-8.
 const NO_NAME: u32 = 6;
 
+/// The status where no edition of a number can be asked for.
+const NO_EDITION: u32 = 9;
+
 /// The status where no key has a number.
 const NO_ENTRY: u32 = 8;
 
@@ -73,17 +76,21 @@ pub extern "C" fn t1_web_lines(
     room: &mut [u8],
     written: &mut usize,
 ) -> u32
-    ensures { AreHandedOver form name.now (input_in (edition_of edition) font.now waivers.now) (mark_of mark.old) (mark_of mark.new)
+    ensures { AreHandedOver form name.now (edition_numbered edition) font.now waivers.now (mark_of mark.old) (mark_of mark.new)
         (record { room = room.new; written = written.new; status = result }) }
 {
     let Some(form) = form_of(form, name) else {
         *written = 0;
         return NO_NAME;
     };
+    let Some(edition) = Edition::numbered(u64::from(edition)) else {
+        *written = 0;
+        return NO_EDITION;
+    };
     let request = Request {
         font,
         waivers,
-        edition: edition_of(edition),
+        edition,
     };
     let mut reached = Mark {
         number: mark.number,
@@ -114,12 +121,16 @@ pub extern "C" fn t1_web_document(
     written: &mut usize,
 ) -> u32
     ensures { (list : List PageValue) × IsDocumentHandedOver (record { list = list; docs = None }) name.now
-        (input_in (edition_of edition) font.now waivers.now) (reached_of reached.old) (reached_of reached.new)
+        (edition_numbered edition) font.now waivers.now (reached_of reached.old) (reached_of reached.new)
         (record { room = room.new; written = written.new; status = result }) }
 {
     let Ok(name) = str::from_utf8(name) else {
         *written = 0;
         return NO_NAME;
+    };
+    let Some(edition) = Edition::numbered(u64::from(edition)) else {
+        *written = 0;
+        return NO_EDITION;
     };
     let list = pages();
     let mut place = Reached {
@@ -148,19 +159,19 @@ fn document_with<'a>(
     alloc: Global,
     font: &'a [u8],
     waivers: &'a [u8],
-    edition: u32,
+    edition: Edition,
     name: &'a str,
     list: &'a [Page],
     place: &mut Reached,
     room: &mut [u8],
 ) -> Piece
     ensures { IsDocumentPiece name.now (record { list = map page_value list.now; docs = None })
-        (input_in (edition_of edition) font.now waivers.now) place.old place.new room.new result }
+        (input_in edition font.now waivers.now) place.old place.new room.new result }
 {
     let request = Request {
         font,
         waivers,
-        edition: edition_of(edition),
+        edition,
     };
     let wanted = DocumentRequest {
         name,
@@ -183,13 +194,17 @@ pub extern "C" fn t1_web_picture(
     room: &mut [u8],
     written: &mut usize,
 ) -> u32
-    ensures { IsPictureHandedOver glyph.now (extent_of kind number) (input_in (edition_of edition) font.now waivers.now)
+    ensures { IsPictureHandedOver glyph.now (extent_of kind number) (edition_numbered edition) font.now waivers.now
         (record { room = room.new; written = written.new; status = result }) }
 {
+    let Some(edition) = Edition::numbered(u64::from(edition)) else {
+        *written = 0;
+        return NO_EDITION;
+    };
     let request = Request {
         font,
         waivers,
-        edition: edition_of(edition),
+        edition,
     };
     let drawn = picture(alloc, &request, glyph, extent_of(kind, number), room);
     *written = bytes_of(drawn);

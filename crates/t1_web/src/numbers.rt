@@ -1,19 +1,11 @@
 //! What the numbers of a host mean.
 
 ghost use Rattle.std.specs.Prelude.{◌≡◌};
-ghost use Rattle.t1_web.specs.Numbers.{IsFormOf, bytes_of, edition_of, extent_of, list_key, stage_number, stage_of, status_of};
+ghost use Rattle.t1_web.specs.Numbers.{IsFormOf, bytes_of, extent_of, list_key, stage_number, stage_of, status_of};
 
-use t1_char::Edition;
 use t1_font::Key;
 use t1_picture::Extent;
 use t1_pieces::{Form, Missing, Piece, Stage};
-
-/// The edition that a host names by its number: the first where there is none of that number.
-pub(crate) fn edition_of(number: u32) -> Edition
-    ensures { result ≡ edition_of number }
-{
-    Edition::numbered(u64::from(number)).unwrap_or(Edition::One)
-}
 
 /// The form that a host names: 0 is t1check's line, any other number an object of the font of a name. None where the name isn't
 /// UTF-8.
