@@ -4,6 +4,7 @@ pub mod ClearItemsRead
 pub mod CodesRead
 pub mod Compose
 pub mod DifferentKeys
+pub mod Entries
 pub mod EntriesAlone
 pub mod FileRead
 pub mod FontMaps

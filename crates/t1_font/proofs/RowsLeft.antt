@@ -3,6 +3,8 @@ use Rattle.std.proofs.Common.{◌≡◌, ◌<◌, ◌≤◌, ◌-◌, ℕ, lengt
 use Rattle.std.proofs.lemmas.Bool.Decides.{nat_tests}
 use Rattle.std.specs.Borrow.{Bor}
 use Rattle.t1_scan.specs.Tokens.{Found}
+use Rattle.t1_scan.specs.declared.token.Token.{Token}
+use Rattle.t1_font.specs.Private.Turning.{IsAhead}
 use Rattle.t1_font.specs.declared.mode.TextMode.{TextMode}
 use Rattle.t1_font.specs.declared.mode.TextMode.TheVariants.{Clear, Private}
 use Rattle.t1_font.specs.declared.row.Role.{Role}
@@ -12,9 +14,11 @@ use Rattle.t1_font.specs.ClearText.{clear_turn}
 use Rattle.t1_font.specs.Fonts.{FontValue, Stated}
 use Rattle.t1_font.specs.PrivateText.{private_turn}
 use Rattle.t1_font.specs.Readings.{◌>>=◌}
-use Rattle.t1_font.specs.Rows.{RowToken, charstring_in, left_behind, nothing_stated, of_text, role_of, row_of, row_token, row_within, text_turn, token_before, tokens_until, tokens_within}
+use Rattle.t1_font.specs.Rows.{RowToken, charstring_in, found_first, left_behind, nothing_stated, of_text, role_of, row_of, row_token, row_within, text_turn, token_before, tokens_left, tokens_until, tokens_within}
 use Rattle.t1_font.specs.TextTurns.{TextTurn, over, goes}
-use Rattle.t1_font.specs.Tokens.{token_ahead}
+use Rattle.t1_scan.specs.declared.error.ScanError.{ScanError}
+use Rattle.t1_font.specs.declared.unread.Unread.TheVariants.{Unclosed}
+use Rattle.t1_font.specs.Tokens.{token_ahead, token_at, wanted}
 use Rattle.t1_font.specs.Views.{bytes_of}
 use Rattle.t1_font.proofs.Running.{IsBehind, Leaves, Shortens, is_shorter}
 use Rattle.t1_font.proofs.Shorter.{ahead_first, clear_shortens, private_shortens}
@@ -85,6 +89,34 @@ row_taken ends stop role s t later is = ap (λ ts. ts ++ later) (one_token ends 
 pub row_behind : (ends : Bool) (stop : ℕ) (role : Role) (s : List ℕ) (later : List RowToken) → token_before stop s ≡ None
     → tokens_until role ends stop s ++ later ≡ later
 row_behind ends stop role s later is = ap (λ ts. ts ++ later) (no_token ends stop role s is)
+
+pub turned : (ends : Bool) (stop : ℕ) (role : Role) (s : List ℕ) (first : Option (Token × Bor (List ℕ))) (later : List RowToken) → first ≡ None
+    → token_before stop s ≡ None → tokens_left role ends stop s first ++ later ≡ later
+turned ends stop role s first later none is = rw none (row_behind ends stop role s later is)
+
+abbrev pub read_wanted : Unread → Result (Option Found) ScanError → Result Found Unread
+read_wanted e read = elim read [ Err _ ↦ Err Unclosed | Ok found ↦ elim found [ None ↦ Err e | Some u ↦ Ok u ] ]
+
+abbrev pub read_ahead : Result (Option Found) ScanError → Option Found
+read_ahead read = elim read [ Err _ ↦ None | Ok found ↦ found ]
+
+pub wanted_ahead : (e : Unread) (s : List ℕ) (t : Found) → wanted e s ≡ Ok t → token_ahead s ≡ Some t
+unfolding wanted token_ahead
+wanted_ahead e s t is = go (token_at s) is
+  where
+    go : (read : Result (Option Found) ScanError) → read_wanted e read ≡ Ok t → read_ahead read ≡ Some t
+    go (Ok (Some u)) is = let same : u ≡ t = cc in ap Some same
+    go (Ok None) is = cc
+    go (Err x) is = cc
+
+-- The first token, where it was read.
+pub first_read : (ends : Bool) (stop : ℕ) (role : Role) (s : List ℕ) (first : Option (Token × Bor (List ℕ))) → IsAhead s first → stop < length s
+    → tokens_left role ends stop s first ≡ tokens_until role ends stop s
+unfolding token_before
+first_read ends stop role s None ahead less = refl
+first_read ends stop role s (Some p) ahead less =
+    let more : nat_le (length s) stop ≡ false = grind (arith, nat_tests, less) in
+    sym (one_token ends stop role s (found_first p) (rw more ahead))
 
 -- ---- turns
 

@@ -1,4 +1,5 @@
 -- Words that private contracts alone cite: no clause of a public function rests on them.
+pub mod Entries
 pub mod Items
 pub mod KeyRows
 pub mod KeyValues

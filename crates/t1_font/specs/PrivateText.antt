@@ -122,13 +122,20 @@ glyphs_token v kind text rest =
     else if is_name_kind kind then glyph_turn v (name_of text) rest
     else Err BadCharStrings
 
--- A turn of the private text, where these keys are noted.
-unfoldable pub private_turn_by : Notes → FontValue → PrivateMode → List ℕ → Result (TextTurn PrivateMode) Unread
-private_turn_by notes v mode s = wanted BadCharStrings s >>= λ t. elim mode [
-  | Outside ↦ private_outside_by notes v t.kind t.text t.rest
-  | Subrs ↦ subrs_token_by notes v t.kind t.text t.rest
-  | Glyphs ↦ glyphs_token v t.kind t.text t.rest
+-- What a token of the private text begins, where these keys are noted.
+abbrev pub private_token_by : Notes → FontValue → PrivateMode → Kind → List ℕ → List ℕ → Result (TextTurn PrivateMode) Unread
+private_token_by notes v mode kind text rest = elim mode [
+  | Outside ↦ private_outside_by notes v kind text rest
+  | Subrs ↦ subrs_token_by notes v kind text rest
+  | Glyphs ↦ glyphs_token v kind text rest
 ]
+
+abbrev pub private_token : FontValue → PrivateMode → Kind → List ℕ → List ℕ → Result (TextTurn PrivateMode) Unread
+private_token = private_token_by all_notes
+
+-- A turn of it.
+unfoldable pub private_turn_by : Notes → FontValue → PrivateMode → List ℕ → Result (TextTurn PrivateMode) Unread
+private_turn_by notes v mode s = wanted BadCharStrings s >>= λ t. private_token_by notes v mode t.kind t.text t.rest
 
 abbrev pub private_turn : FontValue → PrivateMode → List ℕ → Result (TextTurn PrivateMode) Unread
 private_turn = private_turn_by all_notes

@@ -1,13 +1,19 @@
 -- The row of a text: all its tokens, one by one, as far as the reader goes (Type 1 Font Format, chapter 2). The bytes of a
 -- charstring, and the one before them, are no tokens: they are passed over as the reader passes them.
-use Rattle.std.specs.Prelude.{ℕ, zero, suc, ◌+◌, Bool, true, false, ◌&&◌, if◌then◌else◌, nat_le, is_some, Option, Some, None, Result, Ok, Err, List, [], ◌∷◌, ◌++◌, length}
+use Rattle.std.specs.List.{AllByRecursion}
+use Rattle.std.specs.Prelude.{◌≡◌, ℕ, zero, suc, ◌+◌, Bool, true, false, ◌&&◌, if◌then◌else◌, nat_le, is_some, Option, Some, None, Result, Ok, Err, List, [], ◌∷◌, ◌++◌, length}
+use Rattle.std.specs.Borrow.{Bor}
 use Rattle.t1_scan.specs.declared.token.Kind.{Kind}
+use Rattle.t1_scan.specs.declared.token.Token.{Token}
 use Rattle.t1_scan.specs.Tokens.{Found}
 use Rattle.t1_font.specs.declared.mode.ClearMode.TheVariants as clear_modes
 use Rattle.t1_font.specs.declared.mode.PrivateMode.TheVariants.{Outside, Glyphs}
 use Rattle.t1_font.specs.declared.mode.TextMode.{TextMode}
 use Rattle.t1_font.specs.declared.mode.TextMode.TheVariants.{Clear, Private}
 use Rattle.t1_font.specs.declared.row.Role.{Role}
+use Rattle.t1_font.specs.declared.row.Entry.{Entry}
+use Rattle.t1_font.specs.declared.row.Part.{Part}
+use Rattle.t1_font.specs.declared.row.Part.TheVariants.{Token as PartToken, Entry as PartEntry}
 use Rattle.t1_font.specs.declared.row.Row.{Row}
 use Rattle.t1_font.specs.declared.row.TokenInRow.{TokenInRow}
 use Rattle.t1_font.specs.declared.row.Role.TheVariants.{Other, List as ListName, Reader}
@@ -17,7 +23,7 @@ use Rattle.t1_font.specs.Fonts.{FontValue, Stated, size, subr, glyph, value_of}
 use Rattle.t1_font.specs.PrivateText.{private_turn}
 use Rattle.t1_font.specs.Readings.{◌>>=◌}
 use Rattle.t1_font.specs.TextTurns.{TextTurn, over, goes}
-use Rattle.t1_font.specs.Tokens.{is_name_kind, name_of, token_ahead}
+use Rattle.t1_font.specs.Tokens.{is_name_kind, is_number_kind, name_of, token_ahead}
 
 -- A token, and what it is to the reader.
 pub record RowToken : Type 0 where
@@ -106,9 +112,19 @@ private_row font = row_of (Private Outside) font.private_text
 abbrev pub token_in_row : TokenInRow → RowToken
 token_in_row t = record { kind = t.token.kind; text = t.token.text.now; role = t.role }
 
--- What is left of a row: the tokens of this turn, and the turns after it.
+-- What is left of a row: the tokens of this turn, of which the first may have been read, and the turns after it.
+abbrev pub found_first : Token × Bor (List ℕ) → Found
+found_first p = record { kind = p.0.kind; text = p.0.text.now; rest = p.1.now }
+
+abbrev pub tokens_left : Role → Bool → ℕ → List ℕ → Option (Token × Bor (List ℕ)) → List RowToken
+tokens_left role ends stop s None = tokens_until role ends stop s
+tokens_left role ends stop s (Some p) = row_token role ends stop (found_first p) ∷ tokens_until Other ends stop p.1.now
+
+abbrev pub turns_left : Row → List RowToken
+turns_left r = if r.is_over then [] else row_of r.mode r.left.now
+
 abbrev pub row_left : Row → List RowToken
-row_left r = tokens_until r.role r.ends r.stop r.text.now ++ (if r.is_over then [] else row_of r.mode r.left.now)
+row_left r = tokens_left r.role r.ends r.stop r.text.now r.first ++ turns_left r
 
 -- The next token, and what is left behind it.
 abbrev pub first_in : List RowToken → Option RowToken
@@ -118,3 +134,27 @@ first_in (t ∷ ts) = Some t
 abbrev pub after_first : List RowToken → List RowToken
 after_first [] = []
 after_first (t ∷ ts) = ts
+
+-- A token of an entry.
+abbrev pub entry_token : Role → Token → RowToken
+entry_token role t = record { kind = t.kind; text = t.text.now; role = role }
+
+-- A number, which no word is.
+abbrev pub IsNumber : RowToken → Type 0
+IsNumber t = (is_number_kind t.kind ≡ true) × (t.role ≡ Other)
+
+-- The tokens of an entry: the one that begins it, numbers, and the word before the bytes.
+pub record HasEntry (e : Entry) (row after : List RowToken) : Type 0 where
+  pub numbers : List RowToken
+  pub all : AllByRecursion IsNumber numbers
+  pub count : length numbers ≡ e.numbers
+  pub whole : row ≡ entry_token Other e.first ∷ (numbers ++ (entry_token Reader e.word ∷ after))
+
+-- A row begins with a part, and this is left after it.
+abbrev pub BeginsWith : Part → List RowToken → List RowToken → Type 0
+BeginsWith (PartToken t) row after = row ≡ token_in_row t ∷ after
+BeginsWith (PartEntry e) row after = HasEntry e row after
+
+abbrev pub IsPart : Option Part → List RowToken → List RowToken → Type 0
+IsPart None row after = row ≡ []
+IsPart (Some part) row after = BeginsWith part row after

@@ -61,7 +61,7 @@ pub use refusal_laws::{
     each_part_has_its_refusals, early_ends, long_charstrings, refusals_of_texts,
     small_broken_texts, unclosed_tokens,
 };
-pub use row::{Role, Row, TokenInRow};
+pub use row::{Entry as RowEntry, Part, Role, Row, TokenInRow};
 pub use tokens::BILLION;
 pub use unread::{RefusalCode, Unread, refusal_text};
 pub use value_laws::lists_by_tokens;

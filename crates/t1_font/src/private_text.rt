@@ -2,7 +2,7 @@
 
 ghost use Rattle.std.specs.Prelude.{◌≡◌, ◌&&◌, length, nat_le, not};
 ghost use Rattle.t1_font.specs.Bounds.{most_glyphs};
-ghost use Rattle.t1_font.specs.PrivateText.{dup_turn, glyph_turn, glyphs_at, glyphs_token, has_key, is_blank_text, is_len_iv, is_len_iv_key, is_minus_one, private_outside, private_turn, private_value, subr_at, subrs_at, subrs_token, subrs_turn};
+ghost use Rattle.t1_font.specs.PrivateText.{dup_turn, glyph_turn, glyphs_at, glyphs_token, has_key, is_blank_text, is_len_iv, is_len_iv_key, is_minus_one, private_outside, private_token, private_turn, private_value, subr_at, subrs_at, subrs_token, subrs_turn};
 ghost use Rattle.t1_font.specs.Private.Readings.{Is};
 ghost use Rattle.t1_font.specs.Private.StatedSoFar.{stated_in};
 ghost use Rattle.t1_font.specs.Private.Statements.{turn_view};
@@ -21,7 +21,7 @@ use crate::unread::Unread;
 use t1_scan::Kind;
 
 /// The greatest number of a Subr.
-const LAST_SUBR: u32 = MOST_SUBRS - 1;
+pub(crate) const LAST_SUBR: u32 = MOST_SUBRS - 1;
 
 /// Whether a number is the least lenIV, which says that charstrings aren't encrypted.
 fn is_minus_one(kind: Kind) -> bool
@@ -248,7 +248,25 @@ fn glyphs_token<'a>(
     Err(Unread::BadCharStrings)
 }
 
-/// One turn of the private text, after what is stated so far, if anything is.
+/// What a token begins, after what is stated so far, if anything is.
+#[inline(always)]
+pub(crate) fn private_token<'a>(
+    font: Option<&Font<'a>>,
+    mode: PrivateMode,
+    kind: Kind,
+    text: &'a [u8],
+    rest: &'a [u8],
+) -> Result<Turn<'a, PrivateMode>, Unread>
+    ensures { Is turn_view result (private_token (stated_in font.entry) mode kind text.now rest.now) }
+{
+    match mode {
+        PrivateMode::Outside => private_outside(font, kind, text, rest),
+        PrivateMode::Subrs => subrs_token(font, kind, text, rest),
+        PrivateMode::Glyphs => glyphs_token(font, kind, text, rest),
+    }
+}
+
+/// One turn of the private text.
 #[tactic(auto, unfolding(crate::specs::PrivateText::private_turn_by))]
 pub(crate) fn private_turn<'a>(
     font: Option<&Font<'a>>,
@@ -258,9 +276,5 @@ pub(crate) fn private_turn<'a>(
     ensures { Is turn_view result (private_turn (stated_in font.entry) mode text.now) }
 {
     let (token, rest) = wanted(text, Unread::BadCharStrings)?;
-    match mode {
-        PrivateMode::Outside => private_outside(font, token.kind, token.text, rest),
-        PrivateMode::Subrs => subrs_token(font, token.kind, token.text, rest),
-        PrivateMode::Glyphs => glyphs_token(font, token.kind, token.text, rest),
-    }
+    private_token(font, mode, token.kind, token.text, rest)
 }

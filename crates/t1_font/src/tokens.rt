@@ -1,7 +1,8 @@
 //! Tokens and raw bytes, as the texts of a font are read by them: Type 1 Font Format 1.1, chapter 2. Each
 //! reader takes what is left of a text, and returns what it reads and what is left after that.
 
-ghost use Rattle.std.specs.Prelude.{◌≡◌};
+ghost use Rattle.std.specs.Prelude.{◌≡◌, IfOk};
+ghost use Rattle.t1_font.specs.Private.Entries.{IsWordBefore};
 ghost use Rattle.t1_font.specs.Private.Readings.{Is};
 ghost use Rattle.t1_font.specs.Tokens.{charstring_at, inside_of, is_array_kind, is_name_kind, is_number_kind, is_word_kind, name_of, natural, past_word, raw_of, some_raw, spells, token_ahead, wanted, whole, whole_up_to};
 ghost use Rattle.t1_font.specs.Private.Tokens.{IsFirst, Sees, found_of};
@@ -154,19 +155,32 @@ pub(crate) fn past_word<'a>(text: &'a [u8], bad: Unread, word: &[u8]) -> Result<
     }
 }
 
-/// The bytes of a charstring, after their count, any word and one byte; and what is left.
+/// The word before the bytes of a charstring, which comes after their count; the bytes, which come after one byte; and what is left.
 #[tactic(auto, unfolding(crate::specs::Tokens::charstring_at))]
-pub(crate) fn charstring<'a>(text: &'a [u8], bad: Unread) -> Result<(&'a [u8], &'a [u8]), Unread>
-    ensures { Is (λ p. (p.0.now, p.1.now)) result (charstring_at bad text.now) }
+#[inline(always)]
+pub(crate) fn charstring_with_word<'a>(
+    text: &'a [u8],
+    bad: Unread,
+) -> Result<(Token<'a>, &'a [u8], &'a [u8]), Unread>
+    ensures read { Is (λ p. (p.1.now, p.2.now)) result (charstring_at bad text.now) }
+    ensures word { IfOk result (λ p. IsWordBefore text.now p.0 p.1.now p.2.now) }
 {
     let (count, rest) = wanted(text, bad)?;
     let len = natural(bad, LONGEST_CHARSTRING, count.kind)?;
     let (word, rest) = wanted(rest, bad)?;
-    if is_any_word(word.kind) {
-        raw(rest, bad, len)
-    } else {
-        Err(bad)
+    if !is_any_word(word.kind) {
+        return Err(bad);
     }
+    let (bytes, left) = raw(rest, bad, len)?;
+    Ok((word, bytes, left))
+}
+
+/// The bytes of a charstring, after their count, any word and one byte; and what is left.
+pub(crate) fn charstring<'a>(text: &'a [u8], bad: Unread) -> Result<(&'a [u8], &'a [u8]), Unread>
+    ensures { Is (λ p. (p.0.now, p.1.now)) result (charstring_at bad text.now) }
+{
+    let (_, bytes, left) = charstring_with_word(text, bad)?;
+    Ok((bytes, left))
 }
 
 /// What is between the brackets of an array or a procedure.

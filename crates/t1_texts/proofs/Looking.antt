@@ -1,15 +1,23 @@
 -- Looking through tokens one by one.
-use Rattle.std.proofs.Common.{◌≡◌, ◌<◌, ◌≤◌, ◌-◌, ℕ, zero, suc, Bool, true, false, ◌&&◌, ◌||◌, not, if◌then◌else◌, Option, Some, None, List, [], ◌∷◌, ◌++◌, drop, take, length, append-nil, append_assoc, refl, sym, ap, subst, ◌∙◌, arith}
+use Rattle.std.proofs.Common.{◌≡◌, ◌<◌, ◌≤◌, ◌+◌, ◌-◌, ℕ, ℤ, zero, suc, Bool, true, false, ◌&&◌, ◌||◌, not, if◌then◌else◌, Option, Some, None, is_some, List, [], ◌∷◌, ◌++◌, drop, take, length, append-nil, append_assoc, refl, sym, ap, subst, ◌∙◌, arith}
 use Rattle.std.proofs.Math.Bool.{or-false}
 use Rattle.std.proofs.lemmas.List.Folds.{list_any-append}
 use Rattle.std.proofs.lemmas.Slice.Eq.{bytes_eq-Decides}
 use Rattle.std.specs.Borrow.{Bor}
-use Rattle.std.specs.List.{list_all, list_any}
+use Rattle.std.specs.List.{AllByRecursion, list_all, list_any}
+use Rattle.t1_scan.specs.declared.token.Kind.{Kind}
+use Rattle.t1_scan.specs.declared.token.Kind.TheVariants.{Number}
 use Rattle.std.specs.Str.{bytes_eq}
-use Rattle.t1_font.specs.Rows.{RowToken, after_first, first_in}
+use Rattle.t1_font.specs.declared.row.Entry.{Entry}
+use Rattle.t1_font.specs.declared.row.Role.TheVariants.{Other, Reader}
+use Rattle.t1_font.specs.Rows.{HasEntry, IsNumber, RowToken, after_first, entry_token, first_in}
+use Rattle.t1_font.specs.Tokens.{is_number_kind}
 use Rattle.t1_texts.specs.Given.{is_given, is_unknown, names}
-use Rattle.t1_texts.specs.Private.Watching.{AreGiven, or_here}
-use Rattle.t1_texts.specs.RowFaults.{Placed, RowFaults, faults_in, first_from, first_where, has_no_partner}
+use Rattle.t1_texts.specs.declared.faults.Watch.{Watch}
+use Rattle.t1_texts.specs.Private.Watching.{AreGiven, IsWatchOf, Reads, or_here}
+use Rattle.std.specs.Option.{option_map}
+use Rattle.t1_texts.specs.declared.faults.Placed.{Placed as PlacedToken}
+use Rattle.t1_texts.specs.RowFaults.{Placed, RowFaults, faults_in, first_from, first_where, has_no_partner, placed_view}
 use Rattle.t1_texts.specs.Readers.{first_reads, is_reader, is_unread, reads}
 
 -- ---- the next token
@@ -180,21 +188,121 @@ faults_more before t place old =
       unread = or_here old.unread (is_unread before t) here;
     }
 
+-- What isn't asked where one is found changes nothing.
+pub asked_once : (found : Option Placed) (test : Bool) (here : Placed) → or_here found (not (is_some found) && test) here ≡ or_here found test here
+asked_once None test here = refl
+asked_once (Some placed) test here = refl
+
+pub some_viewed : (found : Option PlacedToken) → is_some found ≡ is_some (option_map placed_view found)
+some_viewed None = refl
+some_viewed (Some placed) = refl
+
 pub more_faults : (before : List RowToken) (t : RowToken) (place : ℕ) (old : RowFaults) → length before ≡ place → old ≡ faults_in before
     → faults_more before t place old ≡ faults_in (before ++ t ∷ [])
 more_faults before t place old here is = rw (← here, is, first_more has_no_partner before t, first_more is_unknown before t, first_more is_unread before t) refl
 
 -- ---- from token to token
 
-pub take_next : (n : ℕ) (row : List RowToken) (t : RowToken) → first_in (drop n row) ≡ Some t
-    → (suc n ≤ length row) × ((take (suc n) row ≡ take n row ++ t ∷ []) × (after_first (drop n row) ≡ drop (suc n) row))
-take_next zero [] t is = cc
-take_next zero (x ∷ xs) t is = let same : x ≡ t = cc in (omega arith, (ap (λ y. y ∷ []) same, refl))
-take_next (suc n) [] t is = cc
-take_next (suc n) (x ∷ xs) t is = let later = take_next n xs t is in (omega (arith, later.0), (ap (λ ys. x ∷ ys) later.1.0, later.1.1))
-
 pub all_taken : (n : ℕ) (row : List RowToken) → first_in (drop n row) ≡ None → take n row ≡ row
 all_taken zero [] none = refl
 all_taken zero (x ∷ xs) none = cc
 all_taken (suc n) [] none = refl
 all_taken (suc n) (x ∷ xs) none = ap (λ ys. x ∷ ys) (all_taken n xs none)
+
+-- ---- numbers, of which no rule speaks
+
+number_is : (kind : Kind) → is_number_kind kind ≡ true → (z : ℤ) × (kind ≡ Number z)
+number_is (Number z) is = (z, refl)
+number_is _ is = cc
+
+or_nothing : (found : Option Placed) (here : Placed) → or_here found false here ≡ found
+or_nothing None here = refl
+or_nothing (Some placed) here = refl
+
+same_first : (test : List RowToken → RowToken → Bool) (before : List RowToken) (t : RowToken) → test before t ≡ false
+    → first_where test (before ++ t ∷ []) ≡ first_where test before
+same_first test before t other = first_more test before t ∙ rw other (or_nothing (first_where test before) (at_end before t))
+
+module _ (before : List RowToken) (t : RowToken) (is : IsNumber t) where
+  paired : has_no_partner before t ≡ false
+  paired = let kind = number_is t.kind is.0 in rw kind.1 refl
+
+  known : is_unknown before t ≡ false
+  known = let kind = number_is t.kind is.0 in rw kind.1 refl
+
+  other_role : is_unread before t ≡ false
+  other_role = rw (is.1) refl
+
+  no_name : (word : List ℕ) → names word t ≡ false
+  no_name word = let kind = number_is t.kind is.0 in rw kind.1 refl
+
+  same_faults : faults_in (before ++ t ∷ []) ≡ faults_in before
+  same_faults =
+      rw (same_first has_no_partner before t paired, same_first is_unknown before t known, same_first is_unread before t other_role) refl
+
+  still_reads_on : (word : Option (Bor (List ℕ))) → Reads word before → Reads word (before ++ t ∷ [])
+  still_reads_on None good = tt
+  still_reads_on (Some word) good = still_reads word.now before t good (no_name word.now)
+
+  number_passed : (watch : Watch) → IsWatchOf watch before → IsWatchOf watch (before ++ t ∷ [])
+  number_passed watch w = record {
+    faults = w.faults ∙ sym same_faults;
+    given = still_all_given watch.given.words.items before t w.given;
+    reader = still_reads_on watch.reader.word w.reader;
+  }
+
+pub numbers_passed : (watch : Watch) (before numbers : List RowToken) → AllByRecursion IsNumber numbers → IsWatchOf watch before
+    → IsWatchOf watch (before ++ numbers)
+numbers_passed watch before [] all w = subst (IsWatchOf watch) (sym (append-nil before)) w
+numbers_passed watch before (t ∷ ts) all w =
+    subst (IsWatchOf watch) (append_assoc before (t ∷ []) ts)
+    (numbers_passed watch (before ++ t ∷ []) ts all.1 (number_passed before t all.0 watch w))
+
+-- ---- several tokens
+
+-- The first m tokens of a row are the first n and these, and those are left.
+pub record Took (m n : ℕ) (row xs ys : List RowToken) : Type 0 where
+  pub took : take m row ≡ take n row ++ xs
+  pub left : drop m row ≡ ys
+  pub few : m ≤ length row
+
+from_start : (m : ℕ) (xs ys : List RowToken) → m ≡ length xs → Took m 0 (xs ++ ys) xs ys
+from_start zero [] ys is = record { took = refl; left = refl; few = omega arith }
+from_start (suc m) [] ys is = absurd (omega (arith, is))
+from_start zero (x ∷ xs) ys is = absurd (omega (arith, is))
+from_start (suc m) (x ∷ xs) ys is =
+    let rest = from_start m xs ys (omega (arith, is)) in
+    record { took = ap (λ ts. x ∷ ts) rest.took; left = rest.left; few = omega (arith, rest.few) }
+
+pub take_several : (m n : ℕ) (row xs ys : List RowToken) → m ≡ n + length xs → n ≤ length row → drop n row ≡ xs ++ ys → Took m n row xs ys
+take_several m zero row xs ys is few left = subst (λ r. Took m 0 r xs ys) (sym left) (from_start m xs ys (omega (arith, is)))
+take_several zero (suc n) row xs ys is few left = absurd (omega (arith, is))
+take_several (suc m) (suc n) [] xs ys is few left = absurd (omega (arith, few))
+take_several (suc m) (suc n) (x ∷ row) xs ys is few left =
+    let rest = take_several m n row xs ys (omega (arith, is)) (omega (arith, few)) left in
+    record { took = ap (λ ts. x ∷ ts) rest.took; left = rest.left; few = omega (arith, rest.few) }
+
+-- An entry: its first token and its numbers, and then its word.
+pub record Entered (n : ℕ) (row : List RowToken) (e : Entry) (rest : List RowToken) : Type 0 where
+  pub numbers : List RowToken
+  pub all : AllByRecursion IsNumber numbers
+  pub front : Took (n + 1 + e.numbers) n row (entry_token Other e.first ∷ numbers) (entry_token Reader e.word ∷ rest)
+  pub whole : Took (n + 1 + e.numbers + 1) (n + 1 + e.numbers) row (entry_token Reader e.word ∷ []) rest
+
+pub entered : (n : ℕ) (row : List RowToken) (e : Entry) (rest left : List RowToken) → n ≤ length row → left ≡ drop n row → HasEntry e left rest
+    → Entered n row e rest
+entered n row e rest left few is h =
+    let front = take_several (n + 1 + e.numbers) n row (entry_token Other e.first ∷ h.numbers) (entry_token Reader e.word ∷ rest)
+    (omega (arith, h.count)) few (sym is ∙ h.whole) in
+    record {
+      numbers = h.numbers;
+      all = h.all;
+      front = front;
+      whole = take_several (n + 1 + e.numbers + 1) (n + 1 + e.numbers) row (entry_token Reader e.word ∷ []) rest (omega arith) front.few front.left;
+    }
+
+pub front_passed : (watch : Watch) (n : ℕ) (row : List RowToken) (e : Entry) (rest : List RowToken) (h : Entered n row e rest)
+    → IsWatchOf watch (take n row ++ entry_token Other e.first ∷ []) → IsWatchOf watch (take (n + 1 + e.numbers) row)
+front_passed watch n row e rest h w =
+    subst (IsWatchOf watch) (append_assoc (take n row) (entry_token Other e.first ∷ []) h.numbers ∙ sym h.front.took)
+    (numbers_passed watch (take n row ++ entry_token Other e.first ∷ []) h.numbers h.all w)

@@ -9,7 +9,7 @@ ghost use Rattle.t1_texts.specs.RowFaults.{faults_in, faults_view, placed_view};
 use crate::earlier::Earlier;
 use crate::given::GivenWords;
 use crate::reader::KnownReader;
-use t1_font::{Row, TokenInRow};
+use t1_font::{Part, Role, Row, TokenInRow};
 use t1_words::is_unpaired;
 
 /// A token, and its place in its row, from 0.
@@ -40,14 +40,12 @@ struct Watch<'a> {
     reader: KnownReader<'a>,
 }
 
-/// What is found already, or else a token that is found now.
-fn or_here<'a>(found: Option<Placed<'a>>, is_broken: bool, here: Placed<'a>) -> Option<Placed<'a>>
-    ensures { option_map placed_view result ≡ or_here (option_map placed_view found.entry) is_broken (placed_view here.entry) }
+/// Notes a token that is such a fault, if it is the first.
+fn note<'a>(found: &mut Option<Placed<'a>>, is_broken: bool, here: Placed<'a>)
+    ensures { option_map placed_view found.new ≡ or_here (option_map placed_view found.old) is_broken (placed_view here.entry) }
 {
-    if found.is_none() && is_broken {
-        Some(here)
-    } else {
-        found
+    if is_broken && found.is_none() {
+        *found = Some(here);
     }
 }
 
@@ -76,11 +74,15 @@ impl<'a> Watch<'a> {
             token,
             place: earlier.count,
         };
-        self.faults = RowFaults {
-            unpaired: or_here(self.faults.unpaired, is_unpaired(&token.token), here),
-            unknown: self.given.first_unknown(self.faults.unknown, earlier, here),
-            unread: self.reader.first_unread(self.faults.unread, earlier, here),
-        };
+        let is_unknown = self
+            .given
+            .is_unknown(self.faults.unknown.is_some(), earlier, &token);
+        let is_unread = self
+            .reader
+            .is_unread(self.faults.unread.is_some(), earlier, &token);
+        note(&mut self.faults.unpaired, is_unpaired(&token.token), here);
+        note(&mut self.faults.unknown, is_unknown, here);
+        note(&mut self.faults.unread, is_unread, here);
         self.reader.pass(&token);
     }
 }
@@ -93,9 +95,27 @@ pub fn row_faults(row: Row<'_>) -> RowFaults<'_>
     let mut left = row;
     let mut count = 0;
     let mut watch = Watch::new();
-    'tokens: while let Some(token) = left.next() {
-        watch.see(Earlier { row, count }, token);
-        count += 1;
+    'parts: while let Some(part) = left.part() {
+        match part {
+            Part::Token(token) => {
+                watch.see(Earlier { row, count }, token);
+                count += 1;
+            }
+            Part::Entry(entry) => {
+                let first = TokenInRow {
+                    token: entry.first,
+                    role: Role::Other,
+                };
+                watch.see(Earlier { row, count }, first);
+                let behind = count + 1 + entry.numbers;
+                let word = TokenInRow {
+                    token: entry.word,
+                    role: Role::Reader,
+                };
+                watch.see(Earlier { row, count: behind }, word);
+                count = behind + 1;
+            }
+        }
     }
     watch.faults
 }

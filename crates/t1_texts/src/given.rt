@@ -1,17 +1,15 @@
 //! Words that are found to be given, so that they aren't looked up again.
 
-ghost use Rattle.std.specs.Prelude.{◌≡◌, List, true};
+ghost use Rattle.std.specs.Prelude.{◌≡◌, ◌&&◌, List, not, true};
 ghost use Rattle.std.specs.List.{list_any};
 ghost use Rattle.std.specs.Str.{bytes_eq};
 ghost use Rattle.t1_font.specs.Rows.{RowToken, token_in_row};
 ghost use Rattle.t1_texts.specs.Given.{is_given, is_unknown};
-ghost use Rattle.std.specs.Option.{option_map};
-ghost use Rattle.t1_texts.specs.RowFaults.{placed_view};
-ghost use Rattle.t1_texts.specs.Private.Watching.{AreGiven, or_here, tokens_before};
+ghost use Rattle.t1_texts.specs.Private.Watching.{AreGiven, tokens_before};
 
 use crate::earlier::Earlier;
-use crate::faults::Placed;
 use arrayvec::ArrayVec;
+use t1_font::TokenInRow;
 use t1_words::wants_definition;
 
 /// How many words are kept: a font has three as a rule, RD, ND and NP.
@@ -66,24 +64,24 @@ impl<'a> GivenWords<'a> {
         is_given
     }
 
-    /// The first word that is neither known nor given: what is found already, or this token.
-    pub(crate) fn first_unknown(
+    /// Whether a token is a word that is neither known nor given, where none is found yet.
+    pub(crate) fn is_unknown(
         &mut self,
-        found: Option<Placed<'a>>,
+        is_found: bool,
         earlier: Earlier<'a>,
-        here: Placed<'a>,
-    ) -> Option<Placed<'a>>
+        token: &TokenInRow<'a>,
+    ) -> bool
         requires { AreGiven self.old.words.items (tokens_before earlier) }
-        ensures is { option_map placed_view result ≡ or_here (option_map placed_view found.entry) (is_unknown (tokens_before earlier.entry) (token_in_row here.entry.token)) (placed_view here.entry) }
+        ensures is { result ≡ (not is_found && is_unknown (tokens_before earlier.entry) (token_in_row token.now)) }
         ensures stay { AreGiven self.new.words.items (tokens_before earlier.entry) }
     {
-        if found.is_some() || !wants_definition(&here.token.token) {
-            return found;
+        if is_found {
+            return false;
         }
-        if self.is_given(earlier, here.token.token.text) {
-            None
-        } else {
-            Some(here)
+        let word = token.token.text;
+        if self.has(word) {
+            return false;
         }
+        wants_definition(&token.token) && !self.is_given(earlier, word)
     }
 }

@@ -1,16 +1,13 @@
 //! A word that is found to read charstrings, so that it isn't looked up again.
 
-ghost use Rattle.std.specs.Prelude.{◌≡◌, ◌++◌, ◌∷◌, [], List};
+ghost use Rattle.std.specs.Prelude.{◌≡◌, ◌&&◌, ◌++◌, ◌∷◌, [], List, not};
 ghost use Rattle.t1_font.specs.Rows.{RowToken, token_in_row};
 ghost use Rattle.t1_font.specs.Views.{bytes_of};
 ghost use Rattle.t1_texts.specs.Given.{is_this};
-ghost use Rattle.t1_texts.specs.Private.Watching.{Reads, or_here, tokens_before};
+ghost use Rattle.t1_texts.specs.Private.Watching.{Reads, tokens_before};
 ghost use Rattle.t1_texts.specs.Readers.{comes_before_charstring, is_reader, is_unread};
-ghost use Rattle.t1_texts.specs.RowFaults.{placed_view};
-ghost use Rattle.std.specs.Option.{option_map};
 
 use crate::earlier::{Earlier, is_this, names};
-use crate::faults::Placed;
 use t1_font::{Role, TokenInRow};
 
 /// The word that read charstrings last, if no name of its spelling came since.
@@ -50,25 +47,21 @@ impl<'a> KnownReader<'a> {
         is_reader
     }
 
-    /// The first word before a charstring that doesn't read it: what is found already, or this token.
-    pub(crate) fn first_unread(
+    /// Whether a token is a word before a charstring that doesn't read it, where none is found yet.
+    pub(crate) fn is_unread(
         &mut self,
-        found: Option<Placed<'a>>,
+        is_found: bool,
         earlier: Earlier<'a>,
-        here: Placed<'a>,
-    ) -> Option<Placed<'a>>
+        token: &TokenInRow<'a>,
+    ) -> bool
         requires { Reads self.old.word (tokens_before earlier) }
-        ensures is { option_map placed_view result ≡ or_here (option_map placed_view found.entry) (is_unread (tokens_before earlier.entry) (token_in_row here.entry.token)) (placed_view here.entry) }
+        ensures is { result ≡ (not is_found && is_unread (tokens_before earlier.entry) (token_in_row token.now)) }
         ensures stay { Reads self.new.word (tokens_before earlier.entry) }
     {
-        if found.is_some() || !comes_before_charstring(here.token.role) {
-            return found;
+        if is_found || !comes_before_charstring(token.role) {
+            return false;
         }
-        if self.is_reader(earlier, here.token.token.text) {
-            None
-        } else {
-            Some(here)
-        }
+        !self.is_reader(earlier, token.token.text)
     }
 
     /// Goes past a token.
