@@ -16,9 +16,8 @@ ghost use Rattle.t1_font.specs.Rows.{IsPart, after_first, charstring_in, clear_r
 use crate::clear_text::clear_turn;
 use crate::font::Font;
 use crate::mode::{ClearMode, PrivateMode, TextMode};
-use crate::private_text::private_token;
+use crate::private_text::{LAST_SUBR, private_token};
 use crate::statement::{Statement, Turn};
-use crate::private_text::LAST_SUBR;
 use crate::tokens::{
     charstring_with_word, is_any_word, is_name, is_word, name, natural, token_ahead, wanted,
 };
@@ -123,7 +122,10 @@ fn text_turn<'a>(
             match private_token(None, mode, token.kind, token.text, rest)? {
                 Turn::Over(rest) => Ok((Some(found), Turn::Over(rest))),
                 Turn::Goes(statement, next, rest) => {
-                    Ok((Some(found), Turn::Goes(statement, TextMode::Private(next), rest)))
+                    Ok((
+                        Some(found),
+                        Turn::Goes(statement, TextMode::Private(next), rest),
+                    ))
                 }
             }
         }

@@ -22,7 +22,7 @@ whole_is whole s h e = rw (prefix_is is_decimal_digit whole s h e) (take-append_
 after_is : (whole s : List ℕ) → list_all is_decimal_digit whole ≡ true → ends_test is_decimal_digit s ≡ true → after_whole (whole ++ s) ≡ s
 after_is whole s h e = rw (prefix_is is_decimal_digit whole s h e) (drop-append_seam whole s)
 
--- digits alone
+-- Digits alone.
 all_len : (s : List ℕ) → list_all is_decimal_digit s ≡ true → prefix_len is_decimal_digit s ≡ length s
 all_len [] h = refl
 all_len (b ∷ s) h =
@@ -96,7 +96,7 @@ radix_is base digits h =
     ) refl in
     ap (λ b. is_unsigned_number (unsigned run) || b) e ∙ or-true (is_unsigned_number (unsigned run))
 
--- of a token in its plain form
+-- Of a token in its plain form.
 plain_is : (t : Plain) (v : ℤ) → meant t ≡ Number v → is_plain t ≡ true → is_number (spelled t) ≡ true
 plain_is (name run) v e h = cc
 plain_is (word run) v e h = cc

@@ -16,7 +16,7 @@ use Rattle.t1_words.specs.Pairs.{closed, holds, is_none_open, open_after, pairs,
 use Rattle.t1_words.specs.Nested.{Paired, nothing, part, double_close, braces, brackets, paired_text, is_plain_part, has_plain_parts, paired_depth, is_last_comment, IsNested}
 use Rattle.t1_words.proofs.PairsRead.{single, pairs_first, part_read, closed_last, angles_read, comment_step, end_read}
 
--- what a test that holds says of what is there
+-- What a test that holds says of what is there.
 holds_some : {A : Type 0} (test : A → Bool) (o : Option A) → holds test o ≡ true → (x : A) × (o ≡ Some x) × (test x ≡ true)
 holds_some test None h = cc
 holds_some test (Some x) h = (x, refl, h)
@@ -25,7 +25,7 @@ kept_some : {A : Type 0} (b : Bool) (x y : A) → then_some b x ≡ Some y → (
 kept_some true x y h = (refl, cc)
 kept_some false x y h = cc
 
--- what a byte opens or closes, and what is skipped with it
+-- What a byte opens or closes, and what is skipped with it.
 record IsStepped (o : List ℕ) (b : ℕ) (s : List ℕ) : Type 0 where
   left : List ℕ
   len : ℕ
@@ -39,13 +39,13 @@ stepped o b s e =
     let y = holds_some (λ n. pairs (n - 1) x.0 s) (skipped_len b s) x.2 in
     record { left = x.0; len = y.0; opens = x.1; skips = y.1; goes = y.2 }
 
--- a bracket, which is one byte
+-- A bracket, which is one byte.
 single_goes : {o : List ℕ} {b : ℕ} {s : List ℕ} (x : IsStepped o b s) → skipped_len b s ≡ Some 1 → pairs 0 x.left s ≡ true
 single_goes {s = s} x one =
     let same : x.len ≡ 1 = (let skips = x.skips in cc) in
     ap (λ n. pairs (n - 1) x.left s) (sym same) ∙ x.goes
 
--- what begins with a part that is skipped whole
+-- What begins with a part that is skipped whole.
 record HasPart (s : List ℕ) : Type 0 where
   part : Part
   rest : List ℕ
@@ -89,16 +89,16 @@ comment_part s b u h =
       whole = ap (λ t. 37 ∷ t) (sym (take-append-drop (comment_len s) s) ∙ ap (λ t. front ++ t) h ∙ sym (append_assoc front (b ∷ []) u));
     }
 
--- the partner of a bracket
+-- The partner of a bracket.
 abbrev partner : ℕ → ℕ
 partner b = if b == 123 then 125 else 93
 
--- what is left ends the text
+-- What is left ends the text.
 record IsLast (o rest : List ℕ) : Type 0 where
   none : o ≡ []
   last : is_last_comment rest ≡ true
 
--- what is left closes the innermost open bracket
+-- What is left closes the innermost open bracket.
 record IsClosing (o rest : List ℕ) : Type 0 where
   bracket : ℕ
   outer : List ℕ
@@ -107,7 +107,7 @@ record IsClosing (o rest : List ℕ) : Type 0 where
   whole : rest ≡ partner bracket ∷ after
   goes : pairs 0 outer after ≡ true
 
--- what is nested up to there
+-- What is nested up to there.
 record HasNested (o s : List ℕ) : Type 0 where
   tree : Paired
   rest : List ℕ
@@ -116,7 +116,7 @@ record HasNested (o s : List ℕ) : Type 0 where
   whole : s ≡ paired_text tree ++ rest
   ends : IsLast o rest ⊎ IsClosing o rest
 
--- in shorter texts it is found
+-- In shorter texts it is found.
 abbrev Finds : ℕ → Type 0
 Finds n = (o s : List ℕ) → length s ≤ n → length o ≤ 32 → pairs 0 o s ≡ true → HasNested o s
 
@@ -125,7 +125,7 @@ fits_more o b h =
     let fits : length o < 32 = grind (arith, nat_tests) in
     omega (arith, length-append o (b ∷ []))
 
--- the bracket that is closed was the one that opened
+-- The bracket that is closed was the one that opened.
 same_bracket : (a : ℕ) (o rest : List ℕ) (c : IsClosing (o ++ a ∷ []) rest) → (a ≡ c.bracket) × (o ≡ c.outer)
 same_bracket a o rest c =
     let k = kept_some (a == c.bracket) o c.outer (sym (closed_last c.bracket a o) ∙ c.closes) in
@@ -137,7 +137,7 @@ closes_with a o rest c = c.whole ∙ ap (λ b. partner b ∷ c.after) (sym (same
 goes_with : (a : ℕ) (o rest : List ℕ) (c : IsClosing (o ++ a ∷ []) rest) → pairs 0 o c.after ≡ true
 goes_with a o rest c = ap (λ l. pairs 0 l c.after) (same_bracket a o rest c).1 ∙ c.goes
 
--- what follows a closed bracket is shorter
+-- What follows a closed bracket is shorter.
 shorter : (a : ℕ) (o t : List ℕ) (x : HasNested (o ++ a ∷ []) t) (c : IsClosing (o ++ a ∷ []) x.rest) → length c.after < length t
 shorter a o t x c =
     let rest = ap length (closes_with a o x.rest c) in
@@ -317,7 +317,7 @@ found_angle n o t again room deep e =
     let m = further_some 1 x.len (angle_len t) (sym (part_60 t) ∙ x.skips) in
     found_part n o 60 t again room deep e (angle_part t m.0 m.1)
 
--- by the first byte
+-- By the first byte.
 found_first : (n : ℕ) (o : List ℕ) (b : ℕ) (t : List ℕ) → Finds n → length t ≤ n → length o ≤ 32 → pairs 0 o (b ∷ t) ≡ true → HasNested o (b ∷ t)
 found_first n o b t again room deep e =
     let P : ℕ → Type 0 = λ c. pairs 0 o (c ∷ t) ≡ true → HasNested o (c ∷ t) in
@@ -370,7 +370,7 @@ found (suc n) o (b ∷ t) room deep e = found_first n o b t (found n) (omega ari
 none_closed : (b : ℕ) (outer : List ℕ) → closed b [] ≡ Some outer → ⊥
 none_closed b outer h = cc
 
--- no bracket is innermost where none is open
+-- No bracket is innermost where none is open.
 not_closing : (rest : List ℕ) → IsClosing [] rest → ⊥
 not_closing rest c = none_closed c.bracket c.outer c.closes
 

@@ -13,7 +13,7 @@ use Rattle.t1_scan.proofs.StringsRead.{string_read, angle_read}
 use Rattle.t1_words.specs.Pairs.{closed, holds, is_none_open, open_after, opened, pairs, skipped_len}
 use Rattle.t1_words.specs.Nested.{Paired, nothing, part, double_close, braces, brackets, paired_text, is_plain_byte, is_plain_part, has_plain_parts, paired_depth, is_last_comment, IsNested}
 
--- the bytes that are skipped
+-- The bytes that are skipped.
 pub skip_all : (n : ℕ) (o s : List ℕ) → n ≤ length s → pairs n o s ≡ pairs 0 o (drop n s)
 unfolding pairs
 skip_all zero o s h = refl
@@ -24,7 +24,7 @@ pub pairs_first : (o : List ℕ) (b : ℕ) (s : List ℕ) → pairs 0 o (b ∷ s
 unfolding pairs
 pairs_first o b s = refl
 
--- a byte and what is skipped with it, with what follows left
+-- A byte and what is skipped with it, with what follows left.
 whole_step : (b : ℕ) (t s o left : List ℕ) → open_after b o ≡ Some left → skipped_len b (t ++ s) ≡ Some (1 + length t)
     → pairs 0 o ((b ∷ t) ++ s) ≡ pairs 0 left s
 whole_step b t s o left opens skips =
@@ -32,7 +32,7 @@ whole_step b t s o left opens skips =
     rw (pairs_first o b (t ++ s), opens, skips, back) (skip_all (length t) left (t ++ s) (omega (arith, length-append t s))
     ∙ ap (pairs 0 left) (drop-append_seam t s))
 
--- a byte that is no bracket leaves open what is open
+-- A byte that is no bracket leaves open what is open.
 pub open_steady : (b : ℕ) (o : List ℕ) → (b == 123) ≡ false → (b == 91) ≡ false → (b == 125) ≡ false → (b == 93) ≡ false → open_after b o ≡ Some o
 open_steady b o h91 h123 h125 h93 = rw (h91, h123, h125, h93) refl
 
@@ -70,7 +70,7 @@ part_read (hexadecimal bytes) o s h =
     whole_step 60 (bytes ++ (62 ∷ [])) s o o refl (ap (further 1) (angle_read bytes s h))
 part_read double_angle o s h = whole_step 60 (60 ∷ []) s o o refl refl
 
--- the innermost open bracket is the last
+-- The innermost open bracket is the last.
 last_at : (o : List ℕ) (a : ℕ) → slice_get (o ++ a ∷ []) (length o) ≡ Some a
 last_at [] a = refl
 last_at (x ∷ o) a = last_at o a
@@ -85,7 +85,7 @@ opened_more b o h =
     let fits : nat_lt (length o) 32 ≡ true = grind (arith, nat_tests) in
     rw fits refl
 
--- a byte that is skipped alone
+-- A byte that is skipped alone.
 pub single : (b : ℕ) (s : List ℕ) → (b == 41) ≡ false → (b == 62) ≡ false → (b == 37) ≡ false → (b == 40) ≡ false → (b == 60) ≡ false
     → skipped_len b s ≡ Some 1
 single b s h41 h62 h37 h40 h60 = skipped_other b s h41 h62 ∙ single_part b s h37 h40 h60
@@ -127,7 +127,7 @@ paired_read (brackets inner more) o s shallow h =
     ∙ paired_read inner (o ++ 91 ∷ []) (93 ∷ rest) (omega (arith, length-append o (91 ∷ []))) parts.0
     ∙ bracket_closes o rest ∙ paired_read more o s (omega arith) parts.1
 
--- a comment that the text ends
+-- A comment that the text ends.
 comment_all : (s : List ℕ) → list_all (λ c. not (is_line_end c)) s ≡ true → comment_len s ≡ length s
 comment_all [] h = refl
 comment_all (b ∷ s) h =

@@ -25,7 +25,7 @@ unfolding pairs
 pairs_more s at zero o h none = at_drop_more (pairs zero o) s at 0 h
 pairs_more s at (suc k) o h none = absurd (omega arith)
 
--- a byte that has no partner, or begins what isn't closed
+-- A byte that has no partner, or begins what isn't closed.
 pub pairs_stuck : (s : List ℕ) (at k : ℕ) (o left : List ℕ) → at < length s → k ≤ 0 → open_after (get_or s at 0) o ≡ Some left
     → skipped_len (get_or s at 0) (drop (at + 1) s) ≡ None → pairs k o (drop at s) ≡ false
 pairs_stuck s at k o left h none opens skips = rw (pairs_more s at k o h none, opens, skips) refl
@@ -34,6 +34,6 @@ pub pairs_on : (s : List ℕ) (at k : ℕ) (o left : List ℕ) (n : ℕ) → at 
     → skipped_len (get_or s at 0) (drop (at + 1) s) ≡ Some n → pairs k o (drop at s) ≡ pairs (n - 1) left (drop (at + 1) s)
 pairs_on s at k o left n h none opens skips = rw (pairs_more s at k o h none, opens, skips) refl
 
--- what is kept, where a test holds
+-- What is kept, where a test holds.
 pub kept : {A : Type 0} {test : Bool} {x : A} {y : Option A} → test ≡ true → then_some test x ≡ y → y ≡ Some x
 kept {x = x} is e = sym e ∙ ap (λ b. then_some b x) is

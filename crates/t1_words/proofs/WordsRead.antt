@@ -21,7 +21,7 @@ word_is Text h = cc
 word_is Proc h = cc
 word_is Array h = cc
 
--- where a test of what is kept holds
+-- Where a test of what is kept holds.
 kept_parts : {A : Type 0} (test : A → Bool) (b : Bool) (x : A) → holds test (then_some b x) ≡ true → (b ≡ true) × (test x ≡ true)
 kept_parts test true x h = (refl, h)
 kept_parts test false x h = cc

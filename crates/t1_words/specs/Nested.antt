@@ -5,7 +5,7 @@ use Rattle.t1_scan.specs.Bytes.{is_line_end}
 use Rattle.t1_scan.specs.Lengths.{most_nested}
 use Rattle.t1_scan.specs.Spelling.{Part, byte, comment, string, hexadecimal, double_angle, part_text, are_letters, are_hexadecimal}
 
--- nothing; a part that isn't a brace or a bracket, as t1_scan spells it; `>>`; what is between braces or brackets. Then more
+-- Nothing; a part that isn't a brace or a bracket, as t1_scan spells it; `>>`; what is between braces or brackets. Then more.
 pub data Paired : Type 0 where
   nothing : Paired
   part : Part → Paired → Paired
@@ -20,7 +20,7 @@ paired_text (double_close more) = 62 ∷ 62 ∷ paired_text more
 paired_text (braces inner more) = 123 ∷ (paired_text inner ++ (125 ∷ paired_text more))
 paired_text (brackets inner more) = 91 ∷ (paired_text inner ++ (93 ∷ paired_text more))
 
--- any byte but % ( ) < > [ ] { }
+-- Any byte but % ( ) < > [ ] { }.
 abbrev pub is_plain_byte : ℕ → Bool
 is_plain_byte b = not (b == 37 || b == 40 || b == 41 || b == 60 || b == 62 || b == 91 || b == 93 || b == 123 || b == 125)
 
@@ -38,7 +38,7 @@ has_plain_parts (double_close more) = has_plain_parts more
 has_plain_parts (braces inner more) = has_plain_parts inner && has_plain_parts more
 has_plain_parts (brackets inner more) = has_plain_parts inner && has_plain_parts more
 
--- how deep it nests
+-- How deep it nests.
 abbrev pub paired_depth : Paired → ℕ
 paired_depth nothing = 0
 paired_depth (part p more) = paired_depth more
@@ -46,12 +46,12 @@ paired_depth (double_close more) = paired_depth more
 paired_depth (braces inner more) = max (1 + paired_depth inner) (paired_depth more)
 paired_depth (brackets inner more) = max (1 + paired_depth inner) (paired_depth more)
 
--- nothing, or a comment that the text ends
+-- Nothing, or a comment that the text ends.
 abbrev pub is_last_comment : List ℕ → Bool
 is_last_comment [] = true
 is_last_comment (b ∷ s) = b == 37 && list_all (λ c. not (is_line_end c)) s
 
--- a text is such a spelling, and maybe a last comment
+-- A text is such a spelling, and maybe a last comment.
 pub record IsNested (s : List ℕ) : Type 0 where
   pub tree : Paired
   pub last : List ℕ

@@ -4,21 +4,21 @@ use Rattle.std.specs.List.{list_all}
 use Rattle.t1_scan.specs.Bytes.{is_decimal_digit}
 use Rattle.t1_scan.specs.Numbers.{after_whole, whole_part}
 
--- without a sign that it begins with
+-- Without a sign that it begins with.
 abbrev pub unsigned : List ℕ → List ℕ
 unsigned [] = []
 unsigned (b ∷ s) = if b == 43 || b == 45 then s else b ∷ s
 
--- one decimal digit or more
+-- One decimal digit or more.
 abbrev pub are_digits : List ℕ → Bool
 are_digits s = not (length s == 0) && list_all is_decimal_digit s
 
--- nothing; or `e` or `E`, and a whole number
+-- Nothing; or `e` or `E`, and a whole number.
 abbrev pub is_exponent : List ℕ → Bool
 is_exponent [] = true
 is_exponent (b ∷ s) = (b == 101 || b == 69) && are_digits (unsigned s)
 
--- after the digits before a point: the digits behind it, and what follows these
+-- After the digits before a point: the digits behind it, and what follows these.
 abbrev pub decimals_of : List ℕ → List ℕ
 decimals_of [] = []
 decimals_of (b ∷ s) = if b == 46 then whole_part s else []
@@ -27,16 +27,16 @@ abbrev pub after_decimals : List ℕ → List ℕ
 after_decimals [] = []
 after_decimals (b ∷ s) = if b == 46 then after_whole s else b ∷ s
 
--- digits with at most one point and at least one digit, and an exponent or none
+-- Digits with at most one point and at least one digit, and an exponent or none.
 abbrev pub is_unsigned_number : List ℕ → Bool
 is_unsigned_number s =
     (not (length (whole_part s) == 0) || not (length (decimals_of (after_whole s)) == 0)) && is_exponent (after_decimals (after_whole s))
 
--- a letter or a digit
+-- A letter or a digit.
 abbrev pub is_radix_digit : ℕ → Bool
 is_radix_digit b = is_decimal_digit b || (nat_le 65 b && nat_le b 90) || (nat_le 97 b && nat_le b 122)
 
--- one letter or digit or more
+-- One letter or digit or more.
 abbrev pub are_radix_digits : List ℕ → Bool
 are_radix_digits s = not (length s == 0) && list_all is_radix_digit s
 

@@ -4,27 +4,19 @@ use Rattle.std.specs.Bool.{then_some}
 use Rattle.std.specs.Str.{bytes_eq}
 use Rattle.t1_scan.specs.declared.error.ScanError.{ScanError}
 use Rattle.t1_scan.specs.declared.token.Kind.{Kind}
-use Rattle.t1_scan.specs.declared.token.Kind.TheVariants.{Number, Name, Word, Text, Proc, Array}
+use Rattle.t1_scan.specs.declared.token.Kind.TheVariants.{Word, Proc}
 use Rattle.t1_scan.specs.Tokens.{Found, token_of}
 use Rattle.t1_words.specs.Pairs.{holds}
 
 abbrev pub is_word : Kind → Bool
 is_word Word = true
-is_word (Number v) = false
-is_word Name = false
-is_word Text = false
-is_word Proc = false
-is_word Array = false
+is_word _ = false
 
 abbrev pub is_procedure : Kind → Bool
 is_procedure Proc = true
-is_procedure (Number v) = false
-is_procedure Name = false
-is_procedure Word = false
-is_procedure Text = false
-is_procedure Array = false
+is_procedure _ = false
 
--- what follows a word, if that is what was read
+-- What follows a word, if that is what was read.
 abbrev pub after_word : List ℕ → Result (Option Found) ScanError → Option (List ℕ)
 after_word word (Err e) = None
 after_word word (Ok None) = None
@@ -35,16 +27,16 @@ is_end (Err e) = false
 is_end (Ok None) = true
 is_end (Ok (Some found)) = false
 
--- a text is read as these words, and nothing else
+-- A text is read as these words, and nothing else.
 abbrev pub are_words : List (List ℕ) → List ℕ → Bool
 are_words [] s = is_end (token_of s)
 are_words (word ∷ more) s = holds (λ rest. are_words more rest) (after_word word (token_of s))
 
--- the words that read a charstring from the font file into a string
+-- The words that read a charstring from the font file into a string.
 abbrev pub reader_words : List (List ℕ)
 reader_words = codes "string" ∷ codes "currentfile" ∷ codes "exch" ∷ codes "readstring" ∷ codes "pop" ∷ []
 
--- between the first brace and the last
+-- Between the first brace and the last.
 abbrev pub inside : List ℕ → List ℕ
 inside text = slice_range text 1 (length text - 1)
 

@@ -19,6 +19,6 @@ known_words =
 abbrev pub is_known : List ℕ → Bool
 is_known word = list_any (λ known. bytes_eq known word) known_words
 
--- a word that means nothing until the font defines it: no number, none that is known, and no bracket alone
+-- A word that means nothing until the font defines it: no number, none that is known, and no bracket alone.
 abbrev pub wants_definition : Kind → List ℕ → Bool
 wants_definition kind text = is_word kind && not (is_known text) && not (is_number text) && not (is_lone_close text)
