@@ -19,7 +19,7 @@ is_built() {
 # The libraries below a crate, each after those that it uses: crates.txt has them in such an order.
 libraries_below() {
     awk -v name="$1" '
-        { split($0, parts, ":"); crate[NR] = parts[1]; uses[NR] = parts[2] }
+        { split($0, parts, ":"); split(parts[1], head, " "); crate[NR] = head[1]; uses[NR] = parts[2] }
         END {
             needed[name] = 1
             for (i = NR; i > 0; i--) if (crate[i] in needed) {

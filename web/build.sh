@@ -53,16 +53,6 @@ same_words() {
 uses() { sed -n "s/^$1\( [^:]*\)*: *//p" "$top/crates.txt"; }
 is_ours() { grep -q "^$1[ :]" "$top/crates.txt"; }
 
-# All below a crate that the repository has, each once.
-below() {
-    for library in $(uses "$1"); do
-        if is_ours "$library"; then
-            echo "$library"
-            below "$library"
-        fi
-    done | sort -u
-}
-
 # The gate proves the crate, and leaves a stamp of that.
 is_crate_proved() {
     stamp=$top/crates/$crate/out/built
@@ -104,7 +94,7 @@ compile_for_x86() (
             set -- "$@" --extern "$library=$kit/rlibs/$library.rlib"
         fi
     done
-    for library in $(below "$crate"); do
+    for library in $(libraries_below "$crate"); do
         set -- "$@" -L "dependency=$top/crates/$library/out/rlib"
     done
     exec "$kit/bin/rattle" build --crate-name "$crate" "$@" --antt-project "$kit/rattle/logic/antt-project.json" \
