@@ -1,0 +1,137 @@
+-- Laws of curves: where they go beyond their ends.
+use Rattle.std.proofs.Common.{◌≡◌, ◌≤ℤ◌, ◌⊎◌, ◌&&◌, ◌||◌, inl, inr, ℤ, pos, ◌+ℤ◌, ◌*ℤ◌, Bool, true, false, int_le, refl, arith}
+use Rattle.std.proofs.lemmas.Int.{clamps, ints}
+use Rattle.t1_drawing.specs.Curves.{at_half, at_quarter, goes_beyond, is_above, is_below, is_beyond, is_beyond_at_half, is_beyond_at_quarter}
+use Rattle.t1_drawing.specs.Laws.{CurvesWithinTheirEndsAreFine, CurvesWithoutExtremesGoBeyond, GoesBeyond, IsBetween}
+
+or_cases : (a b : Bool) → (a || b) ≡ true → (a ≡ true) ⊎ (b ≡ true)
+or_cases true b is = inl refl
+or_cases false b is = inr is
+
+and_first : (a b : Bool) → (a && b) ≡ true → a ≡ true
+and_first true b is = refl
+and_first false b is = is
+
+and_second : (a b : Bool) → (a && b) ≡ true → b ≡ true
+and_second true b is = is
+and_second false b is = let no : false ≡ true = is in cc
+
+is_false : (b : Bool) → (b ≡ true → ⊥) → b ≡ false
+is_false true never = absurd (never refl)
+is_false false never = refl
+
+ordered : (a b : ℤ) → int_le a b ≡ true → a ≤ℤ b
+ordered a b is = grind (arith, ints, is)
+
+-- What it says that a place is beyond two others, 64 times.
+record Above (a d place : ℤ) : Type 0 where
+  one : (pos 64 *ℤ a +ℤ pos 12582912) ≤ℤ place
+  other : (pos 64 *ℤ d +ℤ pos 12582912) ≤ℤ place
+
+record Below (a d place : ℤ) : Type 0 where
+  one : (place +ℤ pos 12582912) ≤ℤ (pos 64 *ℤ a)
+  other : (place +ℤ pos 12582912) ≤ℤ (pos 64 *ℤ d)
+
+beyond : (a d place : ℤ) → is_beyond a d place ≡ true → Above a d place ⊎ Below a d place
+unfolding is_beyond
+beyond a d place is = elim (or_cases (is_above (pos 64 *ℤ a) place && is_above (pos 64 *ℤ d) place) (is_below (pos 64 *ℤ a) place && is_below (pos 64 *ℤ d) place) is) [
+  | inl both ↦ inl (record { one = ordered _ _ (and_first _ _ both); other = ordered _ _ (and_second _ _ both) })
+  | inr both ↦ inr (record { one = ordered _ _ (and_first _ _ both); other = ordered _ _ (and_second _ _ both) })
+]
+
+at_first : (a b c d : ℤ) → Above a d (at_quarter a b c d) ⊎ Below a d (at_quarter a b c d) → GoesBeyond a b c d
+unfolding at_quarter
+at_first a b c d (inl up) = record {
+  rest = 3;
+  part = 1;
+  after_start = omega arith;
+  before_end = omega arith;
+  beyond = inl (record { first = omega (arith, ints, up.one); second = omega (arith, ints, up.other) });
+}
+at_first a b c d (inr down) = record {
+  rest = 3;
+  part = 1;
+  after_start = omega arith;
+  before_end = omega arith;
+  beyond = inr (record { first = omega (arith, ints, down.one); second = omega (arith, ints, down.other) });
+}
+
+at_middle : (a b c d : ℤ) → Above a d (at_half a b c d) ⊎ Below a d (at_half a b c d) → GoesBeyond a b c d
+unfolding at_half
+at_middle a b c d (inl up) = record {
+  rest = 1;
+  part = 1;
+  after_start = omega arith;
+  before_end = omega arith;
+  beyond = inl (record { first = omega (arith, ints, up.one); second = omega (arith, ints, up.other) });
+}
+at_middle a b c d (inr down) = record {
+  rest = 1;
+  part = 1;
+  after_start = omega arith;
+  before_end = omega arith;
+  beyond = inr (record { first = omega (arith, ints, down.one); second = omega (arith, ints, down.other) });
+}
+
+at_last : (a b c d : ℤ) → Above d a (at_quarter d c b a) ⊎ Below d a (at_quarter d c b a) → GoesBeyond a b c d
+unfolding at_quarter
+at_last a b c d (inl up) = record {
+  rest = 1;
+  part = 3;
+  after_start = omega arith;
+  before_end = omega arith;
+  beyond = inl (record { first = omega (arith, ints, up.other); second = omega (arith, ints, up.one) });
+}
+at_last a b c d (inr down) = record {
+  rest = 1;
+  part = 3;
+  after_start = omega arith;
+  before_end = omega arith;
+  beyond = inr (record { first = omega (arith, ints, down.other); second = omega (arith, ints, down.one) });
+}
+
+somewhere : (a b c d : ℤ) → goes_beyond a b c d ≡ true → GoesBeyond a b c d
+somewhere a b c d is = elim (or_cases (is_beyond_at_quarter a b c d || is_beyond_at_half a b c d) (is_beyond_at_quarter d c b a) is) [
+  | inl early ↦ elim (or_cases (is_beyond_at_quarter a b c d) (is_beyond_at_half a b c d) early) [
+    | inl first ↦ at_first a b c d (beyond a d (at_quarter a b c d) first)
+    | inr middle ↦ at_middle a b c d (beyond a d (at_half a b c d) middle)
+  ]
+  | inr last ↦ at_last a b c d (beyond d a (at_quarter d c b a) last)
+]
+
+pub curves_without_extremes_go_beyond : CurvesWithoutExtremesGoBeyond
+curves_without_extremes_go_beyond p a b q is = elim (or_cases (goes_beyond p.x a.x b.x q.x) (goes_beyond p.y a.y b.y q.y) is) [
+  | inl across ↦ inl (somewhere p.x a.x b.x q.x across)
+  | inr upwards ↦ inr (somewhere p.y a.y b.y q.y upwards)
+]
+
+-- ---- curves within the box of their ends
+
+never_at_quarter : (a b c d : ℤ) → IsBetween b a d → IsBetween c a d → is_beyond a d (at_quarter a b c d) ≡ false
+unfolding at_quarter
+never_at_quarter a b c d first second = is_false (is_beyond a d (at_quarter a b c d)) (λ is. elim (beyond a d (at_quarter a b c d) is) [
+  | inl up ↦ omega (arith, ints, clamps, up.one, up.other, first.high, second.high)
+  | inr down ↦ omega (arith, ints, clamps, down.one, down.other, first.low, second.low)
+])
+
+never_at_half : (a b c d : ℤ) → IsBetween b a d → IsBetween c a d → is_beyond a d (at_half a b c d) ≡ false
+unfolding at_half
+never_at_half a b c d first second = is_false (is_beyond a d (at_half a b c d)) (λ is. elim (beyond a d (at_half a b c d) is) [
+  | inl up ↦ omega (arith, ints, clamps, up.one, up.other, first.high, second.high)
+  | inr down ↦ omega (arith, ints, clamps, down.one, down.other, first.low, second.low)
+])
+
+turned_between : (b a d : ℤ) → IsBetween b a d → IsBetween b d a
+turned_between b a d is = record { low = omega (arith, ints, clamps, is.low); high = omega (arith, ints, clamps, is.high) }
+
+never_beyond : (a b c d : ℤ) → IsBetween b a d → IsBetween c a d → goes_beyond a b c d ≡ false
+never_beyond a b c d first second =
+    rw (
+      never_at_quarter a b c d first second,
+      never_at_half a b c d first second,
+      never_at_quarter d c b a (turned_between c a d second) (turned_between b a d first),
+    ) refl
+
+pub curves_within_their_ends_are_fine : CurvesWithinTheirEndsAreFine
+curves_within_their_ends_are_fine p a b q one two =
+    rw (never_beyond p.x a.x b.x q.x one.x two.x, never_beyond p.y a.y b.y q.y one.y two.y) refl

@@ -1,0 +1,9 @@
+pub mod AreaLaws
+pub mod Bounding
+pub mod CurveLaws
+pub mod Drawing
+pub mod FlatLaws
+pub mod Mapped
+pub mod NearLaws
+pub mod StemLaws
+pub mod Touches

@@ -1,0 +1,38 @@
+-- What one segment breaks, and what several do.
+use Rattle.std.specs.Prelude.{◌||◌, false, Option, List}
+use Rattle.t1_outline.specs.declared.segment.Segment.{Segment}
+use Rattle.t1_drawing.specs.declared.faults.SegmentFaults.{SegmentFaults}
+use Rattle.t1_drawing.specs.declared.font_box.FontBox.{FontBox}
+use Rattle.t1_drawing.specs.Curves.{is_flat, lacks_extreme}
+use Rattle.t1_drawing.specs.FontBoxes.{is_first_outside}
+use Rattle.t1_drawing.specs.Lines.{goes_straight_on, has_no_length, turns_back}
+
+abbrev pub no_faults : SegmentFaults
+no_faults = record {
+  is_outside = false;
+  has_no_length = false;
+  turns_back = false;
+  goes_straight_on = false;
+  is_flat = false;
+  lacks_extreme = false;
+}
+
+abbrev pub joined : SegmentFaults → SegmentFaults → SegmentFaults
+joined one other = record {
+  is_outside = one.is_outside || other.is_outside;
+  has_no_length = one.has_no_length || other.has_no_length;
+  turns_back = one.turns_back || other.turns_back;
+  goes_straight_on = one.goes_straight_on || other.goes_straight_on;
+  is_flat = one.is_flat || other.is_flat;
+  lacks_extreme = one.lacks_extreme || other.lacks_extreme;
+}
+
+abbrev pub faults_at : Option FontBox → List Segment → Segment → SegmentFaults
+faults_at box before s = record {
+  is_outside = is_first_outside box before s;
+  has_no_length = has_no_length before s;
+  turns_back = turns_back before s;
+  goes_straight_on = goes_straight_on before s;
+  is_flat = is_flat before s;
+  lacks_extreme = lacks_extreme before s;
+}

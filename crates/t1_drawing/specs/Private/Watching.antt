@@ -1,0 +1,84 @@
+-- What watchers keep of the steps that they have seen.
+use Rattle.std.specs.Prelude.{◌≡◌, ℤ, ◌&&◌, ◌||◌, nat_le, if◌then◌else◌, Bool, false, Option, List, [], ◌∷◌, ◌++◌, length, map}
+use Rattle.std.specs.List.{list_any}
+use Rattle.std.specs.Ordering.{int_eq}
+use Rattle.t1_char.specs.Steps.{StepView}
+use Rattle.t1_drawing.specs.declared.direction.Direction.{Direction}
+use Rattle.t1_drawing.specs.declared.direction.Direction.TheVariants.{Across, Upright}
+use Rattle.t1_drawing.specs.declared.moves.MoveWatcher.{MoveWatcher}
+use Rattle.t1_drawing.specs.declared.touching.Extent.{Extent}
+use Rattle.t1_drawing.specs.declared.touching.Sidebearing.{Sidebearing}
+use Rattle.t1_drawing.specs.declared.touching.TouchWatcher.{TouchWatcher}
+use Rattle.t1_drawing.specs.declared.touching.WatchedStem.{WatchedStem}
+use Rattle.t1_drawing.specs.Moves.{is_only_moved}
+use Rattle.t1_drawing.specs.Strokes.{end_of_steps, strokes_after}
+use Rattle.t1_drawing.specs.Touching.{SetStem, coordinate, extent_by, high_edge, is_stroke, is_stroke_by, is_touched, low_edge, sidebearing_point, stems_of_glyph, touches_one}
+use Rattle.t1_outline.specs.declared.segment.Segment.{Segment}
+use Rattle.t1_outline.specs.Laws.Points.{end_of}
+use Rattle.t1_rules.specs.declared.step_rules.flex.Point.{Point}
+use Rattle.t1_rules.specs.declared.step_rules.stems.Stem.{Stem}
+use Rattle.t1_rules.specs.StepRules.Flex.{at, point_set}
+use Rattle.t1_rules.specs.StepRules.Stems.{most_stems}
+use Rattle.t1_rules.specs.StepRules.Tokens.{sets_width}
+
+abbrev pub MovesStandFor : MoveWatcher → List StepView → Type 0
+MovesStandFor watcher before = watcher.moved ≡ is_only_moved before
+
+-- A stem that is set, without the segments after it.
+abbrev pub watched : Direction → SetStem → WatchedStem
+watched direction stem = record { low = stem.low; high = stem.high; touched = is_touched direction stem }
+
+abbrev pub point_in : Sidebearing → Point
+point_in s = at s.x s.y
+
+-- A watcher has seen the steps.
+pub record TouchesStandFor (watcher : TouchWatcher) (before : List StepView) : Type 0 where
+  pub across : watcher.across.items ≡ map (watched Across) (stems_of_glyph Across before)
+  pub upright : watcher.upright.items ≡ map (watched Upright) (stems_of_glyph Upright before)
+  pub sidebearing : point_in watcher.sidebearing ≡ sidebearing_point before
+  pub end : watcher.end ≡ end_of_steps before
+  pub has_strokes : watcher.has_strokes ≡ list_any is_stroke (strokes_after [] before)
+
+-- A segment more.
+abbrev pub touched_by : Option Extent → WatchedStem → WatchedStem
+touched_by e stem = record stem { touched = stem.touched || touches_one e stem.low stem.high }
+
+pub record Drawing : Type 0 where
+  pub across : List WatchedStem
+  pub upright : List WatchedStem
+  pub end : Option Point
+  pub has_strokes : Bool
+
+abbrev pub drawing_in : TouchWatcher → Drawing
+drawing_in w = record { across = w.across.items; upright = w.upright.items; end = w.end; has_strokes = w.has_strokes }
+
+abbrev pub draw_on : Drawing → Segment → Drawing
+draw_on d segment = record {
+  across = map (touched_by (extent_by (coordinate Across) d.end segment)) d.across;
+  upright = map (touched_by (extent_by (coordinate Upright) d.end segment)) d.upright;
+  end = end_of segment;
+  has_strokes = d.has_strokes || is_stroke_by segment;
+}
+
+abbrev pub draws_on : Drawing → List Segment → Drawing
+draws_on d [] = d
+draws_on d (segment ∷ more) = draws_on (draw_on d segment) more
+
+-- Stems more.
+abbrev pub has_edges : ℤ → ℤ → WatchedStem → Bool
+has_edges low high stem = int_eq low stem.low && int_eq high stem.high
+
+abbrev pub with_edges : List WatchedStem → ℤ → ℤ → List WatchedStem
+with_edges stems low high =
+    if list_any (has_edges low high) stems || nat_le most_stems (length stems)
+    then stems else stems ++ record { low = low; high = high; touched = false } ∷ []
+
+abbrev pub with_stem_from : ℤ → List WatchedStem → Stem → List WatchedStem
+with_stem_from start stems stem = with_edges stems (low_edge start stem) (high_edge start stem)
+
+abbrev pub with_stems_from : ℤ → List WatchedStem → List Stem → List WatchedStem
+with_stems_from start stems [] = stems
+with_stems_from start stems (stem ∷ more) = with_stems_from start (with_stem_from start stems stem) more
+
+abbrev pub point_on : Point → StepView → Point
+point_on point step = if sets_width step.token then point_set step else point

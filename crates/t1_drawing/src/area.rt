@@ -1,0 +1,201 @@
+//! The signed area of a drawing, segment by segment: Type 1 Font Format 1.1, chapter 3.
+
+ghost use Rattle.std.specs.Prelude.{◌≡◌, ◌*◌, ◌<◌, ◌≤◌, ◌+ℤ◌, ◌*ℤ◌, pos, true, List, [], ◌∷◌, ◌++◌, length};
+ghost use Rattle.t1_outline.specs.declared.segment.Segment.{Segment as Segments};
+ghost use Rattle.t1_rules.specs.Watches.{IsWithin};
+ghost use Rattle.t1_drawing.specs.Areas.{curve_area, is_close, is_close_coordinate, is_drawn_close, line_area, runs_clockwise};
+ghost use Rattle.t1_drawing.specs.Bounds.{most_segments};
+ghost use Rattle.t1_drawing.specs.Points.{cross};
+ghost use Rattle.t1_drawing.specs.Private.Areas.{AreClose, IsClose, IsDrawnClose, area_after, most_area, most_cross};
+ghost use Rattle.t1_drawing.specs.Private.Standing.{AreaStandsFor, SomeAreaStandsFor};
+
+use crate::points::cross;
+use t1_outline::{ORIGIN, Segment};
+use t1_rules::Point;
+
+/// The greatest coordinate for which areas are asked: 32000 units of character space, in units of 1/65536.
+const WIDEST: i64 = 32000 * 65536;
+
+/// The signed area of the segments so far, in units of 1/65536 from side to side.
+#[derive(Clone, Copy, Debug, PartialEq, Eq)]
+pub(crate) struct Area {
+    /// Where the subpath began.
+    began: Point,
+    /// Where the last segment ended.
+    end: Point,
+    /// Twenty times the area, but for the line that closes the last subpath.
+    twentyfold: i128,
+}
+
+impl Area {
+    /// Before the first segment.
+    pub(crate) fn start() -> Area
+        ensures { AreaStandsFor result [] }
+    {
+        Area {
+            began: ORIGIN,
+            end: ORIGIN,
+            twentyfold: 0,
+        }
+    }
+
+    /// After a further segment.
+    fn after(self, segment: Segment) -> Area
+        requires began { IsClose self.began }
+        requires end { IsClose self.end }
+        requires within { IsWithin (most_segments * most_area) self.twentyfold }
+        requires segment { IsDrawnClose segment }
+        ensures { result ≡ area_after self segment }
+    {
+        match segment {
+            Segment::Move(point) => Area {
+                began: point,
+                end: point,
+                twentyfold: self.closed(),
+            },
+            Segment::Line(end) => self.led_to(end, line_area(self.end, end)),
+            Segment::Curve(one, two, end) => {
+                self.led_to(end, curve_area(self.end, one, two, end))
+            }
+            Segment::Close => Area {
+                began: self.began,
+                end: self.began,
+                twentyfold: self.closed(),
+            },
+        }
+    }
+
+    /// After a line or a curve to a point, which has so much area.
+    fn led_to(self, end: Point, more: i128) -> Area
+        requires within { IsWithin (most_segments * most_area) self.twentyfold }
+        requires more { IsWithin most_area more }
+        ensures { result ≡ record { began = self.began; end = end; twentyfold = self.twentyfold +ℤ more } }
+    {
+        Area {
+            began: self.began,
+            end,
+            twentyfold: sum(self.twentyfold, more),
+        }
+    }
+
+    /// Twenty times the area, with the line that closes the last subpath.
+    fn closed(self) -> i128
+        requires began { IsClose self.began }
+        requires end { IsClose self.end }
+        requires within { IsWithin (most_segments * most_area) self.twentyfold }
+        ensures { result ≡ self.twentyfold +ℤ line_area self.end self.began }
+    {
+        sum(self.twentyfold, line_area(self.end, self.began))
+    }
+}
+
+/// The area after a further segment; none once a point is too far from the origin.
+pub(crate) fn area_after(area: Option<Area>, segment: Segment) -> Option<Area>
+    requires { (before : List Segments) × (SomeAreaStandsFor area before × (length before < most_segments)) }
+    ensures { (before : List Segments) → SomeAreaStandsFor area before → length before < most_segments →
+        SomeAreaStandsFor result (before ++ segment ∷ []) }
+{
+    let Some(area) = area else {
+        return None;
+    };
+    if is_drawn_close(segment) {
+        Some(area.after(segment))
+    } else {
+        None
+    }
+}
+
+/// P05: whether there is an area, and it is below 0.
+pub(crate) fn is_clockwise(area: Option<Area>) -> bool
+    requires { (before : List Segments) × (SomeAreaStandsFor area before × (length before ≤ most_segments)) }
+    ensures { (before : List Segments) → SomeAreaStandsFor area before → length before ≤ most_segments →
+        result ≡ runs_clockwise before }
+{
+    match area {
+        Some(area) => area.closed() < 0,
+        None => false,
+    }
+}
+
+fn is_close_coordinate(place: i64) -> bool
+    ensures { result ≡ is_close_coordinate place }
+{
+    (-WIDEST <= place) & (place <= WIDEST)
+}
+
+fn is_close(point: Point) -> bool
+    ensures value { result ≡ is_close point }
+    ensures close { result ≡ true → IsClose point }
+{
+    is_close_coordinate(point.x) & is_close_coordinate(point.y)
+}
+
+/// Whether all points of a segment are close enough to the origin.
+fn is_drawn_close(segment: Segment) -> bool
+    ensures value { result ≡ is_drawn_close segment }
+    ensures close { result ≡ true → IsDrawnClose segment }
+{
+    match segment {
+        Segment::Move(point) => is_close(point),
+        Segment::Line(end) => is_close(end),
+        Segment::Curve(one, two, end) => is_close(one) & is_close(two) & is_close(end),
+        Segment::Close => true,
+    }
+}
+
+/// The area so far, and that of a segment.
+fn sum(area: i128, more: i128) -> i128
+    requires area { IsWithin (most_segments * most_area) area }
+    requires more { IsWithin most_area more }
+    ensures { result ≡ area +ℤ more }
+{
+    area + more
+}
+
+fn close_cross(one: Point, other: Point) -> i128
+    requires one { IsClose one }
+    requires other { IsClose other }
+    ensures value { result ≡ cross one other }
+    ensures within { IsWithin most_cross result }
+{
+    cross(one, other)
+}
+
+/// Twenty times the area between the origin and a line.
+#[tactic(auto, unfolding(crate::specs::Areas::line_area))]
+fn line_area(start: Point, end: Point) -> i128
+    requires start { IsClose start }
+    requires end { IsClose end }
+    ensures value { result ≡ line_area start end }
+    ensures within { IsWithin most_area result }
+{
+    10 * close_cross(start, end)
+}
+
+/// Twenty times the area between the origin and a curve.
+#[tactic(auto, unfolding(crate::specs::Areas::curve_area))]
+fn curve_area(start: Point, one: Point, two: Point, end: Point) -> i128
+    requires { AreClose start one two end }
+    ensures value { result ≡ curve_area start one two end }
+    ensures within { IsWithin most_area result }
+{
+    outer(start, one, two, end) + inner(start, one, two, end) + close_cross(start, end)
+}
+
+/// Of its formula what is taken six times.
+fn outer(start: Point, one: Point, two: Point, end: Point) -> i128
+    requires { AreClose start one two end }
+    ensures value { result ≡ pos 6 *ℤ (cross start one +ℤ cross two end) }
+    ensures within { IsWithin (12 * most_cross) result }
+{
+    6 * (close_cross(start, one) + close_cross(two, end))
+}
+
+/// What is taken three times.
+fn inner(start: Point, one: Point, two: Point, end: Point) -> i128
+    requires { AreClose start one two end }
+    ensures value { result ≡ pos 3 *ℤ ((cross start two +ℤ cross one two) +ℤ cross one end) }
+    ensures within { IsWithin (9 * most_cross) result }
+{
+    3 * (close_cross(start, two) + close_cross(one, two) + close_cross(one, end))
+}

@@ -1,0 +1,120 @@
+//! FontBBox, and what ends outside of it: Type 1 Font Format 1.1, chapter 2.
+
+ghost use Rattle.std.specs.Prelude.{◌≡◌, ◌*ℤ◌, ◌+ℤ◌, ◌-ℤ◌, if◌then◌else◌, int_le, pos};
+ghost use Rattle.std.specs.Ordering.{int_eq};
+ghost use Rattle.t1_scan.specs.Numbers.{billion};
+ghost use Rattle.t1_drawing.specs.FontBoxes.{ends_outside, ends_outside_box, font_box, is_box, is_off, is_outside};
+
+use t1_font::BILLION;
+use t1_outline::Segment;
+use t1_rules::Point;
+
+/// A unit of character space, as points count it.
+const UNIT: i128 = 65536;
+
+/// The same, as the numbers of a font count it.
+const ONE: i128 = BILLION as i128;
+
+/// FontBBox: the edges of the box in which all glyphs are, in units of 10^-9.
+#[derive(Clone, Copy, Debug, PartialEq, Eq)]
+pub struct FontBox {
+    pub left: i64,
+    pub bottom: i64,
+    pub right: i64,
+    pub top: i64,
+}
+
+fn box_of(left: i64, bottom: i64, right: i64, top: i64) -> Option<FontBox>
+    ensures { result ≡ (if is_box left bottom right top then Some (record { left = left; bottom = bottom; right = right; top = top }) else None) }
+{
+    if is_box(left, bottom, right, top) {
+        Some(FontBox {
+            left,
+            bottom,
+            right,
+            top,
+        })
+    } else {
+        None
+    }
+}
+
+/// Whether two corners aren't all 0, and the first is the lower left one.
+fn is_box(left: i64, bottom: i64, right: i64, top: i64) -> bool
+    ensures { result ≡ is_box left bottom right top }
+{
+    !(is_zero(left) & is_zero(bottom) & is_zero(right) & is_zero(top))
+        & (is_ordered(left, right) & is_ordered(bottom, top))
+}
+
+fn is_zero(number: i64) -> bool
+    ensures { result ≡ int_eq number (pos 0) }
+{
+    number == 0
+}
+
+fn is_ordered(lower: i64, upper: i64) -> bool
+    ensures { result ≡ int_le lower upper }
+{
+    lower <= upper
+}
+
+/// Whether a coordinate is a unit or more below the first number, or above the second.
+fn is_off(least: i64, greatest: i64, place: i64) -> bool
+    ensures { result ≡ is_off least greatest place }
+{
+    (of_point(place) <= a_unit_below(least)) | (a_unit_above(greatest) <= of_point(place))
+}
+
+/// A point's coordinate, in units of 1/65536 of 10^-9.
+fn of_point(place: i64) -> i128
+    ensures { result ≡ place *ℤ pos billion }
+{
+    i128::from(place) * ONE
+}
+
+/// What is a unit below a font's number, in the same units.
+fn a_unit_below(number: i64) -> i128
+    ensures { result ≡ (number -ℤ pos billion) *ℤ pos 65536 }
+{
+    (i128::from(number) - ONE) * UNIT
+}
+
+/// What is a unit above it.
+fn a_unit_above(number: i64) -> i128
+    ensures { result ≡ (number +ℤ pos billion) *ℤ pos 65536 }
+{
+    (i128::from(number) + ONE) * UNIT
+}
+
+impl FontBox {
+    /// The box that numbers say, in units of 10^-9. None where they aren't four, are all 0, or have their corners
+    /// exchanged.
+    pub fn of(numbers: &[i64]) -> Option<FontBox>
+        ensures { result ≡ font_box numbers.now }
+    {
+        match numbers {
+            [left, bottom, right, top] => box_of(*left, *bottom, *right, *top),
+            _ => None,
+        }
+    }
+
+    fn is_outside(self, point: Point) -> bool
+        ensures { result ≡ is_outside self point }
+    {
+        is_off(self.left, self.right, point.x) | is_off(self.bottom, self.top, point.y)
+    }
+}
+
+/// Whether a line or a curve ends a unit or more outside the box, if there is one.
+pub(crate) fn ends_outside(font_box: Option<FontBox>, segment: Segment) -> bool
+    ensures { result ≡ ends_outside font_box segment }
+{
+    let Some(font_box) = font_box else {
+        return false;
+    };
+    match segment {
+        Segment::Line(end) | Segment::Curve(_, _, end) => font_box.is_outside(end),
+        _ => false,
+    }
+}

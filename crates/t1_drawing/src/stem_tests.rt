@@ -1,0 +1,124 @@
+//! Which stems lines and curves touch: Type 1 Font Format 1.1, chapter 5. Numbers are units of character space, and expected values are worked out by
+//! hand.
+
+use crate::direction::Direction;
+use crate::touching::{TouchWatcher, add};
+use t1_outline::Segment;
+use t1_rules::{MOST_STEMS, Point};
+
+/// A unit in units of 1/65536.
+const UNIT: i64 = 65_536;
+
+/// A coordinate of so many units.
+fn units(count: i32) -> i64 {
+    i64::from(count) * UNIT
+}
+
+fn at(x: i32, y: i32) -> Point {
+    Point {
+        x: units(x),
+        y: units(y),
+    }
+}
+
+/// What is drawn.
+#[derive(Clone, Copy, Debug)]
+enum Kind {
+    /// To 200 100.
+    Line,
+    /// From 0 0 to 100 0, by 0 100 and 100 100: up to 75 at its middle.
+    Curve,
+    Move,
+    Close,
+}
+
+impl Kind {
+    fn segment(self) -> Segment {
+        match self {
+            Kind::Line => Segment::Line(at(200, 100)),
+            Kind::Curve => Segment::Curve(at(0, 100), at(100, 100), at(100, 0)),
+            Kind::Move => Segment::Move(at(200, 100)),
+            Kind::Close => Segment::Close,
+        }
+    }
+}
+
+/// What is drawn, from x and y that are this number both, edges of a stem, and whether one of them is touched.
+type Row = (Direction, i32, Kind, i32, i32, bool);
+
+const ROWS: &[Row] = &[
+    (Direction::Across, 100, Kind::Line, 100, 200, true),
+    (Direction::Across, 100, Kind::Line, 300, 320, false),
+    // Eleven units off, and ten.
+    (Direction::Across, 100, Kind::Line, 89, 289, false),
+    (Direction::Across, 100, Kind::Line, 90, 290, true),
+    (Direction::Across, 100, Kind::Line, 0, 90, true),
+    (Direction::Across, 100, Kind::Line, 111, 300, false),
+    (Direction::Across, 100, Kind::Line, 110, 300, true),
+    // By both ends of the line.
+    (Direction::Upright, 100, Kind::Line, 189, 400, false),
+    (Direction::Upright, 100, Kind::Line, 190, 400, true),
+    (Direction::Upright, 100, Kind::Line, 110, 400, true),
+    (Direction::Upright, 100, Kind::Line, 150, 400, false),
+    // Where the curve may have its extreme, ends included.
+    (Direction::Across, 0, Kind::Curve, 50, 400, true),
+    (Direction::Across, 0, Kind::Curve, 100, 400, true),
+    (Direction::Across, 0, Kind::Curve, 101, 400, false),
+    (Direction::Across, 0, Kind::Curve, -300, -11, false),
+    (Direction::Across, 0, Kind::Curve, -300, -10, true),
+    // Its points don't go beyond its ends in x.
+    (Direction::Upright, 0, Kind::Curve, 50, 400, false),
+    // What draws nothing.
+    (Direction::Across, 100, Kind::Move, 100, 200, false),
+    (Direction::Across, 100, Kind::Close, 100, 200, false),
+];
+
+#[test]
+fn edges_that_are_touched(rt: HostRuntime) {
+    for (direction, start, kind, low, high, wanted) in ROWS {
+        let found = match direction.extent(Some(at(*start, *start)), kind.segment()) {
+            Some(extent) => extent.touches_one(units(*low), units(*high)),
+            None => false,
+        };
+        assert_eq!(rt; found, *wanted, "{kind:?} {low} {high}");
+    }
+}
+
+/// After closepath no line begins.
+#[test]
+fn lines_without_a_start(rt: HostRuntime) {
+    assert!(rt;
+        Direction::Across
+            .extent(None, Kind::Line.segment())
+            .is_none()
+    );
+}
+
+#[test]
+fn stems_are_touched_after_they_were_set(rt: HostRuntime) {
+    let mut watcher = TouchWatcher::start();
+    add(&mut watcher.across, units(100), units(200));
+    // Nothing is drawn yet.
+    assert!(rt; !watcher.leaves_untouched());
+    watcher.draw_all(&[Segment::Move(at(100, 300)), Segment::Line(at(100, 400))]);
+    assert!(rt; watcher.leaves_untouched());
+    watcher.draw_all(&[Segment::Line(at(100, 195))]);
+    assert!(rt; !watcher.leaves_untouched());
+    // A stem that is set later isn't touched by what was drawn before, but by the next line from there.
+    add(&mut watcher.upright, units(100), units(150));
+    assert!(rt; watcher.leaves_untouched());
+    watcher.draw_all(&[Segment::Line(at(300, 195))]);
+    assert!(rt; !watcher.leaves_untouched());
+}
+
+/// Each pair of edges counts once, and there are 96 at most.
+#[test]
+fn stems_of_a_glyph(rt: HostRuntime) {
+    let mut watcher = TouchWatcher::start();
+    for number in 0..200_i32 {
+        add(&mut watcher.across, units(number), units(300));
+        add(&mut watcher.upright, 0, UNIT);
+    }
+    assert_eq!(rt; watcher.across.len(), MOST_STEMS);
+    assert_eq!(rt; watcher.upright.len(), 1);
+}

@@ -1,0 +1,388 @@
+//! Stems that nothing touches, H08: Type 1 Font Format 1.1, chapter 5.
+
+ghost use Rattle.std.specs.Prelude.{◌≡◌, ◌||◌, ◌+ℤ◌, nat_le, length, Some, List, [], ◌∷◌, ◌++◌, map, not};
+ghost use Rattle.std.specs.Int.{int_max, int_min};
+ghost use Rattle.std.specs.List.{list_any};
+ghost use Rattle.t1_char.specs.Steps.{StepView};
+ghost use Rattle.t1_char.specs.StepValues.{step_view};
+ghost use Rattle.t1_drawing.specs.Touching.{coordinate, curve_extent, extent_by, extent_from, high_edge, is_between, is_near, is_stroke_by, leaves_untouched, line_extent, low_edge, stems_set, touches_edge, touches_one, widened};
+ghost use Rattle.t1_drawing.specs.Private.Watching.{TouchesStandFor, draw_on, drawing_in, draws_on, has_edges, point_in, point_on, touched_by, with_edges, with_stem_from, with_stems_from};
+ghost use Rattle.t1_outline.specs.Outlines.{drawn};
+ghost use Rattle.t1_drawing.specs.declared.direction.Direction.TheVariants.{Across, Upright};
+ghost use Rattle.t1_rules.specs.StepRules.Stems.{most_stems, stems_of};
+ghost use Rattle.t1_rules.specs.StepRules.Tokens.{is_hsbw};
+
+use crate::direction::Direction;
+use crate::points::end_of;
+use arrayvec::ArrayVec;
+use t1_char::{CharToken, Command, Step};
+use t1_outline::Segment;
+use t1_rules::{
+    MOST_STEMS, Point, Stem, is_triple, lies_across, sets_width, stands_upright, stem_at,
+    three_stems,
+};
+
+/// How far an edge may lie from an end of a line or a curve that touches it: ten units.
+const NEAR: u64 = 655_360;
+
+/// In a coordinate: where a line or a curve begins and ends, and the least and the greatest of all its points.
+#[derive(Clone, Copy)]
+pub(crate) struct Extent {
+    start: i64,
+    end: i64,
+    least: i64,
+    greatest: i64,
+}
+
+/// A stem by its edges, in units of 1/65536, and whether something touched it since it was set.
+#[derive(Clone, Copy, Debug, Default, PartialEq, Eq)]
+pub(crate) struct WatchedStem {
+    low: i64,
+    high: i64,
+    touched: bool,
+}
+
+/// Stems of one direction.
+pub(crate) type WatchedStems = ArrayVec<WatchedStem, MOST_STEMS>;
+
+/// The sidebearing point, in units of 1/65536.
+#[derive(Clone, Copy)]
+struct Sidebearing {
+    x: i32,
+    y: i32,
+}
+
+/// Watches for H08.
+#[derive(Drop)]
+pub struct TouchWatcher {
+    pub(crate) across: WatchedStems,
+    pub(crate) upright: WatchedStems,
+    sidebearing: Sidebearing,
+    /// Where the last segment ended, unless it is closepath: there the next line or curve begins.
+    end: Option<Point>,
+    /// Whether a line or a curve was drawn.
+    has_strokes: bool,
+}
+
+fn is_near(one: i64, other: i64) -> bool
+    ensures { result ≡ is_near one other }
+{
+    one.abs_diff(other) <= NEAR
+}
+
+fn is_between(low: i64, place: i64, high: i64) -> bool
+    ensures { result ≡ is_between low place high }
+{
+    (low <= place) & (place <= high)
+}
+
+fn line_extent(start: i64, end: i64) -> Extent
+    ensures { result ≡ line_extent start end }
+{
+    Extent {
+        start,
+        end,
+        least: start.min(end),
+        greatest: start.max(end),
+    }
+}
+
+impl Direction {
+    fn line(self, start: Point, end: Point) -> Extent
+        ensures { result ≡ line_extent (coordinate self start) (coordinate self end) }
+    {
+        line_extent(self.coordinate(start), self.coordinate(end))
+    }
+
+    fn curve(self, start: Point, one: Point, two: Point, end: Point) -> Extent
+        ensures { result ≡ curve_extent (coordinate self start) (coordinate self one) (coordinate self two) (coordinate self end) }
+    {
+        self.line(start, end)
+            .widened(self.coordinate(one))
+            .widened(self.coordinate(two))
+    }
+
+    /// The extent of a line or a curve that begins at a point.
+    fn extent_from(self, start: Point, segment: Segment) -> Option<Extent>
+        ensures { result ≡ extent_from (coordinate self) start segment }
+    {
+        match segment {
+            Segment::Line(end) => Some(self.line(start, end)),
+            Segment::Curve(one, two, end) => Some(self.curve(start, one, two, end)),
+            Segment::Move(_) | Segment::Close => None,
+        }
+    }
+
+    pub(crate) fn extent(self, start: Option<Point>, segment: Segment) -> Option<Extent>
+        ensures { result ≡ extent_by (coordinate self) start segment }
+    {
+        match start {
+            Some(start) => self.extent_from(start, segment),
+            None => None,
+        }
+    }
+}
+
+impl Extent {
+    /// With a point more.
+    fn widened(self, place: i64) -> Extent
+        ensures { result ≡ widened self place }
+    {
+        Extent {
+            least: self.least.min(place),
+            greatest: self.greatest.max(place),
+            ..self
+        }
+    }
+
+    fn ends_near(self, edge: i64) -> bool
+        ensures { result ≡ (is_near self.start edge || is_near self.end edge) }
+    {
+        is_near(self.start, edge) | is_near(self.end, edge)
+    }
+
+    /// Whether an edge lies from the least of all points up to the lesser end.
+    fn reaches_down(self, edge: i64) -> bool
+        ensures { result ≡ is_between self.least edge (int_min self.start self.end) }
+    {
+        is_between(self.least, edge, self.start.min(self.end))
+    }
+
+    /// Whether an edge lies from the greater end up to the greatest of all points.
+    fn reaches_up(self, edge: i64) -> bool
+        ensures { result ≡ is_between (int_max self.start self.end) edge self.greatest }
+    {
+        is_between(self.start.max(self.end), edge, self.greatest)
+    }
+
+    fn touches(self, edge: i64) -> bool
+        ensures { result ≡ touches_edge self edge }
+    {
+        self.ends_near(edge) | (self.reaches_down(edge) | self.reaches_up(edge))
+    }
+
+    /// Whether an edge of a stem is touched.
+    pub(crate) fn touches_one(self, low: i64, high: i64) -> bool
+        ensures { result ≡ touches_one (Some self) low high }
+    {
+        self.touches(low) | self.touches(high)
+    }
+}
+
+impl WatchedStem {
+    /// After a line or a curve more.
+    fn touched_by(self, extent: Extent) -> WatchedStem
+        ensures { result ≡ touched_by (Some extent) self }
+    {
+        let touched = self.touched | extent.touches_one(self.low, self.high);
+        WatchedStem { touched, ..self }
+    }
+
+    fn has_edges(self, low: i64, high: i64) -> bool
+        ensures { result ≡ has_edges low high self }
+    {
+        low == self.low && high == self.high
+    }
+}
+
+/// Stems that something is drawn beside.
+fn touch_all(stems: &mut [WatchedStem], extent: Extent)
+    ensures { stems.new ≡ map (touched_by (Some extent)) stems.old }
+{
+    for stem in stems.iter_mut() {
+        *stem = stem.touched_by(extent);
+    }
+}
+
+/// The same of a segment that may be no line and no curve.
+fn touch(stems: &mut WatchedStems, direction: Direction, start: Option<Point>, segment: Segment)
+    ensures { stems.new.items ≡ map (touched_by (extent_by (coordinate direction) start segment)) stems.old.items }
+{
+    match direction.extent(start, segment) {
+        Some(extent) => touch_all(stems.as_mut_slice(), extent),
+        None => (),
+    }
+}
+
+fn is_stroke(segment: Segment) -> bool
+    ensures { result ≡ is_stroke_by segment }
+{
+    matches!(segment, Segment::Line(_) | Segment::Curve(..))
+}
+
+/// Whether a stem of these edges is there.
+fn has(stems: &[WatchedStem], low: i64, high: i64) -> bool
+    ensures { result ≡ list_any (has_edges low high) stems.now }
+{
+    stems.iter().any(|stem| stem.has_edges(low, high))
+}
+
+/// Whether a stem of these edges is there, or there is no room for another.
+fn takes_none(stems: &[WatchedStem], low: i64, high: i64) -> bool
+    ensures { result ≡ (list_any (has_edges low high) stems.now || nat_le most_stems (length stems.now)) }
+{
+    has(stems, low, high) | (stems.len() >= MOST_STEMS)
+}
+
+/// Adds a stem, if its edges aren't there and there is room.
+pub(crate) fn add(stems: &mut WatchedStems, low: i64, high: i64)
+    ensures { stems.new.items ≡ with_edges stems.old.items low high }
+{
+    if takes_none(stems.as_slice(), low, high) {
+        return;
+    }
+    stems.push(WatchedStem {
+        low,
+        high,
+        touched: false,
+    });
+}
+
+/// Where a stem begins that counts from a place.
+fn begin(start: i32, stem: Stem) -> i64
+    ensures { result ≡ start +ℤ stem.position }
+{
+    i64::from(start) + i64::from(stem.position)
+}
+
+/// Where it ends.
+fn end(start: i32, stem: Stem) -> i64
+    ensures { result ≡ (start +ℤ stem.position) +ℤ stem.width }
+{
+    i64::from(start) + i64::from(stem.position) + i64::from(stem.width)
+}
+
+/// The lower or the left edge.
+fn low_edge(start: i32, stem: Stem) -> i64
+    ensures { result ≡ low_edge start stem }
+{
+    begin(start, stem).min(end(start, stem))
+}
+
+/// The upper or the right one.
+fn high_edge(start: i32, stem: Stem) -> i64
+    ensures { result ≡ high_edge start stem }
+{
+    begin(start, stem).max(end(start, stem))
+}
+
+fn add_from(stems: &mut WatchedStems, start: i32, stem: Stem)
+    ensures { stems.new.items ≡ with_stem_from start stems.old.items stem }
+{
+    add(stems, low_edge(start, stem), high_edge(start, stem));
+}
+
+/// Adds the stems that a step sets.
+fn add_own(stems: &mut WatchedStems, start: i32, step: &Step)
+    ensures { stems.new.items ≡ with_stems_from start stems.old.items (stems_of (step_view step.now)) }
+{
+    if is_triple(step.token) {
+        let [one, two, three] = three_stems(step);
+        add_from(stems, start, one);
+        add_from(stems, start, two);
+        add_from(stems, start, three);
+    } else {
+        add_from(stems, start, stem_at(step, 0));
+    }
+}
+
+/// Whether a token is hsbw, which has no y.
+fn is_hsbw(token: CharToken) -> bool
+    ensures { result ≡ is_hsbw token }
+{
+    matches!(token, CharToken::Command(Command::Hsbw))
+}
+
+impl Sidebearing {
+    /// That of the last hsbw or sbw.
+    fn after(self, step: &Step) -> Sidebearing
+        ensures { point_in result ≡ point_on (point_in self) (step_view step.now) }
+    {
+        if !sets_width(step.token) {
+            self
+        } else if is_hsbw(step.token) {
+            Sidebearing {
+                x: step.argument(0),
+                y: 0,
+            }
+        } else {
+            Sidebearing {
+                x: step.argument(0),
+                y: step.argument(1),
+            }
+        }
+    }
+}
+
+impl TouchWatcher {
+    /// Before the first step.
+    pub fn start() -> TouchWatcher
+        ensures { TouchesStandFor result [] }
+    {
+        TouchWatcher {
+            across: ArrayVec::new(),
+            upright: ArrayVec::new(),
+            sidebearing: Sidebearing { x: 0, y: 0 },
+            end: None,
+            has_strokes: false,
+        }
+    }
+
+    /// Sees the next step, and what it draws.
+    pub fn see(&mut self, step: &Step, segments: &[Segment])
+        ensures { (before : List StepView) → TouchesStandFor self.old before → segments.now ≡ drawn before (step_view step.now) →
+            TouchesStandFor self.new (before ++ step_view step.now ∷ []) }
+    {
+        self.draw_all(segments);
+        self.set(step);
+        self.sidebearing = self.sidebearing.after(step);
+    }
+
+    /// Whether something is drawn, and a stem isn't touched: at the end of a glyph this breaks H08.
+    pub fn leaves_untouched(&self) -> bool
+        ensures { (before : List StepView) → TouchesStandFor self.now before → result ≡ leaves_untouched before }
+    {
+        let across = one_is_untouched(self.across.as_slice());
+        let upright = one_is_untouched(self.upright.as_slice());
+        self.has_strokes & (across | upright)
+    }
+
+    pub(crate) fn draw_all(&mut self, segments: &[Segment])
+        ensures drawing { drawing_in self.new ≡ draws_on (drawing_in self.old) segments.now }
+        ensures sidebearing { self.new.sidebearing ≡ self.old.sidebearing }
+    {
+        for segment in segments {
+            self.draw(*segment);
+        }
+    }
+
+    fn draw(&mut self, segment: Segment)
+        ensures drawing { drawing_in self.new ≡ draw_on (drawing_in self.old) segment }
+        ensures sidebearing { self.new.sidebearing ≡ self.old.sidebearing }
+    {
+        touch(&mut self.across, Direction::Across, self.end, segment);
+        touch(&mut self.upright, Direction::Upright, self.end, segment);
+        self.end = end_of(segment);
+        self.has_strokes = self.has_strokes | is_stroke(segment);
+    }
+
+    fn set(&mut self, step: &Step)
+        ensures across { self.new.across.items ≡ with_stems_from self.old.sidebearing.y self.old.across.items (stems_set Across (step_view step.now)) }
+        ensures upright { self.new.upright.items ≡ with_stems_from self.old.sidebearing.x self.old.upright.items (stems_set Upright (step_view step.now)) }
+        ensures sidebearing { self.new.sidebearing ≡ self.old.sidebearing }
+        ensures end { self.new.end ≡ self.old.end }
+        ensures has_strokes { self.new.has_strokes ≡ self.old.has_strokes }
+    {
+        if lies_across(step.token) {
+            add_own(&mut self.across, self.sidebearing.y, step);
+        } else if stands_upright(step.token) {
+            add_own(&mut self.upright, self.sidebearing.x, step);
+        }
+    }
+}
+
+fn one_is_untouched(stems: &[WatchedStem]) -> bool
+    ensures { result ≡ list_any (λ stem. not stem.touched) stems.now }
+{
+    stems.iter().any(|stem| !stem.touched)
+}
