@@ -7,7 +7,7 @@ ghost use Rattle.t1_char.specs.StepValues.{step_view};
 ghost use Rattle.t1_drawing.specs.declared.font_box.FontBox.{FontBox as Boxes};
 ghost use Rattle.t1_drawing.specs.Glyphs.{drawing_faults, is_clockwise};
 ghost use Rattle.t1_drawing.specs.Touching.{leaves_untouched};
-ghost use Rattle.t1_drawing.specs.Private.Glyphs.{DrawingStandsFor};
+ghost use Rattle.t1_drawing.specs.Private.Standing.{DrawingStandsFor};
 ghost use Rattle.t1_rules.specs.Watches.{most_steps};
 
 use crate::faults::SegmentFaults;

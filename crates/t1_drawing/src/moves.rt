@@ -4,7 +4,7 @@ ghost use Rattle.std.specs.Prelude.{◌≡◌, Bool, List, [], ◌∷◌, ◌++�
 ghost use Rattle.t1_char.specs.Steps.{StepView};
 ghost use Rattle.t1_char.specs.StepValues.{step_view};
 ghost use Rattle.t1_drawing.specs.Moves.{moves_again};
-ghost use Rattle.t1_drawing.specs.Private.Watching.{MovesStandFor};
+ghost use Rattle.t1_drawing.specs.Private.Standing.{MovesStandFor};
 ghost use Rattle.t1_rules.specs.StepRules.Paths.{in_flex};
 
 use t1_char::Step;

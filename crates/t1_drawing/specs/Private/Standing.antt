@@ -1,16 +1,27 @@
--- What a watcher keeps of the segments that it has seen.
-use Rattle.std.specs.Prelude.{◌≡◌, ◌*◌, ◌≤◌, ◌+ℤ◌, false, true, Option, Some, None, IfSome, List, ◌++◌, length}
+-- What watchers keep of the segments and the steps that they have seen.
+use Rattle.std.specs.Prelude.{◌≡◌, ◌*◌, ◌≤◌, ◌+ℤ◌, false, true, Option, Some, None, IfSome, List, [], ◌++◌, length, map}
 use Rattle.std.specs.List.{list_all, list_any}
+use Rattle.t1_char.specs.declared.edition.Edition.{Edition}
+use Rattle.t1_char.specs.Steps.{StepView}
 use Rattle.t1_outline.specs.declared.segment.Segment.{Segment}
+use Rattle.t1_outline.specs.Private.Standing.{PenStandsFor}
 use Rattle.t1_rules.specs.Watches.{IsNear, IsWithin}
 use Rattle.t1_drawing.specs.declared.area.Area.{Area}
+use Rattle.t1_drawing.specs.declared.direction.Direction.TheVariants.{Across, Upright}
 use Rattle.t1_drawing.specs.declared.font_box.FontBox.{FontBox}
+use Rattle.t1_drawing.specs.declared.glyph.DrawingWatcher.{DrawingWatcher}
+use Rattle.t1_drawing.specs.declared.moves.MoveWatcher.{MoveWatcher}
 use Rattle.t1_drawing.specs.declared.segments.SegmentWatcher.{SegmentWatcher}
+use Rattle.t1_drawing.specs.declared.touching.TouchWatcher.{TouchWatcher}
 use Rattle.t1_drawing.specs.Areas.{area_from, area_of, is_drawn_close}
 use Rattle.t1_drawing.specs.Bounds.{most_segments, most_ways}
 use Rattle.t1_drawing.specs.FontBoxes.{ends_outside}
+use Rattle.t1_drawing.specs.Moves.{is_only_moved}
 use Rattle.t1_drawing.specs.Private.Areas.{IsClose, most_area}
+use Rattle.t1_drawing.specs.Private.Watching.{point_in, watched}
 use Rattle.t1_drawing.specs.Segments.{line_start_before, start_after}
+use Rattle.t1_drawing.specs.Strokes.{end_of_steps, segments_of, strokes_after}
+use Rattle.t1_drawing.specs.Touching.{is_stroke, sidebearing_point, stems_of_glyph}
 
 -- The area so far, but for the line that closes the last subpath.
 pub record AreaStandsFor (area : Area) (before : List Segment) : Type 0 where
@@ -33,3 +44,20 @@ pub record SegmentsStandFor (box : Option FontBox) (watcher : SegmentWatcher) (b
   pub line_start_near : IfSome watcher.line_start (IsNear most_ways)
   pub few : length before ≤ most_segments
   pub area : SomeAreaStandsFor watcher.area before
+
+abbrev pub MovesStandFor : MoveWatcher → List StepView → Type 0
+MovesStandFor watcher before = watcher.moved ≡ is_only_moved before
+
+-- The stems of both directions, and what is drawn so far.
+pub record TouchesStandFor (watcher : TouchWatcher) (before : List StepView) : Type 0 where
+  pub across : watcher.across.items ≡ map (watched Across) (stems_of_glyph Across before)
+  pub upright : watcher.upright.items ≡ map (watched Upright) (stems_of_glyph Upright before)
+  pub sidebearing : point_in watcher.sidebearing ≡ sidebearing_point before
+  pub end : watcher.end ≡ end_of_steps before
+  pub has_strokes : watcher.has_strokes ≡ list_any is_stroke (strokes_after [] before)
+
+pub record DrawingStandsFor (edition : Edition) (box : Option FontBox) (watcher : DrawingWatcher) (before : List StepView) : Type 0 where
+  pub pen : PenStandsFor edition watcher.pen before
+  pub segments : SegmentsStandFor box watcher.segments (segments_of before)
+  pub moves : MovesStandFor watcher.moves before
+  pub touches : TouchesStandFor watcher.touches before

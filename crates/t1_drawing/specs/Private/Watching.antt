@@ -1,18 +1,15 @@
--- What watchers keep of the steps that they have seen.
-use Rattle.std.specs.Prelude.{◌≡◌, ℤ, ◌&&◌, ◌||◌, nat_le, if◌then◌else◌, Bool, false, Option, List, [], ◌∷◌, ◌++◌, length, map}
+-- What a watcher of stems keeps, with a segment more and with stems more.
+use Rattle.std.specs.Prelude.{ℤ, ◌&&◌, ◌||◌, nat_le, if◌then◌else◌, Bool, false, Option, List, [], ◌∷◌, ◌++◌, length, map}
 use Rattle.std.specs.List.{list_any}
 use Rattle.std.specs.Ordering.{int_eq}
 use Rattle.t1_char.specs.Steps.{StepView}
 use Rattle.t1_drawing.specs.declared.direction.Direction.{Direction}
 use Rattle.t1_drawing.specs.declared.direction.Direction.TheVariants.{Across, Upright}
-use Rattle.t1_drawing.specs.declared.moves.MoveWatcher.{MoveWatcher}
 use Rattle.t1_drawing.specs.declared.touching.Extent.{Extent}
 use Rattle.t1_drawing.specs.declared.touching.Sidebearing.{Sidebearing}
 use Rattle.t1_drawing.specs.declared.touching.TouchWatcher.{TouchWatcher}
 use Rattle.t1_drawing.specs.declared.touching.WatchedStem.{WatchedStem}
-use Rattle.t1_drawing.specs.Moves.{is_only_moved}
-use Rattle.t1_drawing.specs.Strokes.{end_of_steps, strokes_after}
-use Rattle.t1_drawing.specs.Touching.{SetStem, coordinate, extent_by, high_edge, is_stroke, is_stroke_by, is_touched, low_edge, sidebearing_point, stems_of_glyph, touches_one}
+use Rattle.t1_drawing.specs.Touching.{SetStem, coordinate, extent_by, high_edge, is_stroke_by, is_touched, low_edge, touches_one}
 use Rattle.t1_outline.specs.declared.segment.Segment.{Segment}
 use Rattle.t1_outline.specs.Laws.Points.{end_of}
 use Rattle.t1_rules.specs.declared.step_rules.flex.Point.{Point}
@@ -21,23 +18,12 @@ use Rattle.t1_rules.specs.StepRules.Flex.{at, point_set}
 use Rattle.t1_rules.specs.StepRules.Stems.{most_stems}
 use Rattle.t1_rules.specs.StepRules.Tokens.{sets_width}
 
-abbrev pub MovesStandFor : MoveWatcher → List StepView → Type 0
-MovesStandFor watcher before = watcher.moved ≡ is_only_moved before
-
 -- A stem that is set, without the segments after it.
 abbrev pub watched : Direction → SetStem → WatchedStem
 watched direction stem = record { low = stem.low; high = stem.high; touched = is_touched direction stem }
 
 abbrev pub point_in : Sidebearing → Point
 point_in s = at s.x s.y
-
--- A watcher has seen the steps.
-pub record TouchesStandFor (watcher : TouchWatcher) (before : List StepView) : Type 0 where
-  pub across : watcher.across.items ≡ map (watched Across) (stems_of_glyph Across before)
-  pub upright : watcher.upright.items ≡ map (watched Upright) (stems_of_glyph Upright before)
-  pub sidebearing : point_in watcher.sidebearing ≡ sidebearing_point before
-  pub end : watcher.end ≡ end_of_steps before
-  pub has_strokes : watcher.has_strokes ≡ list_any is_stroke (strokes_after [] before)
 
 -- A segment more.
 abbrev pub touched_by : Option Extent → WatchedStem → WatchedStem
