@@ -68,7 +68,7 @@ fn one_is_adjacent(stems: &[Stem], set: &[Stem]) -> bool
 }
 
 /// Whether one of the stems is adjacent to one of the hint set, or two of them are.
-fn are_some_adjacent(stems: &[Stem], set: &[Stem]) -> bool
+pub(crate) fn are_some_adjacent(stems: &[Stem], set: &[Stem]) -> bool
     ensures { result ≡ stems_meet are_adjacent stems.now set.now }
 {
     one_is_adjacent(stems, set) || two_are_adjacent(stems)
@@ -100,7 +100,7 @@ fn has_negative_width(stem: Stem) -> bool
     (stem.width < 0) & !stem.has_one_edge()
 }
 
-fn one_is_negative(stems: &[Stem]) -> bool
+pub(crate) fn one_is_negative(stems: &[Stem]) -> bool
     ensures { result ≡ list_any has_negative_width stems.now }
 {
     stems.iter().any(|stem| has_negative_width(*stem))

@@ -2,9 +2,10 @@
 //! hand.
 
 use crate::direction::Direction;
+use crate::stem_edges::{are_some_adjacent, one_is_negative};
 use crate::touching::{TouchWatcher, add};
 use t1_outline::Segment;
-use t1_rules::{MOST_STEMS, Point};
+use t1_rules::{MOST_STEMS, Point, Stem};
 
 /// A unit in units of 1/65536.
 const UNIT: i64 = 65_536;
@@ -121,4 +122,70 @@ fn stems_of_a_glyph(rt: HostRuntime) {
     }
     assert_eq!(rt; watcher.across.len(), MOST_STEMS);
     assert_eq!(rt; watcher.upright.len(), 1);
+}
+
+/// Positions and widths of stems that a step sets, of one that is in force, and whether two of them share an edge.
+type Stems = (&'static [(i32, i32)], (i32, i32), bool);
+
+const STEMS: &[Stems] = &[
+    (&[(50, 50)], (0, 50), true),
+    (&[(0, 50)], (50, 50), true),
+    (&[(51, 50)], (0, 50), false),
+    (&[(49, 50)], (0, 50), false),
+    // A negative width leads from the upper edge to the lower one.
+    (&[(100, -50)], (0, 50), true),
+    // Without a width, or of one edge.
+    (&[(50, 0)], (0, 50), false),
+    (&[(70, -20)], (0, 50), false),
+    (&[(71, -21)], (0, 50), false),
+    (&[(72, -22)], (0, 50), true),
+    // Two of the three that a step sets.
+    (&[(0, 10), (20, 10), (30, 10)], (500, 10), true),
+    (&[(0, 10), (20, 10), (40, 10)], (500, 10), false),
+    (&[(0, 10), (20, 10), (40, 10)], (50, 10), true),
+];
+
+fn stem(parts: (i32, i32)) -> Stem {
+    let (position, width) = parts;
+    Stem {
+        position: position.wrapping_mul(65_536),
+        width: width.wrapping_mul(65_536),
+    }
+}
+
+/// The stems of a step, one or three.
+fn own(parts: &[(i32, i32)]) -> [Stem; 3] {
+    match parts {
+        [one, two, three] => [stem(*one), stem(*two), stem(*three)],
+        [one, ..] => [stem(*one), Stem::default(), Stem::default()],
+        [] => [Stem::default(), Stem::default(), Stem::default()],
+    }
+}
+
+#[test]
+fn stems_that_share_an_edge(rt: HostRuntime) {
+    for (parts, other, wanted) in STEMS {
+        let found = are_some_adjacent(&own(parts), &[stem(*other)]);
+        assert_eq!(rt; found, *wanted, "{parts:?} {other:?}");
+    }
+}
+
+/// Widths of a stem, and whether it breaks H10.
+const WIDTHS: &[(i32, bool)] = &[
+    (-100, true),
+    (-1, true),
+    (0, false),
+    (1, false),
+    (-19, true),
+    (-20, false),
+    (-21, false),
+    (-22, true),
+];
+
+#[test]
+fn stems_of_negative_width(rt: HostRuntime) {
+    for (width, wanted) in WIDTHS {
+        let found = one_is_negative(&own(&[(200, 10), (0, 10), (100, *width)]));
+        assert_eq!(rt; found, *wanted, "{width}");
+    }
 }
