@@ -1,20 +1,9 @@
 -- Laws of curves: where they go beyond their ends.
 use Rattle.std.proofs.Common.{◌≡◌, ◌≤ℤ◌, ◌⊎◌, ◌&&◌, ◌||◌, inl, inr, ℤ, pos, ◌+ℤ◌, ◌*ℤ◌, Bool, true, false, int_le, refl, arith}
+use Rattle.std.proofs.lemmas.Bool.{and_parts, or_cases}
 use Rattle.std.proofs.lemmas.Int.{clamps, ints}
 use Rattle.t1_drawing.specs.Curves.{at_half, at_quarter, goes_beyond, is_above, is_below, is_beyond, is_beyond_at_half, is_beyond_at_quarter}
 use Rattle.t1_drawing.specs.Laws.{CurvesWithinTheirEndsAreFine, CurvesWithoutExtremesGoBeyond, GoesBeyond, IsBetween}
-
-or_cases : (a b : Bool) → (a || b) ≡ true → (a ≡ true) ⊎ (b ≡ true)
-or_cases true b is = inl refl
-or_cases false b is = inr is
-
-and_first : (a b : Bool) → (a && b) ≡ true → a ≡ true
-and_first true b is = refl
-and_first false b is = is
-
-and_second : (a b : Bool) → (a && b) ≡ true → b ≡ true
-and_second true b is = is
-and_second false b is = let no : false ≡ true = is in cc
 
 is_false : (b : Bool) → (b ≡ true → ⊥) → b ≡ false
 is_false true never = absurd (never refl)
@@ -35,59 +24,47 @@ record Below (a d place : ℤ) : Type 0 where
 beyond : (a d place : ℤ) → is_beyond a d place ≡ true → Above a d place ⊎ Below a d place
 unfolding is_beyond
 beyond a d place is = elim (or_cases (is_above (pos 64 *ℤ a) place && is_above (pos 64 *ℤ d) place) (is_below (pos 64 *ℤ a) place && is_below (pos 64 *ℤ d) place) is) [
-  | inl both ↦ inl (record { one = ordered _ _ (and_first _ _ both); other = ordered _ _ (and_second _ _ both) })
-  | inr both ↦ inr (record { one = ordered _ _ (and_first _ _ both); other = ordered _ _ (and_second _ _ both) })
+  | inl both ↦ inl (let parts = and_parts _ _ both in record { one = ordered _ _ parts.0; other = ordered _ _ parts.1 })
+  | inr both ↦ inr (let parts = and_parts _ _ both in record { one = ordered _ _ parts.0; other = ordered _ _ parts.1 })
 ]
 
 at_first : (a b c d : ℤ) → Above a d (at_quarter a b c d) ⊎ Below a d (at_quarter a b c d) → GoesBeyond a b c d
 unfolding at_quarter
-at_first a b c d (inl up) = record {
+at_first a b c d is = record {
   rest = 3;
   part = 1;
   after_start = omega arith;
   before_end = omega arith;
-  beyond = inl (record { first = omega (arith, ints, up.one); second = omega (arith, ints, up.other) });
-}
-at_first a b c d (inr down) = record {
-  rest = 3;
-  part = 1;
-  after_start = omega arith;
-  before_end = omega arith;
-  beyond = inr (record { first = omega (arith, ints, down.one); second = omega (arith, ints, down.other) });
+  beyond = elim is [
+    | inl up ↦ inl (record { first = omega (arith, ints, up.one); second = omega (arith, ints, up.other) })
+    | inr down ↦ inr (record { first = omega (arith, ints, down.one); second = omega (arith, ints, down.other) })
+  ];
 }
 
 at_middle : (a b c d : ℤ) → Above a d (at_half a b c d) ⊎ Below a d (at_half a b c d) → GoesBeyond a b c d
 unfolding at_half
-at_middle a b c d (inl up) = record {
+at_middle a b c d is = record {
   rest = 1;
   part = 1;
   after_start = omega arith;
   before_end = omega arith;
-  beyond = inl (record { first = omega (arith, ints, up.one); second = omega (arith, ints, up.other) });
-}
-at_middle a b c d (inr down) = record {
-  rest = 1;
-  part = 1;
-  after_start = omega arith;
-  before_end = omega arith;
-  beyond = inr (record { first = omega (arith, ints, down.one); second = omega (arith, ints, down.other) });
+  beyond = elim is [
+    | inl up ↦ inl (record { first = omega (arith, ints, up.one); second = omega (arith, ints, up.other) })
+    | inr down ↦ inr (record { first = omega (arith, ints, down.one); second = omega (arith, ints, down.other) })
+  ];
 }
 
 at_last : (a b c d : ℤ) → Above d a (at_quarter d c b a) ⊎ Below d a (at_quarter d c b a) → GoesBeyond a b c d
 unfolding at_quarter
-at_last a b c d (inl up) = record {
+at_last a b c d is = record {
   rest = 1;
   part = 3;
   after_start = omega arith;
   before_end = omega arith;
-  beyond = inl (record { first = omega (arith, ints, up.other); second = omega (arith, ints, up.one) });
-}
-at_last a b c d (inr down) = record {
-  rest = 1;
-  part = 3;
-  after_start = omega arith;
-  before_end = omega arith;
-  beyond = inr (record { first = omega (arith, ints, down.other); second = omega (arith, ints, down.one) });
+  beyond = elim is [
+    | inl up ↦ inl (record { first = omega (arith, ints, up.other); second = omega (arith, ints, up.one) })
+    | inr down ↦ inr (record { first = omega (arith, ints, down.other); second = omega (arith, ints, down.one) })
+  ];
 }
 
 somewhere : (a b c d : ℤ) → goes_beyond a b c d ≡ true → GoesBeyond a b c d

@@ -1,6 +1,6 @@
 -- What is known after a further segment, by what was known before it.
 use Rattle.std.proofs.Common.{◌≡◌, ◌<◌, ◌+◌, ℕ, ℤ, ◌+ℤ◌, ◌&&◌, ◌||◌, Bool, true, false, Option, Some, List, [], ◌∷◌, ◌++◌, length, take, get_or, refl, sym, subst, ap, ◌∙◌, append_assoc, arith}
-use Rattle.std.proofs.Math.Bool.{or_assoc}
+use Rattle.std.proofs.Math.Bool.{and-true, or-false, or_assoc}
 use Rattle.std.proofs.lemmas.Int.{ints}
 use Rattle.std.proofs.lemmas.List.{append-nil, length-append, length-take-le, reverse-append}
 use Rattle.std.proofs.lemmas.Grind.{common_steps}
@@ -29,11 +29,7 @@ use Rattle.t1_drawing.proofs.Bounding.{cross_within}
 -- One more segment in a step.
 pub one_more : (test : Test) (before here : List Segment) (s : Segment)
     → one_in test before (here ++ s ∷ []) ≡ (one_in test before here || test (before ++ here) s)
-one_more test before [] s = rw (append-nil before) (or_false (test before s))
-  where
-    or_false : (b : Bool) → (b || false) ≡ b
-    or_false true = refl
-    or_false false = refl
+one_more test before [] s = rw (append-nil before) (or-false (test before s))
 one_more test before (t ∷ here) s =
     ap (λ b. test before t || b) (one_more test (before ++ t ∷ []) here s ∙ rw (append_assoc before (t ∷ []) here) refl)
     ∙ sym (or_assoc (test before t) (one_in test (before ++ t ∷ []) here) (test (before ++ t ∷ here) s))
@@ -46,18 +42,10 @@ pub line_starts : (before : List Segment) (s : Segment) → line_start_before (b
 line_starts before s = rw (reverse-append before (s ∷ [])) refl
 
 pub any_more : {A : Type 0} (test : A → Bool) (before : List A) (s : A) → list_any test (before ++ s ∷ []) ≡ (list_any test before || test s)
-any_more test before s = list_any-append test before (s ∷ []) ∙ ap (λ b. list_any test before || b) (or_false (test s))
-  where
-    or_false : (b : Bool) → (b || false) ≡ b
-    or_false true = refl
-    or_false false = refl
+any_more test before s = list_any-append test before (s ∷ []) ∙ ap (λ b. list_any test before || b) (or-false (test s))
 
 pub all_more : {A : Type 0} (test : A → Bool) (before : List A) (s : A) → list_all test (before ++ s ∷ []) ≡ (list_all test before && test s)
-all_more test before s = list_all-append test before (s ∷ []) ∙ ap (λ b. list_all test before && b) (and_true (test s))
-  where
-    and_true : (b : Bool) → (b && true) ≡ b
-    and_true true = refl
-    and_true false = refl
+all_more test before s = list_all-append test before (s ∷ []) ∙ ap (λ b. list_all test before && b) (and-true (test s))
 
 -- ---- areas
 

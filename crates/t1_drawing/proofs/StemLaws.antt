@@ -1,5 +1,6 @@
 -- Laws of the stems of a glyph.
 use Rattle.std.proofs.Common.{◌≡◌, ◌||◌, ℤ, nat_le, Bool, true, false, Some, List, [], ◌∷◌, ◌++◌, length, map, refl, sym, ap, ◌∙◌, append_assoc, append-nil}
+use Rattle.std.proofs.lemmas.Bool.{or_parts}
 use Rattle.std.proofs.lemmas.List.{map-append}
 use Rattle.std.proofs.lemmas.List.Elements.{All-cons, All-nil}
 use Rattle.std.specs.List.{All, list_any}
@@ -11,26 +12,21 @@ use Rattle.t1_drawing.specs.Touching.{SetStem, extent, has_edges_of, is_near, se
 use Rattle.t1_rules.specs.StepRules.Stems.{most_stems}
 use Rattle.t1_drawing.proofs.Touches.{maps_twice, stems_on, with_later}
 
-neither : (a b : Bool) → (a || b) ≡ false → (a ≡ false) × (b ≡ false)
-neither false false is = (refl, refl)
-neither true b is = let no : true ≡ false = is in cc
-neither false true is = let no : true ≡ false = is in cc
-
 off : (e : Extent) (edge : ℤ) → touches_edge e edge ≡ false → LiesOff e edge
 off e edge is =
-    let ends = neither (is_near e.start edge) (is_near e.end edge) (neither (is_near e.start edge || is_near e.end edge) _ is).0 in
+    let ends = or_parts (is_near e.start edge) (is_near e.end edge) (or_parts (is_near e.start edge || is_near e.end edge) _ is).0 in
     record { start = ends.0; end = ends.1 }
 
 both_off : (e : Extent) (low high : ℤ) → touches_one (Some e) low high ≡ false → LiesOff e low × LiesOff e high
 both_off e low high is =
-    let edges_off = neither (touches_edge e low) (touches_edge e high) is in
+    let edges_off = or_parts (touches_edge e low) (touches_edge e high) is in
     (off e low edges_off.0, off e high edges_off.1)
 
 all_off : (direction : Direction) (low high : ℤ) (strokes : List Stroke) → list_any (touches direction low high) strokes ≡ false
     → All (λ stroke. (e : Extent) → extent direction stroke ≡ Some e → LiesOff e low × LiesOff e high) strokes
 all_off direction low high [] is = All-nil (λ stroke. (e : Extent) → extent direction stroke ≡ Some e → LiesOff e low × LiesOff e high)
 all_off direction low high (s ∷ ss) is =
-    let parts = neither (touches direction low high s) (list_any (touches direction low high) ss) is in
+    let parts = or_parts (touches direction low high s) (list_any (touches direction low high) ss) is in
     All-cons (λ stroke. (e : Extent) → extent direction stroke ≡ Some e → LiesOff e low × LiesOff e high) s ss
     (λ e there. both_off e low high (ap (λ x. touches_one x low high) (sym there) ∙ parts.0))
     (all_off direction low high ss parts.1)

@@ -1,5 +1,6 @@
 -- What one step more changes for the stems of a glyph and what is drawn beside them.
 use Rattle.std.proofs.Common.{◌≡◌, ℤ, ◌||◌, not, nat_le, if◌then◌else◌, Bool, true, false, Option, None, List, [], ◌∷◌, ◌++◌, length, map, refl, sym, ap, ◌∙◌, append_assoc, append-nil, arith}
+use Rattle.std.proofs.Math.Bool.{or-false, or_assoc}
 use Rattle.std.proofs.lemmas.List.{length-map, map-append}
 use Rattle.std.proofs.lemmas.List.Folds.{list_any-append}
 use Rattle.std.specs.List.{list_any}
@@ -113,22 +114,14 @@ watched_stems direction start stems [] = refl
 watched_stems direction start stems (m ∷ ms) =
     ap (λ kept. with_stems_from start kept ms) (watched_stem direction start stems m) ∙ watched_stems direction start (with_stem stems (set_from start [] m)) ms
 
-or_false : (b : Bool) → (b || false) ≡ b
-or_false true = refl
-or_false false = refl
-
-or_assoc : (a b c : Bool) → ((a || b) || c) ≡ (a || (b || c))
-or_assoc true b c = refl
-or_assoc false b c = refl
-
 touched_by_none : (direction : Direction) (stems : List WatchedStem) → map (touched_by_all direction []) stems ≡ stems
 touched_by_none direction [] = refl
-touched_by_none direction (s ∷ ss) = rw (or_false s.touched, touched_by_none direction ss) refl
+touched_by_none direction (s ∷ ss) = rw (or-false s.touched, touched_by_none direction ss) refl
 
 -- What is no line and no curve touches nothing.
 pub touched_by_nothing : (stems : List WatchedStem) → map (touched_by None) stems ≡ stems
 touched_by_nothing [] = refl
-touched_by_nothing (s ∷ ss) = rw (or_false s.touched, touched_by_nothing ss) refl
+touched_by_nothing (s ∷ ss) = rw (or-false s.touched, touched_by_nothing ss) refl
 
 touched_by_more : (direction : Direction) (start : Option Point) (segment : Segment) (more : List Segment) (stems : List WatchedStem)
     → map (touched_by_all direction (strokes_from (end_of segment) more)) (map (touched_by (extent_by (coordinate direction) start segment)) stems)
@@ -149,7 +142,7 @@ draws d [] = record {
   across = sym (touched_by_none Across d.across);
   upright = sym (touched_by_none Upright d.upright);
   end = refl;
-  has_strokes = sym (or_false d.has_strokes);
+  has_strokes = sym (or-false d.has_strokes);
 }
 draws d (s ∷ ss) =
     let rest = draws (draw_on d s) ss in

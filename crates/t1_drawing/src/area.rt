@@ -10,11 +10,9 @@ ghost use Rattle.t1_drawing.specs.Private.Areas.{AreClose, IsClose, IsDrawnClose
 ghost use Rattle.t1_drawing.specs.Private.Standing.{AreaStandsFor, SomeAreaStandsFor};
 
 use crate::points::cross;
+use t1_char::GREATEST;
 use t1_outline::{ORIGIN, Segment};
 use t1_rules::Point;
-
-/// The greatest coordinate for which areas are asked: 32000 units of character space, in units of 1/65536.
-const WIDEST: i64 = 32000 * 65536;
 
 /// The signed area of the segments so far, in units of 1/65536 from side to side.
 #[derive(Clone, Copy, Debug, PartialEq, Eq)]
@@ -117,10 +115,11 @@ pub(crate) fn is_clockwise(area: Option<Area>) -> bool
     }
 }
 
+/// Whether a coordinate is at most 32000 units from 0.
 fn is_close_coordinate(place: i64) -> bool
     ensures { result ≡ is_close_coordinate place }
 {
-    (-WIDEST <= place) & (place <= WIDEST)
+    (-GREATEST <= place) & (place <= GREATEST)
 }
 
 fn is_close(point: Point) -> bool

@@ -6,11 +6,12 @@ ghost use Rattle.t1_drawing.specs.Bounds.{AreCoordinates, IsDrawnNear, most_ways
 ghost use Rattle.t1_drawing.specs.Curves.{at_half, at_quarter, goes_beyond, is_above, is_below, is_beyond, is_beyond_at_half, is_beyond_at_quarter, is_flat_from, lacks_extreme_from};
 
 use crate::points::{is_on_line, is_same};
+use t1_char::UNIT;
 use t1_outline::Segment;
 use t1_rules::Point;
 
 /// Three units of character space, in units of 1/65536, 64 times.
-const THREE_UNITS: i64 = 64 * (3 * 65536);
+const THREE_UNITS: i64 = 64 * (3 * UNIT);
 
 /// P09: whether a curve's ends are two points, with its control points on the straight line through them.
 pub(crate) fn is_flat(start: Option<Point>, segment: Segment) -> bool

@@ -5,15 +5,16 @@ ghost use Rattle.std.specs.Ordering.{int_eq};
 ghost use Rattle.t1_scan.specs.Numbers.{billion};
 ghost use Rattle.t1_drawing.specs.FontBoxes.{ends_outside, ends_outside_box, font_box, is_box, is_off, is_outside};
 
+use t1_char::UNIT;
 use t1_font::BILLION;
 use t1_outline::Segment;
 use t1_rules::Point;
 
 /// A unit of character space, as points count it.
-const UNIT: i128 = 65536;
+const POINT_UNIT: i128 = UNIT as i128;
 
 /// The same, as the numbers of a font count it.
-const ONE: i128 = BILLION as i128;
+const FONT_UNIT: i128 = BILLION as i128;
 
 /// FontBBox: the edges of the box in which all glyphs are, in units of 10^-9.
 #[derive(Clone, Copy, Debug, PartialEq, Eq)]
@@ -70,21 +71,21 @@ fn is_off(least: i64, greatest: i64, place: i64) -> bool
 fn of_point(place: i64) -> i128
     ensures { result ≡ place *ℤ pos billion }
 {
-    i128::from(place) * ONE
+    i128::from(place) * FONT_UNIT
 }
 
 /// What is a unit below a font's number, in the same units.
 fn a_unit_below(number: i64) -> i128
     ensures { result ≡ (number -ℤ pos billion) *ℤ pos 65536 }
 {
-    (i128::from(number) - ONE) * UNIT
+    (i128::from(number) - FONT_UNIT) * POINT_UNIT
 }
 
 /// What is a unit above it.
 fn a_unit_above(number: i64) -> i128
     ensures { result ≡ (number +ℤ pos billion) *ℤ pos 65536 }
 {
-    (i128::from(number) + ONE) * UNIT
+    (i128::from(number) + FONT_UNIT) * POINT_UNIT
 }
 
 impl FontBox {

@@ -31,7 +31,6 @@ mod stem_tests;
 mod tests;
 mod touching;
 
-pub use direction::Direction;
 pub use faults::SegmentFaults;
 pub use font_box::FontBox;
 pub use glyph::{DrawingFaults, DrawingWatcher};
@@ -39,7 +38,3 @@ pub use laws::{
     curves_without_extremes_go_beyond, drawn_segments_can_be_seen, flat_curves_are_on_a_line,
     stems_stay, turned_subpaths_have_the_opposite_area, untouched_stems_lie_off,
 };
-pub use moves::MoveWatcher;
-pub use segments::SegmentWatcher;
-pub use stem_edges::{sets_adjacent, sets_negative_width};
-pub use touching::TouchWatcher;

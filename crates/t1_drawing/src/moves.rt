@@ -12,21 +12,21 @@ use t1_rules::{closes, is_line, is_move};
 
 /// Watches for P11.
 #[derive(Clone, Copy, Debug, PartialEq, Eq)]
-pub struct MoveWatcher {
+pub(crate) struct MoveWatcher {
     /// Whether a move outside flex came, and since then nothing was drawn and no closepath came.
     moved: bool,
 }
 
 impl MoveWatcher {
     /// Before the first step.
-    pub fn start() -> MoveWatcher
+    pub(crate) fn start() -> MoveWatcher
         ensures { MovesStandFor result [] }
     {
         MoveWatcher { moved: false }
     }
 
     /// Whether the next step breaks P11, given whether a flex was started before it and not ended.
-    pub fn see(&mut self, step: &Step, is_in_flex: bool) -> bool
+    pub(crate) fn see(&mut self, step: &Step, is_in_flex: bool) -> bool
         ensures answer { (before : List StepView) → MovesStandFor self.old before → is_in_flex ≡ in_flex before →
             result ≡ moves_again before (step_view step.now) }
         ensures stands { (before : List StepView) → MovesStandFor self.old before → is_in_flex ≡ in_flex before →

@@ -20,7 +20,7 @@ use t1_rules::Point;
 
 /// Watches for P04 to P10, as far as segments alone decide.
 #[derive(Clone, Copy, Debug, PartialEq, Eq)]
-pub struct SegmentWatcher {
+pub(crate) struct SegmentWatcher {
     font_box: Option<FontBox>,
     /// Whether a line or a curve ended outside it.
     was_outside: bool,
@@ -34,7 +34,7 @@ pub struct SegmentWatcher {
 
 impl SegmentWatcher {
     /// Before the first segment. Without a box nothing is outside.
-    pub fn start(font_box: Option<FontBox>) -> SegmentWatcher
+    pub(crate) fn start(font_box: Option<FontBox>) -> SegmentWatcher
         ensures { SegmentsStandFor font_box result [] }
     {
         SegmentWatcher {
@@ -47,7 +47,7 @@ impl SegmentWatcher {
     }
 
     /// Sees what a step draws, given that it saw what the steps before drew. Returns what the step breaks.
-    pub fn see(&mut self, here: &[Segment]) -> SegmentFaults
+    pub(crate) fn see(&mut self, here: &[Segment]) -> SegmentFaults
         requires { (box : Option Boxes) × ((before : List Segments) ×
             (SegmentsStandFor box self.old before × CanBeDrawn before here.now)) }
         ensures faults { (box : Option Boxes) (before : List Segments) →
@@ -65,7 +65,7 @@ impl SegmentWatcher {
     }
 
     /// P05: whether the subpaths together run clockwise, at the end of the glyph.
-    pub fn runs_clockwise(&self) -> bool
+    pub(crate) fn runs_clockwise(&self) -> bool
         requires { (box : Option Boxes) × ((before : List Segments) × SegmentsStandFor box self.now before) }
         ensures { (box : Option Boxes) (before : List Segments) →
             SegmentsStandFor box self.now before → result ≡ runs_clockwise before }

@@ -86,7 +86,7 @@ fn own_are_adjacent(step: &Step, set: &[Stem]) -> bool
 }
 
 /// Whether a step breaks H09, given the hint sets before it: those of hstem and hstem3, and those of vstem and vstem3.
-pub fn sets_adjacent(step: &Step, across: &[Stem], upright: &[Stem]) -> bool
+pub(crate) fn sets_adjacent(step: &Step, across: &[Stem], upright: &[Stem]) -> bool
     ensures { (before : List StepView) → across.now ≡ hint_set lies_across before → upright.now ≡ hint_set stands_upright before →
         result ≡ sets_adjacent before (step_view step.now) }
 {
@@ -118,7 +118,7 @@ fn own_are_negative(step: &Step) -> bool
 }
 
 /// Whether a step breaks H10.
-pub fn sets_negative_width(step: &Step) -> bool
+pub(crate) fn sets_negative_width(step: &Step) -> bool
     ensures { result ≡ sets_negative_width (step_view step.now) }
 {
     is_stem(step.token) && own_are_negative(step)

@@ -4,11 +4,9 @@
 use crate::direction::Direction;
 use crate::stem_edges::{are_some_adjacent, one_is_negative};
 use crate::touching::{TouchWatcher, add};
+use t1_char::UNIT;
 use t1_outline::Segment;
 use t1_rules::{MOST_STEMS, Point, Stem};
-
-/// A unit in units of 1/65536.
-const UNIT: i64 = 65_536;
 
 /// A coordinate of so many units.
 fn units(count: i32) -> i64 {

@@ -6,7 +6,8 @@ ghost use Rattle.t1_rules.specs.Watches.{IsNear};
 ghost use Rattle.t1_drawing.specs.Bounds.{CanBeDrawn, IsDrawnNear, most_ways};
 ghost use Rattle.t1_drawing.specs.Private.Standing.{SegmentsStandFor};
 
-use crate::{FontBox, SegmentFaults, SegmentWatcher};
+use crate::segments::SegmentWatcher;
+use crate::{FontBox, SegmentFaults};
 use t1_outline::Segment;
 use t1_outline::Segment::{Close, Curve, Line, Move};
 use t1_rules::Point;

@@ -16,7 +16,7 @@ ghost use Rattle.t1_rules.specs.StepRules.Tokens.{is_hsbw};
 use crate::direction::Direction;
 use crate::points::end_of;
 use arrayvec::ArrayVec;
-use t1_char::{CharToken, Command, Step};
+use t1_char::{CharToken, Command, Step, UNIT};
 use t1_outline::Segment;
 use t1_rules::{
     MOST_STEMS, Point, Stem, is_triple, lies_across, sets_width, stands_upright, stem_at,
@@ -24,7 +24,7 @@ use t1_rules::{
 };
 
 /// How far an edge may lie from an end of a line or a curve that touches it: ten units.
-const NEAR: u64 = 655_360;
+const NEAR: u64 = 10 * UNIT as u64;
 
 /// In a coordinate: where a line or a curve begins and ends, and the least and the greatest of all its points.
 #[derive(Clone, Copy)]
@@ -55,7 +55,7 @@ struct Sidebearing {
 
 /// Watches for H08.
 #[derive(Drop)]
-pub struct TouchWatcher {
+pub(crate) struct TouchWatcher {
     pub(crate) across: WatchedStems,
     pub(crate) upright: WatchedStems,
     sidebearing: Sidebearing,
@@ -317,7 +317,7 @@ impl Sidebearing {
 
 impl TouchWatcher {
     /// Before the first step.
-    pub fn start() -> TouchWatcher
+    pub(crate) fn start() -> TouchWatcher
         ensures { TouchesStandFor result [] }
     {
         TouchWatcher {
@@ -330,7 +330,7 @@ impl TouchWatcher {
     }
 
     /// Sees the next step, and what it draws.
-    pub fn see(&mut self, step: &Step, segments: &[Segment])
+    pub(crate) fn see(&mut self, step: &Step, segments: &[Segment])
         ensures { (before : List StepView) → TouchesStandFor self.old before → segments.now ≡ drawn before (step_view step.now) →
             TouchesStandFor self.new (before ++ step_view step.now ∷ []) }
     {
@@ -340,7 +340,7 @@ impl TouchWatcher {
     }
 
     /// Whether something is drawn, and a stem isn't touched: at the end of a glyph this breaks H08.
-    pub fn leaves_untouched(&self) -> bool
+    pub(crate) fn leaves_untouched(&self) -> bool
         ensures { (before : List StepView) → TouchesStandFor self.now before → result ≡ leaves_untouched before }
     {
         let across = one_is_untouched(self.across.as_slice());
