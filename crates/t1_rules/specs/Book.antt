@@ -4,7 +4,7 @@ use Rattle.t1_font.specs.Keys.{same_name}
 use Rattle.t1_rules.specs.declared.level.Level.{Level}
 use Rattle.t1_rules.specs.declared.level.Level.TheVariants.{Must, Should, Tidy}
 use Rattle.t1_rules.specs.declared.rule.Rule.{Rule}
-use Rattle.t1_rules.specs.declared.rule.Rule.TheVariants.{F01, F02, F03, F04, F05, F06, F07, F08, F09, F10, F11, F12, F13, F14, Z01, Z02, Z03, Z04, Z05, Z06, Z07, Z08, Z09, Z10, Z11, C01, C02, C03, C04, C05, C06, C07, C08, C09, S01, S02, S03, S04, GE01, GE02, W01, W02, P01, P02, P03, H01, H02, H03, H04, R01, R02, X01, X02, X03, X04, X05, X06, O01, O02, O03, O04, K01, K02, K03, K04, K05, K06, K07, L01, U01, F15, F16, F17, F18, F19, F20, F21, Z12, Z13, Z14, Z15, Z16, Z17, Z18, Z19, H05, H06, H07, O05, O06, O07, O08, W03, F22, F23, F24, F25, F26, F27, F28, F29}
+use Rattle.t1_rules.specs.declared.rule.Rule.TheVariants.{F01, F02, F03, F04, F05, F06, F07, F08, F09, F10, F11, F12, F13, F14, Z01, Z02, Z03, Z04, Z05, Z06, Z07, Z08, Z09, Z10, Z11, C01, C02, C03, C04, C05, C06, C07, C08, C09, S01, S02, S03, S04, GE01, GE02, W01, W02, P01, P02, P03, H01, H02, H03, H04, R01, R02, X01, X02, X03, X04, X05, X06, O01, O02, O03, O04, K01, K02, K03, K04, K05, K06, K07, L01, U01, F15, F16, F17, F18, F19, F20, F21, Z12, Z13, Z14, Z15, Z16, Z17, Z18, Z19, H05, H06, H07, O05, O06, O07, O08, W03, F22, F23, F24, F25, F26, F27, F28, F29, P04, P05, P06, P07, P08, P09, P10, P11, H08, H09, H10}
 
 -- An entry of the book: a rule's number, which is its place there, from 1 on; how much a violation matters; the
 -- rule's code, as it is in a line of the report; and what is reported of a violation.
@@ -119,6 +119,17 @@ entry_of F26 = entry 98 Must (codes "F26") (codes "unknown word")
 entry_of F27 = entry 99 Must (codes "F27") (codes "FontMatrix can't be inverted")
 entry_of F28 = entry 100 Must (codes "F28") (codes "no Private dictionary")
 entry_of F29 = entry 101 Must (codes "F29") (codes "unusual first line")
+entry_of P04 = entry 102 Should (codes "P04") (codes "point outside FontBBox")
+entry_of P05 = entry 103 Should (codes "P05") (codes "outline runs clockwise")
+entry_of P06 = entry 104 Tidy (codes "P06") (codes "segment of no length")
+entry_of P07 = entry 105 Tidy (codes "P07") (codes "line turns back")
+entry_of P08 = entry 106 Tidy (codes "P08") (codes "line goes straight on")
+entry_of P09 = entry 107 Tidy (codes "P09") (codes "flat curve")
+entry_of P10 = entry 108 Tidy (codes "P10") (codes "no point at an extreme")
+entry_of P11 = entry 109 Tidy (codes "P11") (codes "move right behind a move")
+entry_of H08 = entry 110 Should (codes "H08") (codes "stem that nothing touches")
+entry_of H09 = entry 111 Tidy (codes "H09") (codes "stems share an edge")
+entry_of H10 = entry 112 Tidy (codes "H10") (codes "stem of negative width")
 
 abbrev pub number_of : Rule → ℕ
 number_of rule = (entry_of rule).number
@@ -141,7 +152,7 @@ abbrev pub last_number_of_third : ℕ
 last_number_of_third = 93
 
 abbrev pub last_number : ℕ
-last_number = 101
+last_number = 112
 
 -- All rules, in the order of their numbers.
 abbrev pub rules : List Rule
@@ -153,7 +164,8 @@ rules =
     ∷ X06 ∷ O01 ∷ O02 ∷ O03 ∷ O04 ∷ K01 ∷ K02 ∷ K03 ∷ K04 ∷ K05 ∷ K06 ∷ K07 ∷ L01 ∷ U01
     ∷ F15 ∷ F16 ∷ F17 ∷ F18 ∷ F19 ∷ F20 ∷ F21 ∷ Z12 ∷ Z13 ∷ Z14 ∷ Z15 ∷ Z16 ∷ Z17 ∷ Z18 ∷ Z19
     ∷ H05 ∷ H06 ∷ H07 ∷ O05 ∷ O06 ∷ O07 ∷ O08 ∷ W03
-    ∷ F22 ∷ F23 ∷ F24 ∷ F25 ∷ F26 ∷ F27 ∷ F28 ∷ F29 ∷ []
+    ∷ F22 ∷ F23 ∷ F24 ∷ F25 ∷ F26 ∷ F27 ∷ F28 ∷ F29
+    ∷ P04 ∷ P05 ∷ P06 ∷ P07 ∷ P08 ∷ P09 ∷ P10 ∷ P11 ∷ H08 ∷ H09 ∷ H10 ∷ []
 
 -- The first of these rules that has a code.
 unfoldable pub coded_in : List ℕ → List Rule → Option Rule

@@ -228,6 +228,17 @@ static BOOK: [Row; RULE_COUNT] = [
     ),
     (Rule::F28, Level::Must, "F28", "no Private dictionary"),
     (Rule::F29, Level::Must, "F29", "unusual first line"),
+    (Rule::P04, Level::Should, "P04", "point outside FontBBox"),
+    (Rule::P05, Level::Should, "P05", "outline runs clockwise"),
+    (Rule::P06, Level::Tidy, "P06", "segment of no length"),
+    (Rule::P07, Level::Tidy, "P07", "line turns back"),
+    (Rule::P08, Level::Tidy, "P08", "line goes straight on"),
+    (Rule::P09, Level::Tidy, "P09", "flat curve"),
+    (Rule::P10, Level::Tidy, "P10", "no point at an extreme"),
+    (Rule::P11, Level::Tidy, "P11", "move right behind a move"),
+    (Rule::H08, Level::Should, "H08", "stem that nothing touches"),
+    (Rule::H09, Level::Tidy, "H09", "stems share an edge"),
+    (Rule::H10, Level::Tidy, "H10", "stem of negative width"),
 ];
 
 /// The rows of the book.

@@ -217,6 +217,28 @@ pub enum Rule {
     F28,
     /// The first line says that this is a Type 1 font. Type 1 Font Format, chapter 2.
     F29,
+    /// No point is a unit or more outside `/FontBBox`. Type 1 Font Format, chapter 2.
+    P04,
+    /// An outline runs anticlockwise. Type 1 Font Format, chapter 3.
+    P05,
+    /// A line or a curve has a length. Type 1 Font Format, chapter 3.
+    P06,
+    /// A line doesn't turn back on the line before it. Type 1 Font Format, chapter 3.
+    P07,
+    /// A line isn't the rest of the line before it. Type 1 Font Format, chapter 3.
+    P08,
+    /// A curve isn't a straight line. Type 1 Font Format, chapter 3.
+    P09,
+    /// A curve has a point where it is highest, lowest or outermost. Type 1 Font Format, chapter 3.
+    P10,
+    /// Something is drawn between two moves.
+    P11,
+    /// Something that is drawn lies at each stem. Type 1 Font Format, chapter 5.
+    H08,
+    /// Two stems of one direction share no edge. Type 1 Font Format, chapter 5.
+    H09,
+    /// A stem's width isn't negative. Type 1 Font Format, chapter 6.
+    H10,
 }
 
 impl fmt::Debug for Rule {
@@ -252,7 +274,7 @@ impl Rule {
 }
 
 /// How many rules there are.
-pub const RULE_COUNT: usize = 101;
+pub const RULE_COUNT: usize = 112;
 
 /// The rules, in the order of their numbers.
 static RULES: [Rule; RULE_COUNT] = [
@@ -357,6 +379,17 @@ static RULES: [Rule; RULE_COUNT] = [
     Rule::F27,
     Rule::F28,
     Rule::F29,
+    Rule::P04,
+    Rule::P05,
+    Rule::P06,
+    Rule::P07,
+    Rule::P08,
+    Rule::P09,
+    Rule::P10,
+    Rule::P11,
+    Rule::H08,
+    Rule::H09,
+    Rule::H10,
 ];
 
 /// All rules, in the order of their numbers.

@@ -8,6 +8,9 @@ ghost use Rattle.t1_char.specs.Steps.{StepView};
 ghost use Rattle.t1_char.specs.StepValues.{step_view};
 ghost use Rattle.t1_rules.specs.Mask.{has};
 ghost use Rattle.t1_rules.specs.StepRules.{breaks, step_rules};
+ghost use Rattle.t1_rules.specs.StepRules.Flex.{current_point};
+ghost use Rattle.t1_rules.specs.StepRules.Paths.{in_flex};
+ghost use Rattle.t1_rules.specs.StepRules.Stems.{hint_set, lies_across, stands_upright};
 ghost use Rattle.t1_rules.specs.Private.Seeing.{CanSee, Sees};
 ghost use Rattle.t1_rules.specs.Private.Standing.{WatchesStandFor};
 ghost use Rattle.t1_rules.specs.Watches.{IsCalm, IsNear, most_steps};
@@ -18,11 +21,11 @@ use crate::mask::Mask;
 use crate::step_rules::arguments::{ArgumentWatcher, has_its_arguments};
 use crate::step_rules::calls::CallWatcher;
 use crate::step_rules::counters::CounterWatcher;
-use crate::step_rules::flex::FlexWatcher;
+use crate::step_rules::flex::{FlexWatcher, Point};
 use crate::step_rules::othersubrs::OthersubrWatcher;
 use crate::step_rules::paths::PathWatcher;
 use crate::step_rules::seac::SeacWatcher;
-use crate::step_rules::stems::StemWatcher;
+use crate::step_rules::stems::{Stem, StemWatcher};
 use crate::step_rules::tokens::call_of;
 use crate::step_rules::triples::TripleWatcher;
 use crate::watch::Watch;
@@ -221,6 +224,44 @@ impl Watches {
         ensures { result ≡ true → IsUndrawn self.now }
     {
         self.paths.is_undrawn() && self.seac.is_outlined()
+    }
+
+    /// The current point after the steps that were seen.
+    #[tactic(auto, unfolding(crate::specs::Private::Standing::WatchesStandFor))]
+    pub fn point(&self) -> Point
+        ensures value { (edition : Editions) (before : List StepView) →
+            WatchesStandFor edition self.now before → result ≡ current_point before }
+        ensures near { (edition : Editions) (before : List StepView) →
+            WatchesStandFor edition self.now before → IsNear (length before) result }
+    {
+        self.flex.point()
+    }
+
+    /// Whether a flex was started, and not ended since.
+    #[tactic(auto, unfolding(crate::specs::Private::Standing::WatchesStandFor))]
+    pub fn is_in_flex(&self) -> bool
+        ensures { (edition : Editions) (before : List StepView) →
+            WatchesStandFor edition self.now before → result ≡ in_flex before }
+    {
+        self.flex.is_in_flex()
+    }
+
+    /// The stems of hstem and hstem3 that are in force: the hint set that H02 looks at.
+    #[tactic(auto, unfolding(crate::specs::Private::Standing::WatchesStandFor))]
+    pub fn across(&self) -> &[Stem]
+        ensures { (edition : Editions) (before : List StepView) →
+            WatchesStandFor edition self.now before → result.now ≡ hint_set lies_across before }
+    {
+        self.stems.across()
+    }
+
+    /// Those of vstem and vstem3.
+    #[tactic(auto, unfolding(crate::specs::Private::Standing::WatchesStandFor))]
+    pub fn upright(&self) -> &[Stem]
+        ensures { (edition : Editions) (before : List StepView) →
+            WatchesStandFor edition self.now before → result.now ≡ hint_set stands_upright before }
+    {
+        self.stems.upright()
     }
 
     /// Keeps what lines, curves and closepaths change: the current point, and what is drawn.

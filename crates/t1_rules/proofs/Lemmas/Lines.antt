@@ -74,7 +74,7 @@ move_token Vmoveto is = record { line_is = refl; clears = refl; sets_width = ref
 move_token _ is = let no : false ≡ true = is in cc
 
 -- It leads no farther than one step can.
-kept_within : (z : ℤ) → IsWithin (2 ^ 31) (clamped z)
+pub kept_within : (z : ℤ) → IsWithin (2 ^ 31) (clamped z)
 kept_within z = record { low = grind (arith, ints, clamps); high = grind (arith, ints, clamps) }
 
 one_near : (n : ℕ) (p d : ℤ) → IsWithin (n * reach) p → IsWithin reach d → IsWithin ((n + 1) * reach) (p +ℤ d)
@@ -95,7 +95,7 @@ within_three x y z one two three = record {
 within_none : IsWithin reach (pos 0)
 within_none = record { low = omega (arith, ints); high = omega (arith, ints) }
 
-argument_within : (v : List ℤ) (k : ℕ) → IsWithin (2 ^ 31) (argument v k)
+pub argument_within : (v : List ℤ) (k : ℕ) → IsWithin (2 ^ 31) (argument v k)
 argument_within v k = kept_within (slice_index_or v k (pos 0))
 
 record IsWayWithin (way : Way) : Type 0 where
