@@ -5,5 +5,8 @@ pub mod Drawing
 pub mod FlatLaws
 pub mod Mapped
 pub mod NearLaws
+pub mod Numbers
+pub mod RuleNumbers
+pub mod Spoiled
 pub mod StemLaws
 pub mod Touches

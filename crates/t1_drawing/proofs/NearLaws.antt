@@ -22,16 +22,11 @@ use Rattle.t1_rules.specs.StepRules.Tokens.{closes, is_hsbw, sets_point}
 use Rattle.t1_rules.specs.Watches.{IsNear, IsWithin, most_steps, reach}
 use Rattle.t1_rules.proofs.Lemmas.Flex.{point_goes_on}
 use Rattle.t1_drawing.specs.Bounds.{IsDrawnNear, most_ways}
+use Rattle.t1_rules.proofs.Lemmas.Lines.{argument_within}
 use Rattle.t1_drawing.specs.Laws.{DrawnSegmentsCanBeSeen, StepsAddWhatTheyDraw}
 use Rattle.t1_drawing.specs.Strokes.{segments_of}
 
 -- ---- the current point
-
-kept_within : (z : ℤ) → IsWithin (2 ^ 31) (clamped z)
-kept_within z = record { low = grind (arith, ints, clamps); high = grind (arith, ints, clamps) }
-
-any_argument : (v : List ℤ) (k : ℕ) → IsWithin (2 ^ 31) (argument v k)
-any_argument v k = kept_within (slice_index_or v k (pos 0))
 
 one : (z : ℤ) → IsWithin (2 ^ 31) z → IsWithin (1 * reach) z
 one z is = record { low = omega (arith, ints, is.low); high = omega (arith, ints, is.high) }
@@ -49,13 +44,13 @@ none : (n : ℕ) → IsWithin (n * reach) (pos 0)
 none n = record { low = omega (arith, ints); high = omega (arith, ints) }
 
 way_near : (v : List ℤ) (j k : ℕ) → IsNear 1 (at (argument v j) (argument v k))
-way_near v j k = record { x = one _ (any_argument v j); y = one _ (any_argument v k) }
+way_near v j k = record { x = one _ (argument_within v j); y = one _ (argument_within v k) }
 
 across_near : (v : List ℤ) (k : ℕ) → IsNear 1 (at (argument v k) (pos 0))
-across_near v k = record { x = one _ (any_argument v k); y = none 1 }
+across_near v k = record { x = one _ (argument_within v k); y = none 1 }
 
 upwards_near : (v : List ℤ) (k : ℕ) → IsNear 1 (at (pos 0) (argument v k))
-upwards_near v k = record { x = none 1; y = one _ (any_argument v k) }
+upwards_near v k = record { x = none 1; y = one _ (argument_within v k) }
 
 origin_near : (n : ℕ) → IsNear n origin
 origin_near n = record { x = none n; y = none n }
@@ -68,16 +63,16 @@ command_near Hlineto v = across_near v 0
 command_near Vmoveto v = upwards_near v 0
 command_near Vlineto v = upwards_near v 0
 command_near Vhcurveto v = record {
-  x = two _ _ (any_argument v 1) (any_argument v 3);
-  y = two _ _ (any_argument v 0) (any_argument v 2);
+  x = two _ _ (argument_within v 1) (argument_within v 3);
+  y = two _ _ (argument_within v 0) (argument_within v 2);
 }
 command_near Hvcurveto v = record {
-  x = two _ _ (any_argument v 0) (any_argument v 1);
-  y = two _ _ (any_argument v 2) (any_argument v 3);
+  x = two _ _ (argument_within v 0) (argument_within v 1);
+  y = two _ _ (argument_within v 2) (argument_within v 3);
 }
 command_near Rrcurveto v = record {
-  x = three _ _ _ (any_argument v 0) (any_argument v 2) (any_argument v 4);
-  y = three _ _ _ (any_argument v 1) (any_argument v 3) (any_argument v 5);
+  x = three _ _ _ (argument_within v 0) (argument_within v 2) (argument_within v 4);
+  y = three _ _ _ (argument_within v 1) (argument_within v 3) (argument_within v 5);
 }
 command_near _ v = origin_near 1
 
@@ -86,11 +81,11 @@ token_near (Command command) v = command_near command v
 token_near _ v = origin_near 1
 
 set_near : (t : StepView) → IsNear 1 (point_set t)
-set_near t = record { x = one _ (any_argument t.stack 0); y = height (is_hsbw t.token) }
+set_near t = record { x = one _ (argument_within t.stack 0); y = height (is_hsbw t.token) }
   where
     height : (b : Bool) → IsWithin (1 * reach) (if b then pos 0 else argument t.stack 1)
     height true = none 1
-    height false = one _ (any_argument t.stack 1)
+    height false = one _ (argument_within t.stack 1)
 
 wider : (m n : ℕ) (p : Point) → m ≤ n → IsNear m p → IsNear n p
 wider m n p more near = record {

@@ -114,7 +114,7 @@ watched_stems direction start stems [] = refl
 watched_stems direction start stems (m ∷ ms) =
     ap (λ kept. with_stems_from start kept ms) (watched_stem direction start stems m) ∙ watched_stems direction start (with_stem stems (set_from start [] m)) ms
 
-touched_by_none : (direction : Direction) (stems : List WatchedStem) → map (touched_by_all direction []) stems ≡ stems
+pub touched_by_none : (direction : Direction) (stems : List WatchedStem) → map (touched_by_all direction []) stems ≡ stems
 touched_by_none direction [] = refl
 touched_by_none direction (s ∷ ss) = rw (or-false s.touched, touched_by_none direction ss) refl
 

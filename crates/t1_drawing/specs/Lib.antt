@@ -1,14 +1,15 @@
 pub mod Areas
 pub mod Bounds
 pub mod Curves
+pub mod DrawingRules
 pub mod Drawings
 pub mod FontBoxes
-pub mod Glyphs
 pub mod Laws
 pub mod Lines
 pub mod Moves
 pub mod Points
 pub mod Private
+pub mod RuleLaws
 pub mod Segments
 pub mod StemEdges
 pub mod StemLaws

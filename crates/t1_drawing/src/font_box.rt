@@ -3,12 +3,13 @@
 ghost use Rattle.std.specs.Prelude.{◌≡◌, ◌*ℤ◌, ◌+ℤ◌, ◌-ℤ◌, if◌then◌else◌, int_le, pos};
 ghost use Rattle.std.specs.Ordering.{int_eq};
 ghost use Rattle.t1_scan.specs.Numbers.{billion};
+ghost use Rattle.t1_drawing.specs.DrawingRules.{box_of};
 ghost use Rattle.t1_drawing.specs.FontBoxes.{ends_outside, ends_outside_box, font_box, is_box, is_off, is_outside};
 
 use t1_char::UNIT;
-use t1_font::BILLION;
+use t1_font::{BILLION, Font, Key};
 use t1_outline::Segment;
-use t1_rules::Point;
+use t1_rules::{Point, first_in, is_so_many};
 
 /// A unit of character space, as points count it.
 const POINT_UNIT: i128 = UNIT as i128;
@@ -91,12 +92,24 @@ fn a_unit_above(number: i64) -> i128
 impl FontBox {
     /// The box that numbers say, in units of 10^-9. None where they aren't four, are all 0, or have their corners
     /// exchanged.
-    pub fn of(numbers: &[i64]) -> Option<FontBox>
+    pub(crate) fn of(numbers: &[i64]) -> Option<FontBox>
         ensures { result ≡ font_box numbers.now }
     {
         match numbers {
             [left, bottom, right, top] => box_of(*left, *bottom, *right, *top),
             _ => None,
+        }
+    }
+
+    /// That of a font; none where the entry isn't four numbers, or they are no box.
+    pub fn of_font(font: &Font<'_>) -> Option<FontBox>
+        ensures { result ≡ box_of font.now }
+    {
+        let value = font.value(Key::FontBBox);
+        if is_so_many(4, value) {
+            FontBox::of(first_in(4, value))
+        } else {
+            None
         }
     }
 

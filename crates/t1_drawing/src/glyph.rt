@@ -1,13 +1,17 @@
 //! The steps of a glyph, one after another: what each breaks of the rules on the drawing.
 
-ghost use Rattle.std.specs.Prelude.{◌≡◌, ◌<◌, Option, List, [], ◌∷◌, ◌++◌, length};
+ghost use Rattle.std.specs.Prelude.{◌≡◌, ◌<◌, ◌||◌, ℕ, Option, List, [], ◌∷◌, ◌++◌, length};
 ghost use Rattle.t1_char.specs.declared.edition.Edition.{Edition as Editions};
 ghost use Rattle.t1_char.specs.Steps.{StepView};
 ghost use Rattle.t1_char.specs.StepValues.{step_view};
 ghost use Rattle.t1_drawing.specs.declared.font_box.FontBox.{FontBox as Boxes};
-ghost use Rattle.t1_drawing.specs.Glyphs.{drawing_faults, is_clockwise};
-ghost use Rattle.t1_drawing.specs.Touching.{leaves_untouched};
-ghost use Rattle.t1_drawing.specs.Private.Standing.{DrawingStandsFor};
+ghost use Rattle.t1_drawing.specs.DrawingRules.{drawing_rules, ends_clockwise, ends_glyph, ends_untouched, is_endchar};
+ghost use Rattle.t1_drawing.specs.Private.Joined.{drawing_faults};
+ghost use Rattle.t1_drawing.specs.Private.Standing.{DrawingStandsFor, SegmentsStandFor, TouchesStandFor};
+ghost use Rattle.t1_drawing.specs.Strokes.{segments_of};
+ghost use Rattle.t1_rules.specs.Mask.{has};
+ghost use Rattle.t1_rules.specs.Private.Standing.{WatchesStandFor};
+ghost use Rattle.t1_rules.specs.StepRules.{breaks, step_rules};
 ghost use Rattle.t1_rules.specs.Watches.{most_steps};
 
 use crate::faults::SegmentFaults;
@@ -16,26 +20,31 @@ use crate::moves::MoveWatcher;
 use crate::segments::SegmentWatcher;
 use crate::stem_edges::{sets_adjacent, sets_negative_width};
 use crate::touching::TouchWatcher;
-use t1_char::{Edition, Step};
-use t1_outline::Pen;
+use t1_char::{CharToken, Command, Step, is_end};
+use t1_outline::{Around, Nib, spoils_flex};
+use t1_rules::{Mask, Rule, Watch, Watches};
 
-/// Which rules on the drawing a step breaks. Type 1 Font Format 1.1, chapters 2, 3, 5 and 6.
-#[derive(Clone, Copy, Debug, PartialEq, Eq)]
-pub struct DrawingFaults {
+/// Which rules on the drawing a step breaks.
+#[derive(Clone, Copy)]
+pub(crate) struct DrawingFaults {
     /// P04 and P06 to P10: what its segments break.
-    pub segments: SegmentFaults,
-    /// P11: it moves right behind a move.
-    pub moves_again: bool,
-    /// H09: one of its stems shares an edge with another.
-    pub sets_adjacent: bool,
-    /// H10: one of its stems is of negative width.
-    pub sets_negative_width: bool,
+    segments: SegmentFaults,
+    /// P05.
+    ends_clockwise: bool,
+    /// P11.
+    moves_again: bool,
+    /// H08.
+    ends_untouched: bool,
+    /// H09.
+    sets_adjacent: bool,
+    /// H10.
+    sets_negative_width: bool,
 }
 
-/// Watches for P04 to P11 and H08 to H10, from the first step of a glyph on.
+/// Watches for P04 to P11 and H08 to H10, from the first step of a glyph on, beside [`Watches`].
 #[derive(Drop)]
 pub struct DrawingWatcher {
-    pen: Pen,
+    nib: Nib,
     segments: SegmentWatcher,
     moves: MoveWatcher,
     touches: TouchWatcher,
@@ -43,55 +52,115 @@ pub struct DrawingWatcher {
 
 impl DrawingWatcher {
     /// Before the first step. Without a box nothing is outside it.
-    pub fn start(edition: Edition, font_box: Option<FontBox>) -> DrawingWatcher
-        ensures { DrawingStandsFor edition font_box result [] }
+    pub fn start(font_box: Option<FontBox>) -> DrawingWatcher
+        ensures { DrawingStandsFor font_box result [] }
     {
         DrawingWatcher {
-            pen: Pen::start(edition),
+            nib: Nib::start(),
             segments: SegmentWatcher::start(font_box),
             moves: MoveWatcher::start(),
             touches: TouchWatcher::start(),
         }
     }
 
-    /// Sees the next step, and returns what it breaks, given the steps that were seen before.
-    pub fn see(&mut self, step: &Step) -> DrawingFaults
-        requires { (edition : Editions) × ((box : Option Boxes) × ((before : List StepView) ×
-            (DrawingStandsFor edition box self.old before × (length before < most_steps)))) }
-        ensures faults { (edition : Editions) (box : Option Boxes) (before : List StepView) →
-            DrawingStandsFor edition box self.old before → length before < most_steps →
-            result ≡ drawing_faults box before (step_view step.now) }
-        ensures stands { (edition : Editions) (box : Option Boxes) (before : List StepView) →
-            DrawingStandsFor edition box self.old before → length before < most_steps →
-            DrawingStandsFor edition box self.new (before ++ step_view step.now ∷ []) }
+    /// Before the first step again, in place: what it holds of stems isn't overwritten.
+    pub fn start_again(&mut self, font_box: Option<FontBox>)
+        ensures { DrawingStandsFor font_box self.new [] }
     {
-        let sets_adjacent = sets_adjacent(step, self.pen.across(), self.pen.upright());
-        let moves_again = self.moves.see(step, self.pen.is_in_flex());
-        let drawn = self.pen.draw(step).segments;
+        self.nib = Nib::start();
+        self.segments = SegmentWatcher::start(font_box);
+        self.moves = MoveWatcher::start();
+        self.touches.start_again();
+    }
+
+    /// Shows the next step to the other watchers too, which have seen the same steps. Returns which of their rules and of
+    /// those on the drawing it breaks, given the steps that were seen before.
+    pub fn see(&mut self, watches: &mut Watches, step: &Step) -> Mask
+        requires { (edition : Editions) × ((box : Option Boxes) × ((before : List StepView) ×
+            (WatchesStandFor edition watches.old before × (DrawingStandsFor box self.old before × (length before < most_steps))))) }
+        ensures watches { (edition : Editions) (before : List StepView) →
+            WatchesStandFor edition watches.old before → length before < most_steps →
+            WatchesStandFor edition watches.new (before ++ step_view step.now ∷ []) }
+        ensures stands { (edition : Editions) (box : Option Boxes) (before : List StepView) →
+            WatchesStandFor edition watches.old before → DrawingStandsFor box self.old before → length before < most_steps →
+            DrawingStandsFor box self.new (before ++ step_view step.now ∷ []) }
+        ensures answer { (edition : Editions) (box : Option Boxes) (before : List StepView) →
+            WatchesStandFor edition watches.old before → DrawingStandsFor box self.old before → length before < most_steps →
+            (n : ℕ) → has result n
+            ≡ (breaks (step_rules edition) n before (step_view step.now) || breaks (drawing_rules box) n before (step_view step.now)) }
+    {
+        let start = watches.point();
+        let is_in_flex = watches.is_in_flex();
+        let sets_adjacent = sets_adjacent(step, watches.across(), watches.upright());
+        let ends_clockwise = ends_clockwise(step, &self.segments);
+        let ends_untouched = ends_untouched(step, &self.touches);
+        let moves_again = self.moves.see(step, is_in_flex);
+        let broken = watches.see(step);
+        let around = Around {
+            start,
+            end: watches.point(),
+            is_in_flex,
+            spoils_flex: spoils_flex(broken),
+        };
+        let drawn = self.nib.draw(step, around);
         let segments = self.segments.see(drawn.as_slice());
         self.touches.see(step, drawn.as_slice());
-        DrawingFaults {
+        broken.join(rules_in(DrawingFaults {
             segments,
+            ends_clockwise,
             moves_again,
+            ends_untouched,
             sets_adjacent,
             sets_negative_width: sets_negative_width(step),
-        }
+        }))
     }
+}
 
-    /// Whether the outline runs clockwise: at the end of a glyph this breaks P05.
-    pub fn runs_clockwise(&self) -> bool
-        requires { (edition : Editions) × ((box : Option Boxes) × ((before : List StepView) × DrawingStandsFor edition box self.now before)) }
-        ensures { (edition : Editions) (box : Option Boxes) (before : List StepView) →
-            DrawingStandsFor edition box self.now before → result ≡ is_clockwise before }
-    {
-        self.segments.runs_clockwise()
-    }
+/// Whether a step is the end of its glyph.
+fn ends_glyph(step: &Step) -> bool
+    ensures { result ≡ ends_glyph (step_view step.now) }
+{
+    is_endchar(step.token) | (is_end(step.token) & step.path.is_empty())
+}
 
-    /// Whether something is drawn, and a stem isn't touched: at the end of a glyph this breaks H08.
-    pub fn leaves_untouched(&self) -> bool
-        ensures { (edition : Editions) (box : Option Boxes) (before : List StepView) →
-            DrawingStandsFor edition box self.now before → result ≡ leaves_untouched before }
-    {
-        self.touches.leaves_untouched()
-    }
+/// Whether a step breaks P05.
+fn ends_clockwise(step: &Step, segments: &SegmentWatcher) -> bool
+    requires { (box : Option Boxes) × ((before : List StepView) × SegmentsStandFor box segments.now (segments_of before)) }
+    ensures { (box : Option Boxes) (before : List StepView) → SegmentsStandFor box segments.now (segments_of before) →
+        result ≡ ends_clockwise before (step_view step.now) }
+{
+    ends_glyph(step) && segments.runs_clockwise()
+}
+
+/// Whether a step breaks H08.
+fn ends_untouched(step: &Step, touches: &TouchWatcher) -> bool
+    ensures { (before : List StepView) → TouchesStandFor touches.now before → result ≡ ends_untouched before (step_view step.now) }
+{
+    ends_glyph(step) && touches.leaves_untouched()
+}
+
+fn is_endchar(token: CharToken) -> bool
+    ensures { result ≡ is_endchar token }
+{
+    matches!(token, CharToken::Command(Command::Endchar))
+}
+
+/// The rules that a step breaks.
+#[tactic(auto, unfolding(crate::specs::DrawingRules::drawing_rules))]
+fn rules_in(faults: DrawingFaults) -> Mask
+    ensures { (box : Option Boxes) (before : List StepView) (step : StepView) → faults ≡ drawing_faults box before step →
+        (n : ℕ) → has result n ≡ breaks (drawing_rules box) n before step }
+{
+    Mask::empty()
+        .with(Rule::H10, faults.sets_negative_width)
+        .with(Rule::H09, faults.sets_adjacent)
+        .with(Rule::H08, faults.ends_untouched)
+        .with(Rule::P11, faults.moves_again)
+        .with(Rule::P10, faults.segments.lacks_extreme)
+        .with(Rule::P09, faults.segments.is_flat)
+        .with(Rule::P08, faults.segments.goes_straight_on)
+        .with(Rule::P07, faults.segments.turns_back)
+        .with(Rule::P06, faults.segments.has_no_length)
+        .with(Rule::P05, faults.ends_clockwise)
+        .with(Rule::P04, faults.segments.is_outside)
 }

@@ -1,7 +1,16 @@
 //! Laws of drawings: what follows from the definitions.
 
 ghost use Rattle.t1_drawing.specs.Laws.{CurvesWithinTheirEndsAreFine, CurvesWithoutExtremesGoBeyond, DrawnSegmentsCanBeSeen, FlatCurvesAreOnALine, PolygonsHaveTheAreaOfTheirCorners, StepsAddWhatTheyDraw, TurnedSubpathsHaveTheOppositeArea};
+ghost use Rattle.t1_drawing.specs.RuleLaws.{DrawingRuleNumbersAreInOrder, DrawingRulesComeLast, NumbersDrawNothing};
 ghost use Rattle.t1_drawing.specs.StemLaws.{StemsStay, UntouchedStemsLieOff};
+
+/// The rules on the drawing have the numbers from 102 to 112, and a number on the stack breaks none of them.
+#[tactic(auto, using(crate::proofs::RuleNumbers::numbers_are_in_order, crate::proofs::RuleNumbers::drawing_rules_come_last, crate::proofs::Numbers::no_fault_at_number))]
+pub fn drawing_rules_come_last()
+    ensures numbers { DrawingRuleNumbersAreInOrder }
+    ensures last { DrawingRulesComeLast }
+    ensures stack { NumbersDrawNothing }
+{}
 
 /// P10 is no false alarm: somewhere such a curve is three units or more beyond both of its ends. A curve whose control
 /// points are in the box of its ends doesn't break it.

@@ -1,8 +1,6 @@
 //! What may be wrong with a glyph's drawing, and with its stems for what is drawn: Adobe Type 1 Font Format 1.1, chapters 2, 3, 5 and 6.
 //!
-//! [`DrawingWatcher`] sees the steps of a glyph one after another. It returns of each which of the tests P04, P06 to P11, H09 and H10 it breaks, as
-//! [`DrawingFaults`], and at the glyph's end whether its outline runs clockwise (P05) and whether it has a stem that nothing touches (H08). No report
-//! asks for these yet.
+//! [`DrawingWatcher`] sees the steps of a glyph one after another, beside the watchers of the other rules, and returns which rules each breaks.
 //!
 //! Points are in units of 1/65536, FontBBox in units of 10^-9. Nothing is rounded.
 //!
@@ -31,10 +29,10 @@ mod stem_tests;
 mod tests;
 mod touching;
 
-pub use faults::SegmentFaults;
 pub use font_box::FontBox;
-pub use glyph::{DrawingFaults, DrawingWatcher};
+pub use glyph::DrawingWatcher;
 pub use laws::{
-    curves_without_extremes_go_beyond, drawn_segments_can_be_seen, flat_curves_are_on_a_line,
-    stems_stay, turned_subpaths_have_the_opposite_area, untouched_stems_lie_off,
+    curves_without_extremes_go_beyond, drawing_rules_come_last, drawn_segments_can_be_seen,
+    flat_curves_are_on_a_line, stems_stay, turned_subpaths_have_the_opposite_area,
+    untouched_stems_lie_off,
 };

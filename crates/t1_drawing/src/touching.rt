@@ -329,6 +329,17 @@ impl TouchWatcher {
         }
     }
 
+    /// Before the first step again, in place.
+    pub(crate) fn start_again(&mut self)
+        ensures { TouchesStandFor self.new [] }
+    {
+        self.across.clear();
+        self.upright.clear();
+        self.sidebearing = Sidebearing { x: 0, y: 0 };
+        self.end = None;
+        self.has_strokes = false;
+    }
+
     /// Sees the next step, and what it draws.
     pub(crate) fn see(&mut self, step: &Step, segments: &[Segment])
         ensures { (before : List StepView) → TouchesStandFor self.old before → segments.now ≡ drawn before (step_view step.now) →

@@ -4,8 +4,9 @@ use Rattle.std.proofs.lemmas.Bool.{eqb-true}
 use Rattle.t1_char.specs.Arguments.{is_flex_end, is_flex_point, is_flex_start}
 use Rattle.t1_char.specs.Steps.{StepView}
 use Rattle.t1_char.proofs.LookingBack.{since_goes_on}
+use Rattle.t1_outline.specs.Nibs.{spoils}
 use Rattle.t1_outline.specs.Outlines.{begins_flex, draws_flex, flex_curves, flex_places, is_spoiled, places_from, places_on, spoils_flex}
-use Rattle.t1_outline.specs.Private.Drawing.{places_kept, spoils}
+use Rattle.t1_outline.specs.Private.Drawing.{places_kept}
 use Rattle.t1_rules.specs.declared.mask.Mask.{Mask}
 use Rattle.t1_rules.specs.declared.step_rules.flex.Point.{Point}
 use Rattle.t1_rules.specs.Mask.{has}

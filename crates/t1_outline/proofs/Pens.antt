@@ -1,33 +1,31 @@
 -- What a pen keeps, one step further, and what it draws by that.
-use Rattle.std.proofs.Common.{◌≡◌, ℕ, ◌&&◌, ◌||◌, not, if◌then◌else◌, Bool, true, false, List, [], ◌∷◌, ◌++◌, take, refl, sym, ap, ◌∙◌}
+use Rattle.std.proofs.Common.{◌≡◌, ◌&&◌, ◌||◌, not, if◌then◌else◌, Bool, true, false, List, [], ◌∷◌, ◌++◌, take, refl, sym, ap, ◌∙◌}
 use Rattle.t1_char.specs.Arguments.{is_flex_start}
 use Rattle.t1_char.specs.Steps.{StepView}
 use Rattle.t1_char.proofs.LookingBack.{since_goes_on}
 use Rattle.t1_outline.specs.declared.flex_run.FlexRun.{FlexRun}
+use Rattle.t1_outline.specs.declared.nib.Around.{Around}
 use Rattle.t1_outline.specs.declared.segment.Segment.{Segment}
 use Rattle.t1_outline.specs.declared.segment.Segment.TheVariants.{Move}
+use Rattle.t1_outline.specs.Nibs.{IsAround}
 use Rattle.t1_outline.specs.Outlines.{draws_flex, drawn, drawn_by, flex_curves, flex_places, has_subpath, is_spoiled, makes_subpath, stroke}
 use Rattle.t1_outline.specs.Private.Standing.{FlexRunStandsFor}
-use Rattle.t1_outline.specs.Private.Drawing.{drawn_in, makes_subpath_in, places_kept, spoils}
-use Rattle.t1_outline.proofs.Flexes.{curves_kept, kept_is, places_go_on, spoiled_goes_on, spoils_is}
-use Rattle.t1_rules.specs.declared.mask.Mask.{Mask}
-use Rattle.t1_rules.specs.Mask.{has}
-use Rattle.t1_rules.specs.StepRules.{breaks, flex_rules}
+use Rattle.t1_outline.specs.Private.Drawing.{drawn_in, makes_subpath_in, places_kept}
+use Rattle.t1_outline.proofs.Flexes.{curves_kept, kept_is, places_go_on, spoiled_goes_on}
 use Rattle.t1_rules.specs.StepRules.Flex.{current_point}
 use Rattle.t1_rules.specs.StepRules.Paths.{closing_step, in_flex, outer_move}
 use Rattle.t1_rules.specs.StepRules.Tokens.{closes}
 
 -- What a flex keeps after a step.
-pub record KeepsFlex (old new : FlexRun) (before : List StepView) (t : StepView) (broken : Mask) : Type 0 where
-  pub places : new.places.items ≡ places_kept old.places.items (current_point before) t
-  pub spoiled : new.spoiled ≡ (spoils broken || (old.spoiled && not (is_flex_start t && not (in_flex before))))
-  pub answer : (n : ℕ) → has broken n ≡ breaks flex_rules n before t
+pub record KeepsFlex (old new : FlexRun) (t : StepView) (around : Around) : Type 0 where
+  pub places : new.places.items ≡ places_kept old.places.items around.start t
+  pub spoiled : new.spoiled ≡ (around.spoils_flex || (old.spoiled && not (is_flex_start t && not around.is_in_flex)))
 
-pub flex_run_on : (old new : FlexRun) (before : List StepView) (t : StepView) (broken : Mask) → FlexRunStandsFor old before
-    → KeepsFlex old new before t broken → FlexRunStandsFor new (before ++ t ∷ [])
-flex_run_on old new before t broken st keeps = record {
-  places = keeps.places ∙ rw (st.places, kept_is (flex_places before) before t) (ap (take 8) (sym (places_go_on before t)));
-  spoiled = keeps.spoiled ∙ rw (spoils_is broken before t keeps.answer, st.spoiled) (sym (spoiled_goes_on before t));
+pub flex_run_on : (old new : FlexRun) (before : List StepView) (t : StepView) (around : Around) → FlexRunStandsFor old before
+    → IsAround before t around → KeepsFlex old new t around → FlexRunStandsFor new (before ++ t ∷ [])
+flex_run_on old new before t around st is keeps = record {
+  places = keeps.places ∙ rw (st.places, is.start, kept_is (flex_places before) before t) (ap (take 8) (sym (places_go_on before t)));
+  spoiled = keeps.spoiled ∙ rw (is.spoils, st.spoiled, is.inside) (sym (spoiled_goes_on before t));
 }
 
 pub subpath_on : (before : List StepView) (t : StepView) (old new inside spoiled : Bool)

@@ -4,12 +4,13 @@ ghost use Rattle.std.specs.Prelude.{◌≡◌, ◌&&◌, ◌||◌, not, false, [
 ghost use Rattle.t1_char.specs.Arguments.{is_flex_start};
 ghost use Rattle.t1_char.specs.StepValues.{step_view};
 ghost use Rattle.t1_outline.specs.Outlines.{flex_curves};
-ghost use Rattle.t1_outline.specs.Private.Drawing.{places_kept, spoils};
+ghost use Rattle.t1_outline.specs.Private.Drawing.{places_kept};
 
+use crate::nib::Around;
 use crate::segment::{Segment, Segments, with_opening};
 use arrayvec::ArrayVec;
 use t1_char::Step;
-use t1_rules::{Mask, Point, Rule};
+use t1_rules::Point;
 
 /// How many places a flex has: that of its start, and those of its seven points.
 const PLACES: usize = 8;
@@ -33,19 +34,19 @@ impl FlexRun {
         }
     }
 
-    /// Sees a step: where the current point is before it, whether it is in flex, and which rules it breaks.
-    pub(crate) fn see(&mut self, step: &Step, point: Point, in_flex: bool, broken: Mask)
-        ensures places { self.new.places.items ≡ places_kept self.old.places.items point (step_view step.now) }
+    /// Sees a step.
+    pub(crate) fn see(&mut self, step: &Step, around: Around)
+        ensures places { self.new.places.items ≡ places_kept self.old.places.items around.start (step_view step.now) }
         ensures spoiled { self.new.spoiled
-            ≡ (spoils broken || (self.old.spoiled && not (is_flex_start (step_view step.now) && not in_flex))) }
+            ≡ (around.spoils_flex || (self.old.spoiled && not (is_flex_start (step_view step.now) && not around.is_in_flex))) }
     {
         let starts = step.starts_flex();
-        self.spoiled = spoils(broken) | (self.spoiled & !(starts & !in_flex));
+        self.spoiled = around.spoils_flex | (self.spoiled & !(starts & !around.is_in_flex));
         if starts {
             self.places.clear();
-            self.places.push(point);
+            self.places.push(around.start);
         } else if step.gives_flex_point() {
-            keep(&mut self.places, point);
+            keep(&mut self.places, around.start);
         }
     }
 
@@ -77,11 +78,4 @@ fn keep(places: &mut ArrayVec<Point, PLACES>, point: Point)
     if !places.is_full() {
         places.push(point);
     }
-}
-
-/// Whether a flex in which these are broken isn't drawn.
-fn spoils(broken: Mask) -> bool
-    ensures { result ≡ spoils broken }
-{
-    broken.has(Rule::X01) | (broken.has(Rule::X03) | broken.has(Rule::X04))
 }

@@ -3,7 +3,7 @@
 //!
 //! [`Pen`] sees the steps of a glyph one after another, and returns what each draws, at most three segments. It knows
 //! where the current point is, whether something was drawn and not closed, and which stems are in force: all by the
-//! rules' own watchers. [`Outline`] executes a glyph and returns its segments one at a time, without a list and without
+//! rules' own watchers. [`Nib`] is the same beside watchers that see the steps anyway. [`Outline`] executes a glyph and returns its segments one at a time, without a list and without
 //! memory. Each has its step and the Subrs that were being executed.
 //!
 //! Points are in units of 1/65536, exactly. What no rule speaks of is read so:
@@ -31,6 +31,7 @@
 mod composition;
 mod flex_run;
 mod laws;
+mod nib;
 mod outline;
 mod parts;
 mod pen;
@@ -43,7 +44,8 @@ pub use laws::{
     rules_ask_is_open, seacs_draw_their_components, short_forms_draw_alike,
     steps_end_at_the_current_point, subpaths_begin_at_moves, whole_flexes_are_drawn,
 };
+pub use nib::{Around, Nib};
 pub use outline::{DrawnSegment, Outline};
 pub use parts::{ORIGIN, Part, SeacPart, SeacParts};
-pub use pen::{DrawnStep, Pen};
+pub use pen::{DrawnStep, Pen, spoils_flex};
 pub use segment::{Segment, Segments};

@@ -1,26 +1,21 @@
 //! What steps draw, one after another: Type 1 Font Format 1.1, chapters 6 and 8.
 
-ghost use Rattle.std.specs.Prelude.{◌≡◌, ◌<◌, ◌&&◌, ◌||◌, not, ℕ, List, [], ◌∷◌, ◌++◌, length};
+ghost use Rattle.std.specs.Prelude.{◌≡◌, ◌<◌, List, [], ◌∷◌, ◌++◌, length};
 ghost use Rattle.t1_char.specs.declared.edition.Edition.{Edition as Editions};
 ghost use Rattle.t1_char.specs.Steps.{StepView};
 ghost use Rattle.t1_char.specs.StepValues.{step_view};
-ghost use Rattle.t1_outline.specs.Outlines.{drawn, drawn_by, stroke};
+ghost use Rattle.t1_outline.specs.Nibs.{spoils};
+ghost use Rattle.t1_outline.specs.Outlines.{drawn};
 ghost use Rattle.t1_outline.specs.Private.Standing.{PenStandsFor};
-ghost use Rattle.t1_outline.specs.Private.Drawing.{drawn_in, ends_whole, makes_subpath_in, moves_outside};
 ghost use Rattle.t1_rules.specs.StepRules.Flex.{current_point};
 ghost use Rattle.t1_rules.specs.StepRules.Paths.{in_flex, is_open, leaves_open};
 ghost use Rattle.t1_rules.specs.StepRules.Stems.{hint_set, lies_across, stands_upright};
-ghost use Rattle.t1_rules.specs.StepRules.Tokens.{closes};
-ghost use Rattle.t1_rules.specs.Watches.{IsNear, most_steps};
+ghost use Rattle.t1_rules.specs.Watches.{most_steps};
 
-use crate::flex_run::FlexRun;
-use crate::segment::{Segment, Segments, one, with_opening};
-use crate::strokes::stroke;
-use arrayvec::ArrayVec;
+use crate::nib::{Around, Nib};
+use crate::segment::Segments;
 use t1_char::{Edition, Step};
-use t1_rules::{
-    FlexWatcher, PathWatcher, Point, Rule, Stem, StemWatcher, Watch, closes, is_line, is_move,
-};
+use t1_rules::{FlexWatcher, Mask, PathWatcher, Point, Rule, Stem, StemWatcher, Watch};
 
 /// What a step draws.
 #[derive(Drop)]
@@ -37,9 +32,7 @@ pub struct Pen {
     paths: PathWatcher,
     stems: StemWatcher,
     flex: FlexWatcher,
-    run: FlexRun,
-    /// Whether a subpath was begun, and not closed since.
-    has_subpath: bool,
+    nib: Nib,
 }
 
 impl Pen {
@@ -51,8 +44,7 @@ impl Pen {
             paths: PathWatcher::start(edition),
             stems: StemWatcher::start(edition),
             flex: FlexWatcher::start(edition),
-            run: FlexRun::start(),
-            has_subpath: false,
+            nib: Nib::start(),
         }
     }
 
@@ -71,17 +63,18 @@ impl Pen {
             PenStandsFor edition self.new (before ++ step_view step.now ∷ []) }
     {
         let start = self.flex.point();
-        let in_flex = self.flex.is_in_flex();
+        let is_in_flex = self.flex.is_in_flex();
         let broken = self.flex.see(step);
         let paths = self.paths.see(step);
         let _stems = self.stems.see(step);
-        self.run.see(step, start, in_flex, broken);
-        let end = self.flex.point();
-        let segments = segments(step, start, end, in_flex, &self.run, self.has_subpath);
-        let makes = makes_subpath(step, in_flex, &self.run);
-        self.has_subpath = makes | (self.has_subpath & !closes(step.token));
+        let around = Around {
+            start,
+            end: self.flex.point(),
+            is_in_flex,
+            spoils_flex: spoils_flex(broken),
+        };
         DrawnStep {
-            segments,
+            segments: self.nib.draw(step, around),
             leaves_open: paths.has(Rule::P02),
         }
     }
@@ -127,58 +120,9 @@ impl Pen {
     }
 }
 
-/// What a step draws: by the current points before it and after it, whether it is in flex, and whether there is a
-/// subpath.
-fn segments(
-    step: &Step,
-    start: Point,
-    end: Point,
-    in_flex: bool,
-    run: &FlexRun,
-    there: bool,
-) -> Segments
-    requires { (n : ℕ) × (IsNear n start × (n < most_steps)) }
-    ensures { result.items ≡ drawn_in (step_view step.now) start end in_flex run.now.spoiled run.now.places.items there }
+/// Whether a step that breaks these rules spoils a flex, which then isn't drawn.
+pub fn spoils_flex(broken: Mask) -> bool
+    ensures { result ≡ spoils broken }
 {
-    if moves_outside(step, in_flex) {
-        one(Segment::Move(end))
-    } else if ends_whole(step, in_flex, run) {
-        run.curves(there)
-    } else {
-        line_or_close(step, start, there)
-    }
-}
-
-/// A line or a curve, or where the subpath is closed.
-fn line_or_close(step: &Step, start: Point, there: bool) -> Segments
-    requires { (n : ℕ) × (IsNear n start × (n < most_steps)) }
-    ensures { result.items ≡ drawn_by there start (closes step.now.token) (stroke start (step_view step.now)) }
-{
-    if let Some(stroke) = stroke(start, step) {
-        with_opening(there, start, &[stroke])
-    } else if closes(step.token) & there {
-        one(Segment::Close)
-    } else {
-        ArrayVec::new()
-    }
-}
-
-fn moves_outside(step: &Step, in_flex: bool) -> bool
-    ensures { result ≡ moves_outside in_flex (step_view step.now) }
-{
-    is_move(step.token) & !in_flex
-}
-
-/// Whether the step ends a flex that is drawn.
-fn ends_whole(step: &Step, in_flex: bool, run: &FlexRun) -> bool
-    ensures { result ≡ ends_whole in_flex run.now.spoiled (step_view step.now) }
-{
-    step.ends_flex() & in_flex & !run.is_spoiled()
-}
-
-/// Whether there is a subpath after the step, if it doesn't close it.
-fn makes_subpath(step: &Step, in_flex: bool, run: &FlexRun) -> bool
-    ensures { result ≡ makes_subpath_in (step_view step.now) in_flex run.now.spoiled }
-{
-    moves_outside(step, in_flex) | (is_line(step.token) | ends_whole(step, in_flex, run))
+    broken.has(Rule::X01) | (broken.has(Rule::X03) | broken.has(Rule::X04))
 }

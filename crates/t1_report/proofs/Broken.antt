@@ -1,12 +1,16 @@
 -- What is broken at a unit and a step: in the font, at the steps of a glyph, and where nothing is.
-use Rattle.std.proofs.Common.{◌≡◌, ℕ, zero, suc, ◌+◌, ◌*◌, ◌/◌, ◌%◌, ◌<◌, ◌≤◌, ◌&&◌, ◌||◌, ◌==◌, nat_lt, Bool, true, false, cond, List, [], ◌∷◌, ◌++◌, length, length-append, take, slice_get, Some, inl, inr, refl, ap, sym, ◌∙◌, arith, rules}
-use Rattle.std.proofs.Math.Bool.{and-false}
+use Rattle.std.proofs.Common.{◌≡◌, ℕ, zero, suc, ◌+◌, ◌*◌, ◌/◌, ◌%◌, ◌<◌, ◌≤◌, ◌&&◌, ◌||◌, ◌==◌, nat_lt, if◌then◌else◌, Bool, true, false, cond, Option, List, [], ◌∷◌, ◌++◌, length, length-append, take, slice_get, Some, inl, inr, refl, ap, sym, ◌∙◌, arith, rules}
+use Rattle.std.proofs.Math.Bool.{and-false, or-false}
 use Rattle.std.proofs.Math.Seq.{take-append_seam}
 use Rattle.std.proofs.lemmas.Bool.{cases_lt, eq-eqb, ne_eqb}
 use Rattle.std.proofs.lemmas.List.{length-take}
+use Rattle.std.proofs.lemmas.List.Folds.{list_any-append}
 use Rattle.std.proofs.lemmas.Option.{slice_get_past, slice_get_within}
 use Rattle.t1_char.specs.declared.edition.Edition.{Edition}
+use Rattle.t1_char.specs.Editions.{has_latest_rules}
 use Rattle.t1_char.specs.Steps.{StepView, steps_of}
+use Rattle.t1_drawing.specs.declared.font_box.FontBox.{FontBox}
+use Rattle.t1_drawing.specs.DrawingRules.{box_of, drawing_rules}
 use Rattle.t1_font.specs.Fonts.{FontValue}
 use Rattle.t1_report.specs.Checked.{CheckedFont, step_limit}
 use Rattle.t1_rules.specs.FontRules.{font_rules, violated}
@@ -16,10 +20,11 @@ use Rattle.t1_rules.specs.Components.{components_of}
 use Rattle.t1_rules.specs.declared.rule.Rule.TheVariants.{L01}
 use Rattle.t1_rules.specs.Book.{number_of}
 use Rattle.t1_rules.specs.StepRules.{StepRule, breaks, breaks_at, breaks_next, charstring_rules, component_rules, step_rules}
+use Rattle.t1_rules.specs.Laws.Editions.{rules_in}
 use Rattle.t1_rules.proofs.Lemmas.Keys.{past_places}
 use Rattle.t1_rules.proofs.Lemmas.Watches.{joined}
 use Rattle.t1_rules.proofs.Lemmas.FontRules.{past_last}
-use Rattle.t1_report.specs.Reports.{is_broken, path_in, rules_of, step_breaks, path_of_step}
+use Rattle.t1_report.specs.Reports.{is_broken, path_in, rules_of, rules_with, step_breaks, path_of_step}
 
 -- ---- the font
 
@@ -149,9 +154,32 @@ past_glyphs font (suc glyph) (suc i) n past = rw (not_less glyph (length font.va
 
 -- The rules of a font, by what its components are.
 pub rules_by : (font : CheckedFont) (components : List Component) → components ≡ components_of (step_limit font) font.value
-    → charstring_rules font.edition components ≡ rules_of font
+    → rules_with font.edition components (box_of font.value) ≡ rules_of font
 unfolding rules_of
-rules_by font components are = ap (charstring_rules font.edition) are
+rules_by font components are = ap (λ cs. rules_with font.edition cs (box_of font.value)) are
+
+-- An edition without rules on the drawing has those on charstrings alone.
+pub early_rules : (font : CheckedFont) → has_latest_rules font.edition ≡ false → rules_of font ≡ rules_in font.edition font.value
+unfolding rules_of
+early_rules font early =
+    ap (λ latest. if latest then rules_in font.edition font.value ++ drawing_rules (box_of font.value) else rules_in font.edition font.value) early
+
+-- What a step breaks of them: of those on charstrings, and where the edition has them of those on the drawing.
+module _ (edition : Edition) (components : List Component) (box : Option FontBox) (n : ℕ) (before : List StepView) (step : StepView) where
+  pub breaks_both : breaks (rules_with edition components box) n before step
+      ≡ (breaks (charstring_rules edition components) n before step || (has_latest_rules edition && breaks (drawing_rules box) n before step))
+  breaks_both = go (has_latest_rules edition)
+    where
+      go : (latest : Bool) → breaks (if latest then charstring_rules edition components ++ drawing_rules box else charstring_rules edition components) n before step
+          ≡ (breaks (charstring_rules edition components) n before step || (latest && breaks (drawing_rules box) n before step))
+      go true = list_any-append (λ r. r.is_broken before step && number_of r.rule == n) (charstring_rules edition components) (drawing_rules box)
+      go false = sym (or-false (breaks (charstring_rules edition components) n before step))
+
+  -- Nothing, where none of either is broken.
+  pub breaks_neither : breaks (charstring_rules edition components) n before step ≡ false
+      → (has_latest_rules edition && breaks (drawing_rules box) n before step) ≡ false
+      → breaks (rules_with edition components box) n before step ≡ false
+  breaks_neither none drawn = breaks_both ∙ rw (none, drawn) refl
 
 -- Up to the limit a step breaks what the rules say of it.
 pub within_limit : (limit : ℕ) (table : List StepRule) (n : ℕ) (steps : List StepView) (i : ℕ) → i < limit

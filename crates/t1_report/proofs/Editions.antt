@@ -7,7 +7,7 @@ use Rattle.std.proofs.lemmas.Bool.Decides.{nat_tests}
 use Rattle.std.proofs.lemmas.List.Quantifiers.{position-Some}
 use Rattle.std.proofs.lemmas.Option.{slice_get_cases}
 use Rattle.t1_char.specs.declared.edition.Edition.TheVariants.{One, Two}
-use Rattle.t1_char.specs.Editions.{limit_of}
+use Rattle.t1_char.specs.Editions.{has_latest_rules, limit_of}
 use Rattle.t1_char.specs.Steps.{StepView, steps_of}
 use Rattle.t1_font.specs.Fonts.{FontValue, glyph_name}
 use Rattle.t1_font.specs.Keys.{same_name}
@@ -16,14 +16,14 @@ use Rattle.t1_rules.specs.Book.{number_of}
 use Rattle.t1_rules.specs.Components.{glyph_named}
 use Rattle.t1_rules.specs.Laws.Editions.{HasShortComponents, rules_in, sets_one_edge}
 use Rattle.t1_rules.specs.StandardEncoding.{standard_name}
-use Rattle.t1_rules.specs.StepRules.{breaks, breaks_next}
+use Rattle.t1_rules.specs.StepRules.{StepRule, breaks, breaks_next}
 use Rattle.t1_rules.proofs.Lemmas.Editions.{agree_on_usual_steps, none_taken, second_tells_no_more_in_fonts}
 use Rattle.t1_report.specs.Checked.{CheckedFont, checked}
 use Rattle.t1_report.specs.Faults.{FaultValue}
 use Rattle.t1_report.specs.Laws.Editions.{CleanFontsStayClean, IsUsual, UsualFontsHaveOneReport}
 use Rattle.t1_report.specs.Reports.{IsReport, IsTold, Place, is_broken, is_broken_below, is_told, is_unused, is_used, is_used_by, path_at, place_of, rules_of, step_breaks, tells_unused}
 use Rattle.t1_report.specs.Waivers.{Waiver, is_waived}
-use Rattle.t1_report.proofs.Broken.{past_last_step, within_limit}
+use Rattle.t1_report.proofs.Broken.{early_rules, past_last_step, within_limit}
 use Rattle.t1_report.proofs.StepLimit.{are_checked}
 
 -- A glyph that has a name is there.
@@ -59,12 +59,13 @@ none_there f (s ∷ ss) (suc place) step none is = none_there f ss place step (r
     right true b e = let no : true ≡ false = e in cc
 
 -- Up to the limit a step breaks what the rules say.
-by_rules : (font : CheckedFont) (n : ℕ) (steps : List StepView) (i : ℕ) (step : StepView) → i < limit_of font.edition → slice_get steps i ≡ Some step
+by_rules : (font : CheckedFont) → has_latest_rules font.edition ≡ false → (n : ℕ) (steps : List StepView) (i : ℕ) (step : StepView)
+    → i < limit_of font.edition → slice_get steps i ≡ Some step
     → step_breaks (limit_of font.edition) (rules_of font) n steps i ≡ breaks (rules_in font.edition font.value) n (take i steps) step
-unfolding rules_of
-by_rules font n steps i step within is =
-    within_limit (limit_of font.edition) (rules_in font.edition font.value) n steps i within
-    ∙ ap (breaks_next (rules_in font.edition font.value) n (take i steps)) is
+by_rules font early n steps i step within is =
+    within_limit (limit_of font.edition) (rules_of font) n steps i within
+    ∙ ap (breaks_next (rules_of font) n (take i steps)) is
+    ∙ ap (λ (rules : List StepRule). breaks rules n (take i steps) step) (early_rules font early)
 
 step_same : (font : FontValue) → IsUsual font → (glyph : ℕ) → glyph < length font.glyphs → (i n : ℕ)
     → step_breaks (limit_of Two) (rules_of (checked font Two)) n (steps_of font glyph) i ≡ step_breaks (limit_of One)
@@ -76,10 +77,10 @@ step_same font usual glyph there i n =
           ∙ sym (past_last_step (limit_of One) (rules_of (checked font One)) n steps i past)
       | inl (step, less, is, at) ↦
           let few : length steps ≤ 100000 = usual.short glyph there in
-          by_rules (checked font Two) n steps i step (omega (arith, less, few)) is
+          by_rules (checked font Two) refl n steps i step (omega (arith, less, few)) is
           ∙ agree_on_usual_steps font (short_components font usual) n (take i steps) step (none_taken sets_one_edge steps i (usual.wide glyph there))
           (none_there sets_one_edge steps i step (usual.wide glyph there) is)
-          ∙ sym (by_rules (checked font One) n steps i step (omega (arith, less, few)) is)
+          ∙ sym (by_rules (checked font One) refl n steps i step (omega (arith, less, few)) is)
     ]
 
 broken_same : (font : FontValue) → IsUsual font → (unit step n : ℕ) → is_broken (checked font Two) unit step n ≡ is_broken (checked font One) unit step n
@@ -228,9 +229,9 @@ module _ (font : FontValue) (clean : IsReport (checked font One) [] []) where
             absurd (true≢false (sym broken ∙ past_last_step (limit_of Two) (rules_of (checked font Two)) n steps i past))
         | inl (step, less, is, at) ↦
             let few : length steps ≤ 100000 = short_where_clean font clean glyph there in
-            by_rules (checked font One) n steps i step (omega (arith, less, few)) is
+            by_rules (checked font One) refl n steps i step (omega (arith, less, few)) is
             ∙ second_tells_no_more_in_fonts font short_components_there n (take i steps) step
-            (sym (by_rules (checked font Two) n steps i step (omega (arith, less, few)) is) ∙ broken)
+            (sym (by_rules (checked font Two) refl n steps i step (omega (arith, less, few)) is) ∙ broken)
       ]
 
   broken_more : (unit step n : ℕ) → is_broken (checked font Two) unit step n ≡ true → is_broken (checked font One) unit step n ≡ true

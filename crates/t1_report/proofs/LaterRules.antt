@@ -1,39 +1,49 @@
 -- The rules after number 70, and those after number 93, in a report: in their editions alone, and beside the others' faults.
-use Rattle.std.proofs.Common.{◌≡◌, ℕ, zero, suc, ◌+◌, ◌/◌, ◌%◌, ◌≤◌, ◌==◌, ◌&&◌, not, nat_lt, if◌then◌else◌, Bool, true, false, Option, Some, None, List, length, take, slice_get, refl, sym, ap, ◌∙◌, arith}
+use Rattle.std.proofs.Common.{◌≡◌, ℕ, zero, suc, ◌+◌, ◌/◌, ◌%◌, ◌≤◌, ◌==◌, ◌&&◌, ◌||◌, not, nat_lt, if◌then◌else◌, Bool, true, false, Option, Some, None, List, length, take, slice_get, refl, sym, ap, subst, ◌∙◌, arith}
+use Rattle.std.proofs.Math.Bool.{or-false}
 use Rattle.std.proofs.lemmas.Bool.{and_parts, eqb-true, leb-true}
 use Rattle.t1_char.specs.declared.edition.Edition.{Edition}
-use Rattle.t1_char.specs.declared.edition.Edition.TheVariants.{Four, Three, Two}
-use Rattle.t1_char.specs.Editions.{limit_of}
+use Rattle.t1_char.specs.declared.edition.Edition.TheVariants.{Four, One, Three, Two}
+use Rattle.t1_char.specs.Editions.{has_later_rules, has_latest_rules, limit_of}
 use Rattle.t1_char.specs.Steps.{StepView, steps_of}
+use Rattle.t1_drawing.specs.DrawingRules.{box_of, drawing_rules}
+use Rattle.t1_drawing.proofs.RuleNumbers.{drawing_rules_come_last}
 use Rattle.t1_font.specs.Fonts.{FontValue, glyph_name}
 use Rattle.t1_rules.specs.declared.rule.Rule.TheVariants.{L01, U01}
 use Rattle.t1_rules.specs.Book.{last_number_before, last_number_of_third, number_of}
-use Rattle.t1_rules.specs.Components.{glyph_named}
+use Rattle.t1_rules.specs.Components.{components_of, glyph_named}
 use Rattle.t1_rules.specs.Keys.{index_count}
 use Rattle.t1_rules.specs.Laws.Editions.{rules_in}
 use Rattle.t1_rules.specs.FontRules.{font_rules, violated}
-use Rattle.t1_rules.specs.StepRules.{breaks, breaks_next}
+use Rattle.t1_rules.specs.StepRules.{StepRule, breaks, breaks_next}
 use Rattle.t1_rules.proofs.Lemmas.FontRules.{earlier_editions_know_no_later_rule, first_three_know_no_latest_rule, fourth_agrees_with_third, later_rules_change_no_other}
 use Rattle.t1_rules.proofs.Lemmas.LaterLaws.{earlier_editions_break_no_later_rule, first_three_break_no_latest_rule, fourth_breaks_as_the_third, third_agrees_with_second}
 use Rattle.t1_report.specs.Checked.{CheckedFont, checked}
 use Rattle.t1_report.specs.Laws.LaterRules.{AreUpTo, EarlierReportsHaveNoLaterRule, FirstThreeReportNoLatestRule, FourthReportsAsTheThird, ReportTheSame, ThirdReportsAsTheSecond, is_up_to}
 use Rattle.t1_report.specs.Reports.{IsTold, Place, is_broken, is_broken_below, is_told, is_unused, is_used, is_used_by, path_at, rules_of, step_breaks, tells_unused}
 use Rattle.t1_report.specs.Waivers.{Waiver, is_waived}
+use Rattle.t1_report.proofs.Broken.{breaks_both, early_rules}
 use Rattle.t1_report.proofs.Editions.{below_same}
 use Rattle.t1_report.proofs.WaivedFaults.{same_left}
+
+-- An edition without the rules after number 70 has none after number 93.
+pub latest_are_later : (edition : Edition) → has_later_rules edition ≡ false → has_latest_rules edition ≡ false
+latest_are_later One none = refl
+latest_are_later Two none = refl
+latest_are_later Three none = refl
+latest_are_later Four none = none
 
 -- ---- an edition that breaks no rule past a number
 
 module _ (font : CheckedFont) (most : ℕ) (room : last_number_before ≤ most)
     (of_fonts : (n key index : ℕ) → violated (font_rules font.edition) n font.value key index ≡ true → n ≤ most)
-    (of_steps : (n : ℕ) (before : List StepView) (step : StepView) → breaks (rules_in font.edition font.value) n before step ≡ true → n ≤ most) where
-  next_few : (n : ℕ) (before : List StepView) (step : Option StepView) → breaks_next (rules_in font.edition font.value) n before step ≡ true
+    (of_steps : (n : ℕ) (before : List StepView) (step : StepView) → breaks (rules_of font) n before step ≡ true → n ≤ most) where
+  next_few : (n : ℕ) (before : List StepView) (step : Option StepView) → breaks_next (rules_of font) n before step ≡ true
       → n ≤ most
   next_few n before None is = let no : false ≡ true = is in cc
   next_few n before (Some step) is = of_steps n before step is
 
   step_few : (n : ℕ) (steps : List StepView) (i : ℕ) → step_breaks (limit_of font.edition) (rules_of font) n steps i ≡ true → n ≤ most
-  unfolding rules_of
   step_few n steps i is = go (nat_lt i (limit_of font.edition)) is
     where
       at_limit : (there : Bool) → (there && number_of L01 == n) ≡ true → n ≤ most
@@ -41,7 +51,7 @@ module _ (font : CheckedFont) (most : ℕ) (room : last_number_before ≤ most)
           let same : number_of L01 ≡ n = eqb-true (number_of L01) n (and_parts there (number_of L01 == n) is).1 in
           omega (arith, same, room)
 
-      go : (b : Bool) → (if b then breaks_next (rules_in font.edition font.value) n (take i steps) (slice_get steps i)
+      go : (b : Bool) → (if b then breaks_next (rules_of font) n (take i steps) (slice_get steps i)
           else (i == limit_of font.edition && nat_lt i (length steps)) && number_of L01 == n) ≡ true → n ≤ most
       go true is = next_few n (take i steps) (slice_get steps i) is
       go false is = at_limit (i == limit_of font.edition && nat_lt i (length steps)) is
@@ -73,14 +83,16 @@ pub earlier_reports_have_no_later_rule : EarlierReportsHaveNoLaterRule
 earlier_reports_have_no_later_rule font waivers faults none report = λ i d less.
     told_few font last_number_before (omega arith)
     (λ n key index. earlier_editions_know_no_later_rule font.edition none n font.value key index)
-    (λ n before step. earlier_editions_break_no_later_rule font.edition none font.value n before step)
+    (λ n before step broken. earlier_editions_break_no_later_rule font.edition none font.value n before step
+    (subst (λ (rules : List StepRule). breaks rules n before step ≡ true) (early_rules font (latest_are_later font.edition none)) broken))
     waivers _ _ _ (report.violations i d less).violated
 
 pub first_three_report_no_latest_rule : FirstThreeReportNoLatestRule
 first_three_report_no_latest_rule font waivers faults none report = λ i d less.
     told_few font last_number_of_third (omega arith)
     (λ n key index. first_three_know_no_latest_rule font.edition none n font.value key index)
-    (λ n before step. first_three_break_no_latest_rule font.edition none font.value n before step)
+    (λ n before step broken. first_three_break_no_latest_rule font.edition none font.value n before step
+    (subst (λ (rules : List StepRule). breaks rules n before step ≡ true) (early_rules font none) broken))
     waivers _ _ _ (report.violations i d less).violated
 
 -- ---- two editions that agree up to a number
@@ -88,20 +100,19 @@ first_three_report_no_latest_rule font waivers faults none report = λ i d less.
 module _ (most : ℕ) (older newer : Edition) (limits : limit_of newer ≡ limit_of older)
     (of_fonts : (n : ℕ) (font : FontValue) (key index : ℕ) → n ≤ most → violated (font_rules newer) n font key index ≡ violated (font_rules older) n font key index)
     (of_steps : (font : FontValue) (n : ℕ) (before : List StepView) (step : StepView) → n ≤ most
-    → breaks (rules_in newer font) n before step ≡ breaks (rules_in older font) n before step) where
+    → breaks (rules_of (checked font newer)) n before step ≡ breaks (rules_of (checked font older)) n before step) where
   module _ (font : FontValue) where
     next_same : (n : ℕ) (before : List StepView) (step : Option StepView) → n ≤ most
-        → breaks_next (rules_in newer font) n before step ≡ breaks_next (rules_in older font) n before step
+        → breaks_next (rules_of (checked font newer)) n before step ≡ breaks_next (rules_of (checked font older)) n before step
     next_same n before None few = refl
     next_same n before (Some step) few = of_steps font n before step few
 
     step_same : (n : ℕ) (steps : List StepView) (i : ℕ) → n ≤ most
         → step_breaks (limit_of newer) (rules_of (checked font newer)) n steps i ≡ step_breaks (limit_of older) (rules_of (checked font older)) n steps i
-    unfolding rules_of
     step_same n steps i few =
         ap (λ b. if nat_lt i (limit_of newer) then b else (i == limit_of newer && nat_lt i (length steps)) && number_of L01 == n)
         (next_same n (take i steps) (slice_get steps i) few)
-        ∙ ap (λ l. if nat_lt i l then breaks_next (rules_in older font) n (take i steps) (slice_get steps i)
+        ∙ ap (λ l. if nat_lt i l then breaks_next (rules_of (checked font older)) n (take i steps) (slice_get steps i)
         else (i == l && nat_lt i (length steps)) && number_of L01 == n) limits
 
     broken_same : (unit step n : ℕ) → n ≤ most → is_broken (checked font newer) unit step n ≡ is_broken (checked font older) unit step n
@@ -156,7 +167,26 @@ pub third_reports_as_the_second : ThirdReportsAsTheSecond
 third_reports_as_the_second =
     report_the_same last_number_before Two Three refl
     (λ n font key index few. later_rules_change_no_other Three n font key index few ∙ sym (later_rules_change_no_other Two n font key index few))
-    third_agrees_with_second
+    (λ font n before step few.
+    ap (λ (rules : List StepRule). breaks rules n before step) (early_rules (checked font Three) refl) ∙ third_agrees_with_second font n before step few
+    ∙ sym (ap (λ (rules : List StepRule). breaks rules n before step) (early_rules (checked font Two) refl)))
+
+-- The rules on the drawing come last.
+fourth_breaks : (font : FontValue) (n : ℕ) (before : List StepView) (step : StepView) → n ≤ last_number_of_third
+    → breaks (rules_of (checked font Four)) n before step ≡ breaks (rules_in Four font) n before step
+unfolding rules_of
+fourth_breaks font n before step few =
+    breaks_both Four (components_of (limit_of Four) font) (box_of font) n before step
+    ∙ ap (λ b. breaks (rules_in Four font) n before step || b) (none (breaks (drawing_rules (box_of font)) n before step) refl)
+    ∙ or-false (breaks (rules_in Four font) n before step)
+  where
+    none : (b : Bool) → breaks (drawing_rules (box_of font)) n before step ≡ b → b ≡ false
+    none false is = refl
+    none true is = absurd (omega (arith, few, (drawing_rules_come_last (box_of font) n before step is).0))
 
 pub fourth_reports_as_the_third : FourthReportsAsTheThird
-fourth_reports_as_the_third = report_the_same last_number_of_third Three Four refl fourth_agrees_with_third fourth_breaks_as_the_third
+fourth_reports_as_the_third =
+    report_the_same last_number_of_third Three Four refl fourth_agrees_with_third
+    (λ font n before step few.
+    fourth_breaks font n before step few ∙ fourth_breaks_as_the_third font n before step few
+    ∙ sym (ap (λ (rules : List StepRule). breaks rules n before step) (early_rules (checked font Three) refl)))

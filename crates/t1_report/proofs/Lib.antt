@@ -1,5 +1,6 @@
 pub mod Asked
 pub mod Broken
+pub mod DrawnRuns
 pub mod Editions
 pub mod FewFaults
 pub mod Fronts

@@ -14,7 +14,9 @@ use Rattle.t1_report.specs.Checked.{CheckedFont, checked, step_limit}
 use Rattle.t1_report.specs.Laws.LaterRules.{EarlierReportsKnowNoNotes}
 use Rattle.t1_report.specs.Reports.{Place, is_broken, is_told, is_unused, is_used, is_used_by, path_at, path_in, path_of_step, rules_of, step_breaks, tells_unused}
 use Rattle.t1_report.specs.Waivers.{Waiver, is_waived}
+use Rattle.t1_report.proofs.Broken.{early_rules}
 use Rattle.t1_report.proofs.Editions.{below_same, reported_alike}
+use Rattle.t1_report.proofs.LaterRules.{latest_are_later}
 
 abbrev without : CheckedFont → CheckedFont
 without font = checked (unnoted font.value) font.edition
@@ -31,12 +33,13 @@ path_same font p = go p.unit p.step
 
 module _ (font : CheckedFont) (none : has_later_rules font.edition ≡ false) where
   broken_same : (unit step n : ℕ) → is_broken (without font) unit step n ≡ is_broken font unit step n
-  unfolding is_broken rules_of
+  unfolding is_broken
   broken_same zero step n = font_rules_same font.edition none n font.value (step / index_count) (step % index_count)
   broken_same (suc glyph) zero n = refl
   broken_same (suc glyph) (suc i) n =
       ap (λ (rules : List StepRule). nat_lt glyph (length font.value.glyphs) && step_breaks (step_limit font) rules n (steps_of (unnoted font.value) glyph) i)
-      (step_rules_same font.edition font.value)
+      (early_rules (without font) (latest_are_later font.edition none) ∙ step_rules_same font.edition font.value
+      ∙ sym (early_rules font (latest_are_later font.edition none)))
       ∙ ap (λ (steps : List StepView). nat_lt glyph (length font.value.glyphs) && step_breaks (step_limit font) (rules_of font) n steps i)
       (steps_same font.value glyph)
 

@@ -18,7 +18,7 @@ use Rattle.t1_char.specs.declared.machine.Answer.TheVariants.{Ended, Limit}
 use Rattle.t1_char.specs.declared.step.Step.{Step}
 use Rattle.t1_char.specs.declared.token.CharToken.TheVariants.{Command}
 use Rattle.t1_char.specs.AnswerViews.{answer_view, is_limit, is_over}
-use Rattle.t1_char.specs.Editions.{limit_of}
+use Rattle.t1_char.specs.Editions.{has_latest_rules, limit_of}
 use Rattle.t1_char.specs.Lines.{GoesOn, IsAskedFar, IsCommandPassed, LeadsOn, PassesStep, PassesSteps, IsLed, can_follow, closed, drawn_after, further, is_closed, is_led, is_line_command, is_move_command, leads, no_way, way_by}
 use Rattle.t1_char.specs.Passing.{IsPassed}
 use Rattle.t1_char.specs.Steps.{StepView, steps_of}
@@ -26,6 +26,7 @@ use Rattle.t1_char.specs.StepValues.{step_value}
 use Rattle.t1_char.specs.Turns.{MachineView, TurnValue, limited, stepped}
 use Rattle.t1_char.proofs.EditionLemmas.{limit_few}
 use Rattle.t1_char.proofs.TurnsTaken.{behind, limited_is, stepped_is}
+use Rattle.t1_drawing.specs.DrawingRules.{box_of, drawing_rules}
 use Rattle.t1_rules.specs.declared.sidebearings.Component.{Component}
 use Rattle.t1_rules.specs.declared.step_rules.flex.FlexWatcher.{FlexWatcher}
 use Rattle.t1_rules.specs.declared.step_rules.flex.Point.{Point}
@@ -42,11 +43,11 @@ use Rattle.t1_rules.proofs.Lemmas.Lines.{IsDrawn, line_open, line_token, move_to
 use Rattle.t1_report.specs.Checked.{CheckedFont, step_limit}
 use Rattle.t1_report.specs.Reports.{is_broken, rules_of}
 use Rattle.t1_report.specs.Laws.PassedLines.{PassedLinesBreakNoRule, WatchersMoveOnByLines}
-use Rattle.t1_report.specs.Private.Fitting.{IsFit}
+use Rattle.t1_report.specs.Private.Fitting.{IsFit, IsSteadyIn}
 use Rattle.t1_report.specs.Private.Going.{HasGone, idled}
 use Rattle.t1_report.specs.Private.Units.{IsQuiet, IsRun, executed}
 use Rattle.t1_report.specs.Walks.{turns_of_glyph}
-use Rattle.t1_report.proofs.Broken.{at_step, both_kinds, rules_by, within_limit}
+use Rattle.t1_report.proofs.Broken.{at_step, both_kinds, breaks_neither, rules_by, within_limit}
 use Rattle.t1_report.proofs.GlyphSteps.{take_next}
 use Rattle.t1_report.proofs.PassedNumbers.{EndsBehind, IsTurn, StandsBehind, calm_is_behind_none, ended_view, none_at, stands_more}
 use Rattle.t1_report.proofs.RunSteps.{IsRunAt, IsTold, count_at_end, run_at, told_at, told_end}
@@ -139,19 +140,22 @@ no_component_fault : (components : List Component) (n : ℕ) (before : List Step
 unfolding component_rules
 no_component_fault components n before t no_seac = rw (no_seac) refl
 
-none_at_command : (what : Passing) (font : CheckedFont) (glyph k n : ℕ) (before after : Way) → glyph < length font.value.glyphs
+none_at_command : (what : Passing) (font : CheckedFont) (glyph k n : ℕ) (before after : Way) → has_latest_rules font.edition ≡ false
+    → glyph < length font.value.glyphs
     → (passed : IsCommandPassed what (step_limit font) (steps_of font.value glyph) k before after) → is_seac passed.step.token ≡ false
     → breaks (step_rules font.edition) n (take k (steps_of font.value glyph)) passed.step ≡ false
     → is_broken font (glyph + 1) (k + 1) n ≡ false
-none_at_command what font glyph k n before after there passed no_seac none =
+none_at_command what font glyph k n before after early there passed no_seac none =
     let all : List StepView = steps_of font.value glyph in
     let components = components_of (step_limit font) font.value in
     at_step font (glyph + 1) (k + 1) glyph k n refl refl there
     ∙ within_limit (step_limit font) (rules_of font) n all k passed.near
     ∙ ap (breaks_next (rules_of font) n (take k all)) passed.there
     ∙ ap (λ (rules : List StepRule). breaks rules n (take k all) passed.step) (sym (rules_by font components refl))
-    ∙ sym (both_kinds font.edition components n (take k all) passed.step false false false refl
-    (sym none) (sym (no_component_fault components n (take k all) passed.step no_seac)))
+    ∙ breaks_neither font.edition components (box_of font.value) n (take k all) passed.step
+    (sym (both_kinds font.edition components n (take k all) passed.step false false false refl
+    (sym none) (sym (no_component_fault components n (take k all) passed.step no_seac))))
+    (ap (λ b. b && breaks (drawing_rules (box_of font.value)) n (take k all) passed.step) early)
 
 none_at_line : (edition : Edition) (before : List StepView) (w : Watches) (n : ℕ) (step : StepView) (command : Commands)
     → step.token ≡ Command command → IsLed is_line_command command step.stack → IsCalm w → IsSteady w → WatchesStandFor edition w before
@@ -209,13 +213,13 @@ over_number font glyph n taken w before way there so_far calm passed same =
       ];
     }
 
-over_command : (what : Passing) (font : CheckedFont) (glyph n taken : ℕ) (w after : Watches) (before way : Way) → glyph < length font.value.glyphs
-    → PassedOver font glyph n taken w before → (passed : IsCommandPassed what (step_limit font) (steps_of font.value glyph) (n + taken) before way)
+over_command : (what : Passing) (font : CheckedFont) (glyph n taken : ℕ) (w after : Watches) (before way : Way) → has_latest_rules font.edition ≡ false
+    → glyph < length font.value.glyphs → PassedOver font glyph n taken w before → (passed : IsCommandPassed what (step_limit font) (steps_of font.value glyph) (n + taken) before way)
     → is_seac passed.step.token ≡ false
     → ((r : ℕ) → breaks (step_rules font.edition) r (take (n + taken) (steps_of font.value glyph)) passed.step ≡ false)
     → WatchesStandFor font.edition after (take (n + taken) (steps_of font.value glyph) ++ passed.step ∷ []) → after ≡ moved_on w way
     → PassedOver font glyph n (suc taken) w way
-over_command what font glyph n taken w after before way there so_far passed no_seac none stands same =
+over_command what font glyph n taken w after before way early there so_far passed no_seac none stands same =
     let all : List StepView = steps_of font.value glyph in
     let k : ℕ = n + taken in
     let next : k + 1 ≡ n + suc taken = omega arith in
@@ -228,7 +232,7 @@ over_command what font glyph n taken w after before way there so_far passed no_s
         | inr here ↦
             let at : k ≡ i = omega (arith, here, to) in
             subst (λ j. is_broken font (glyph + 1) (j + 1) r ≡ false) at
-            (none_at_command what font glyph k r before way there passed no_seac (none r))
+            (none_at_command what font glyph k r before way early there passed no_seac (none r))
       ];
     }
 
@@ -249,35 +253,35 @@ move_follows command Open move from = absurd (no_line command move from)
     no_line Vmoveto is line = let no : false ≡ true = line in cc
     no_line _ is line = let no : false ≡ true = is in cc
 
-over_line : (what : Passing) (font : CheckedFont) (glyph n taken : ℕ) (w : Watches) (before way : Way) → glyph < length font.value.glyphs
-    → PassedOver font glyph n taken w before → IsCalm w → IsSteady w
+over_line : (what : Passing) (font : CheckedFont) (glyph n taken : ℕ) (w : Watches) (before way : Way) → has_latest_rules font.edition ≡ false
+    → glyph < length font.value.glyphs → PassedOver font glyph n taken w before → IsCalm w → IsSteady w
     → (passed : IsCommandPassed what (step_limit font) (steps_of font.value glyph) (n + taken) before way)
     → LeadsOn what passed.command passed.step.stack before way → is_line_command passed.command ≡ true → PassedOver font glyph n (suc taken) w way
-over_line what font glyph n taken w before way there so_far calm steady passed leads line =
+over_line what font glyph n taken w before way early there so_far calm steady passed leads line =
     let unclosed : is_closed before.drawn ≡ false = follows_unclosed passed.command before.drawn leads.from in
     let now_calm : IsCalm (moved_on w before) = calm_on w before calm in
     let now_steady : IsSteady (moved_on w before) = steady_on w before unclosed steady in
     let one : Way = way_by passed.command passed.step.stack in
     let no_seac : is_seac passed.step.token ≡ false = ap is_seac passed.token ∙ (line_token passed.command line).seac in
-    over_command what font glyph n taken w (moved_on (moved_on w before) one) before way there so_far passed no_seac
+    over_command what font glyph n taken w (moved_on (moved_on w before) one) before way early there so_far passed no_seac
     (λ r. none_at_line font.edition (take (n + taken) (steps_of font.value glyph)) (moved_on w before) r passed.step passed.command
     passed.token (record { led = line; count = leads.is.count; near = leads.is.near }) now_calm now_steady so_far.stands)
     (stays_at_line font.edition (moved_on w before) (take (n + taken) (steps_of font.value glyph)) passed.step passed.command passed.token
     line now_calm now_steady so_far.stands)
     (moved_by_line w before one unclosed (line_open passed.command line passed.step.stack) ∙ ap (moved_on w) (sym leads.way))
 
-over_move : (what : Passing) (font : CheckedFont) (glyph n taken : ℕ) (w : Watches) (before way : Way) → glyph < length font.value.glyphs
-    → PassedOver font glyph n taken w before → IsCalm w → IsSteady w → IsUndrawn w
+over_move : (what : Passing) (font : CheckedFont) (glyph n taken : ℕ) (w : Watches) (before way : Way) → has_latest_rules font.edition ≡ false
+    → glyph < length font.value.glyphs → PassedOver font glyph n taken w before → IsCalm w → IsSteady w → IsUndrawn w
     → (passed : IsCommandPassed what (step_limit font) (steps_of font.value glyph) (n + taken) before way)
     → LeadsOn what passed.command passed.step.stack before way → is_move_command passed.command ≡ true → PassedOver font glyph n (suc taken) w way
-over_move what font glyph n taken w before way there so_far calm steady undrawn passed leads move =
+over_move what font glyph n taken w before way early there so_far calm steady undrawn passed leads move =
     let none : before.drawn ≡ Nothing = move_follows passed.command before.drawn move leads.from in
     let now_calm : IsCalm (moved_on w before) = calm_on w before calm in
     let now_steady : IsSteady (moved_on w before) = steady_on w before (ap is_closed none) steady in
     let now_undrawn : IsUndrawn (moved_on w before) = undrawn_on w before none undrawn in
     let one : Way = way_by passed.command passed.step.stack in
     let no_seac : is_seac passed.step.token ≡ false = ap is_seac passed.token ∙ (move_token passed.command move).seac in
-    over_command what font glyph n taken w (moved_on (moved_on w before) one) before way there so_far passed no_seac
+    over_command what font glyph n taken w (moved_on (moved_on w before) one) before way early there so_far passed no_seac
     (λ r. none_at_move font.edition (take (n + taken) (steps_of font.value glyph)) (moved_on w before) r passed.step passed.command
     passed.token (record { led = move; count = leads.is.count; near = leads.is.near }) now_calm now_steady now_undrawn so_far.stands)
     (stays_at_move font.edition (moved_on w before) (take (n + taken) (steps_of font.value glyph)) passed.step passed.command passed.token
@@ -296,20 +300,20 @@ led_kind passing.Moves command is =
       | inr move ↦ inr (move, refl)
     ]
 
-over_one : (what : Passing) (font : CheckedFont) (glyph n taken : ℕ) (w : Watches) (before way : Way) → glyph < length font.value.glyphs
-    → PassedOver font glyph n taken w before → IsCalm w → IsSteady w → (what ≡ passing.Moves → IsUndrawn w)
+over_one : (what : Passing) (font : CheckedFont) (glyph n taken : ℕ) (w : Watches) (before way : Way) → has_latest_rules font.edition ≡ false
+    → glyph < length font.value.glyphs → PassedOver font glyph n taken w before → IsCalm w → IsSteady w → (what ≡ passing.Moves → IsUndrawn w)
     → (passed : IsCommandPassed what (step_limit font) (steps_of font.value glyph) (n + taken) before way)
     → GoesOn what passed.command passed.step.stack before way → PassedOver font glyph n (suc taken) w way
-over_one what font glyph n taken w before way there so_far calm steady undrawn passed (inl leads_on) =
+over_one what font glyph n taken w before way early there so_far calm steady undrawn passed (inl leads_on) =
     elim (led_kind what passed.command leads_on.is.led) [
-      | inl line ↦ over_line what font glyph n taken w before way there so_far calm steady passed leads_on line
-      | inr move ↦ over_move what font glyph n taken w before way there so_far calm steady (undrawn move.1) passed leads_on move.0
+      | inl line ↦ over_line what font glyph n taken w before way early there so_far calm steady passed leads_on line
+      | inr move ↦ over_move what font glyph n taken w before way early there so_far calm steady (undrawn move.1) passed leads_on move.0
     ]
-over_one what font glyph n taken w before way there so_far calm steady undrawn passed (inr closes) =
+over_one what font glyph n taken w before way early there so_far calm steady undrawn passed (inr closes) =
     let now_calm : IsCalm (moved_on w before) = calm_on w before calm in
     let now_steady : IsSteady (moved_on w before) = steady_on w before (ap is_closed closes.drawn) steady in
     let token : passed.step.token ≡ Command Closepath = passed.token ∙ ap Command closes.closes in
-    over_command what font glyph n taken w (closed_on (moved_on w before)) before way there so_far passed (ap is_seac token)
+    over_command what font glyph n taken w (closed_on (moved_on w before)) before way early there so_far passed (ap is_seac token)
     (λ r. none_at_close font.edition (take (n + taken) (steps_of font.value glyph)) (moved_on w before) r passed.step token closes.alone
     now_calm now_steady (drawn_by w before closes.drawn) so_far.stands)
     (stays_at_close font.edition (moved_on w before) (take (n + taken) (steps_of font.value glyph)) passed.step token now_calm now_steady
@@ -317,15 +321,15 @@ over_one what font glyph n taken w before way there so_far calm steady undrawn p
     (moved_closed w before closes.drawn ∙ ap (moved_on w) (sym closes.way))
 
 over_step : (font : CheckedFont) (glyph n taken : ℕ) (w : Watches) (what : Passing) (before way : Way) → glyph < length font.value.glyphs
-    → PassedOver font glyph n taken w before → IsCalm w → (leads what ≡ true → IsSteady w) → (what ≡ passing.Moves → IsUndrawn w)
+    → PassedOver font glyph n taken w before → IsCalm w → (leads what ≡ true → IsSteadyIn font.edition w) → (what ≡ passing.Moves → IsUndrawn w)
     → PassesStep what (step_limit font) (steps_of font.value glyph) (n + taken) before way → PassedOver font glyph n (suc taken) w way
 over_step font glyph n taken w what before way there so_far calm steady undrawn (inl number) =
     over_number font glyph n taken w before way there so_far calm number.0 number.1
 over_step font glyph n taken w what before way there so_far calm steady undrawn (inr line) =
-    over_one what font glyph n taken w before way there so_far calm (steady line.0) undrawn line.1 line.1.goes_on
+    over_one what font glyph n taken w before way (steady line.0).0 there so_far calm (steady line.0).1 undrawn line.1 line.1.goes_on
 
 pub passes_over : (font : CheckedFont) (glyph n taken : ℕ) (w : Watches) (what : Passing) (way : Way) → glyph < length font.value.glyphs
-    → (0 < taken → IsCalm w) → (leads what ≡ true → IsSteady w) → (what ≡ passing.Moves → IsUndrawn w) → WatchesStandFor font.edition w (take n (steps_of font.value glyph))
+    → (0 < taken → IsCalm w) → (leads what ≡ true → IsSteadyIn font.edition w) → (what ≡ passing.Moves → IsUndrawn w) → WatchesStandFor font.edition w (take n (steps_of font.value glyph))
     → PassesSteps what (step_limit font) (steps_of font.value glyph) n taken way → PassedOver font glyph n taken w way
 passes_over font glyph n zero w what way there calm steady undrawn st passes =
     let same : n ≡ n + 0 = omega arith in
@@ -365,23 +369,23 @@ unfolding turns_of_glyph
 turns_few font glyph n few = few
 
 -- What fits watchers.
-fit_calm : (what : Passing) (w : Watches) (taken : ℕ) → IsFit what w → (what ≡ passing.Returned → taken ≡ 0) → 0 < taken → IsCalm w
-fit_calm passing.Returned w taken fit told some = absurd (omega (arith, told refl, some))
-fit_calm passing.Numbers w taken fit told some = fit
-fit_calm passing.Lines w taken fit told some = fit.0
-fit_calm passing.Moves w taken fit told some = fit.0
+fit_calm : (edition : Edition) (what : Passing) (w : Watches) (taken : ℕ) → IsFit edition what w → (what ≡ passing.Returned → taken ≡ 0) → 0 < taken → IsCalm w
+fit_calm edition passing.Returned w taken fit told some = absurd (omega (arith, told refl, some))
+fit_calm edition passing.Numbers w taken fit told some = fit
+fit_calm edition passing.Lines w taken fit told some = fit.0
+fit_calm edition passing.Moves w taken fit told some = fit.0
 
-fit_steady : (what : Passing) (w : Watches) → IsFit what w → leads what ≡ true → IsSteady w
-fit_steady passing.Returned w fit is = let no : false ≡ true = is in cc
-fit_steady passing.Numbers w fit is = let no : false ≡ true = is in cc
-fit_steady passing.Lines w fit is = fit.1
-fit_steady passing.Moves w fit is = fit.1.0
+fit_steady : (edition : Edition) (what : Passing) (w : Watches) → IsFit edition what w → leads what ≡ true → IsSteadyIn edition w
+fit_steady edition passing.Returned w fit is = let no : false ≡ true = is in cc
+fit_steady edition passing.Numbers w fit is = let no : false ≡ true = is in cc
+fit_steady edition passing.Lines w fit is = fit.1
+fit_steady edition passing.Moves w fit is = fit.1.0
 
-fit_undrawn : (what : Passing) (w : Watches) → IsFit what w → what ≡ passing.Moves → IsUndrawn w
-fit_undrawn passing.Returned w fit is = let no : false ≡ true = ap leads is in cc
-fit_undrawn passing.Numbers w fit is = let no : false ≡ true = ap leads is in cc
-fit_undrawn passing.Lines w fit is = let no : false ≡ true = ap (λ p. is_led p Rmoveto) is in cc
-fit_undrawn passing.Moves w fit is = fit.1.1
+fit_undrawn : (edition : Edition) (what : Passing) (w : Watches) → IsFit edition what w → what ≡ passing.Moves → IsUndrawn w
+fit_undrawn edition passing.Returned w fit is = let no : false ≡ true = ap leads is in cc
+fit_undrawn edition passing.Numbers w fit is = let no : false ≡ true = ap leads is in cc
+fit_undrawn edition passing.Lines w fit is = let no : false ≡ true = ap (λ p. is_led p Rmoveto) is in cc
+fit_undrawn edition passing.Moves w fit is = fit.1.1
 
 -- After the steps that a machine passed.
 pub record GoneFar (font : CheckedFont) (glyph unit from before : ℕ) (w : Watches) : Type 0 where
@@ -390,7 +394,7 @@ pub record GoneFar (font : CheckedFont) (glyph unit from before : ℕ) (w : Watc
   pub moves : w.flex.moves < most_steps
   pub point : (n : ℕ) × (IsNear n w.flex.point × (n < most_steps))
 
-gone_of : (what : Passing) (font : CheckedFont) (glyph unit from n taken : ℕ) (w : Watches) (way : Way) → IsFit what w → (what ≡ passing.Returned → taken ≡ 0)
+gone_of : (what : Passing) (font : CheckedFont) (glyph unit from n taken : ℕ) (w : Watches) (way : Way) → IsFit font.edition what w → (what ≡ passing.Returned → taken ≡ 0)
     → unit ≡ glyph + 1 → glyph < length font.value.glyphs → n ≤ step_limit font → IsRunAt font glyph n w → IsQuiet font unit from (n + 1)
     → PassesSteps what (step_limit font) (steps_of font.value glyph) n taken way
     → GoneFar font glyph unit from (n + taken) (moved_on w way)
@@ -399,7 +403,7 @@ gone_of what font glyph unit from n taken w way fit told at there near run quiet
     let all : List StepView = steps_of font.value glyph in
     let limit : ℕ = step_limit font in
     let over : PassedOver font glyph n taken w way =
-    passes_over font glyph n taken w what way there (fit_calm what w taken fit told) (fit_steady what w fit) (fit_undrawn what w fit)
+    passes_over font glyph n taken w what way there (fit_calm font.edition what w taken fit told) (fit_steady font.edition what w fit) (fit_undrawn font.edition what w fit)
     (run.seen_are (omega (arith, near, length-take n all))) passes in
     let those : AreThere limit all n taken = are_there what limit all n taken way passes near (turns_few font glyph n run.counted_few) in
     let few : length (take (n + taken) all) < most_steps = omega (arith, those.near, length-take (n + taken) all, limit_few font.edition) in
@@ -429,16 +433,16 @@ of_machine what m font glyph taken way of_font of_glyph passes =
     (subst (λ g. PassesSteps what (limit_of m.edition) (steps_of m.font g) m.counted taken way) of_glyph passes)
 
 pub gone_far : (what : Passing) (m new : MachineView) (answer : TurnValue) (way : Way) (w : Watches) (font : CheckedFont) (glyph unit from : ℕ)
-    → IsFit what w → executed m ≡ font → m.glyph ≡ glyph → unit ≡ glyph + 1 → IsRun m w → IsQuiet font unit from (m.counted + 1)
+    → IsFit m.edition what w → executed m ≡ font → m.glyph ≡ glyph → unit ≡ glyph + 1 → IsRun m w → IsQuiet font unit from (m.counted + 1)
     → m.counted ≤ step_limit font → (asked : IsAskedFar what m new answer way)
     → GoneFar font glyph unit from (m.counted + asked.taken) (moved_on w way)
 gone_far what m new answer way w font glyph unit from fit of_font of_glyph at run quiet near asked =
-    gone_of what font glyph unit from m.counted asked.taken w way fit asked.returned at
+    gone_of what font glyph unit from m.counted asked.taken w way (subst (λ (f : CheckedFont). IsFit f.edition what w) of_font fit) asked.returned at
     (subst (λ (f : CheckedFont). glyph < length f.value.glyphs) of_font (subst (λ g. g < length m.font.glyphs) of_glyph run.there))
     near (run_at font glyph m w of_font of_glyph run) quiet (of_machine what m font glyph asked.taken way of_font of_glyph asked.passed)
 
 -- The same of a machine and its watchers alone.
-pub gone_now : (what : Passing) (m new : MachineView) (answer : TurnValue) (way : Way) (w : Watches) → IsFit what w → IsRun m w
+pub gone_now : (what : Passing) (m new : MachineView) (answer : TurnValue) (way : Way) (w : Watches) → IsFit m.edition what w → IsRun m w
     → m.counted ≤ step_limit (executed m) → (asked : IsAskedFar what m new answer way)
     → GoneFar (executed m) m.glyph (m.glyph + 1) (m.counted + 1) (m.counted + asked.taken) (moved_on w way)
 gone_now what m new answer way w fit run near asked =
@@ -483,7 +487,7 @@ still what none limit steps n (suc taken) way passes =
     by_one before nowhere (inl number) = number.1 ∙ nowhere
     by_one before nowhere (inr command) = let no : false ≡ true = sym none ∙ command.0 in cc
 
-pub has_stayed : (what : Passing) → leads what ≡ false → (m new : MachineView) (answer : TurnValue) (way : Way) (w : Watches) → IsFit what w
+pub has_stayed : (what : Passing) → leads what ≡ false → (m new : MachineView) (answer : TurnValue) (way : Way) (w : Watches) → IsFit m.edition what w
     → IsAskedFar what m new answer way → HasGone m w new w answer
 has_stayed what none m new answer way w fit asked =
     let nowhere = still what none (limit_of m.edition) (steps_of m.font m.glyph) m.counted asked.taken way asked.passed in
@@ -506,7 +510,7 @@ stands_idled font glyph unit from before v other stands = record {
 -- Two laws.
 pub passed_lines_break_none : PassedLinesBreakNoRule
 passed_lines_break_none font glyph from count place n what w way is least less =
-    let over = passes_over font glyph from count w what way is.there (λ any. is.calm) (λ on. is.steady) is.undrawn is.seen is.passed in
+    let over = passes_over font glyph from count w what way is.there (λ any. is.calm) (λ on. (is.earlier, is.steady)) is.undrawn is.seen is.passed in
     let unit_is : glyph + 1 ≡ suc glyph = omega arith in
     let step_is : place + 1 ≡ suc place = omega arith in
     subst (λ unit. is_broken font unit (suc place) n ≡ false) unit_is
@@ -514,7 +518,7 @@ passed_lines_break_none font glyph from count place n what w way is least less =
 
 pub watchers_move_on : WatchersMoveOnByLines
 watchers_move_on font glyph from count what w way is =
-    (passes_over font glyph from count w what way is.there (λ any. is.calm) (λ on. is.steady) is.undrawn is.seen is.passed).stands
+    (passes_over font glyph from count w what way is.there (λ any. is.calm) (λ on. (is.earlier, is.steady)) is.undrawn is.seen is.passed).stands
 
 -- What the machine returned after them: a step, or the first past the limit.
 told_far : (what : Passing) (m new : MachineView) (answer : Answer) (way : Way) (step : Step) (font : CheckedFont) (glyph : ℕ) → executed m ≡ font
@@ -528,13 +532,12 @@ told_far what m new Limit way step font glyph of_font of_glyph on here asked nea
     told_at (behind m (m.counted + asked.taken)) font glyph new.counted step of_font of_glyph near asked.counted (inr (ap limited here ∙ asked.turn))
 
 pub turn_far : (what : Passing) (m new : MachineView) (answer : Answer) (way : Way) (step : Step) (w moved : Watches) (font : CheckedFont) (glyph unit from : ℕ)
-    → IsFit what w → executed m ≡ font → m.glyph ≡ glyph → unit ≡ glyph + 1 → IsRun m w → IsQuiet font unit from (m.counted + 1)
-    → m.counted ≤ step_limit font → is_over answer ≡ false → step_value step ≡ new.step → IsAskedFar what m new (answer_view answer new.step) way
-    → moved ≡ idled (moved_on w way) moved → IsTurn font glyph unit from m.counted new.counted moved step
+    → IsFit m.edition what w → executed m ≡ font → m.glyph ≡ glyph → unit ≡ glyph + 1 → IsRun m w → IsQuiet font unit from (m.counted + 1)
+    → m.counted ≤ step_limit font → is_over answer ≡ false → step_value step ≡ new.step → (asked : IsAskedFar what m new (answer_view answer new.step) way)
+    → moved ≡ idled (moved_on w way) moved → IsTurn font glyph unit from m.counted (m.counted + asked.taken) new.counted moved step
 turn_far what m new answer way step w moved font glyph unit from fit of_font of_glyph at run quiet near on here asked is =
     let gone = gone_far what m new (answer_view answer new.step) way w font glyph unit from fit of_font of_glyph at run quiet near asked in
     record {
-      before = m.counted + asked.taken;
       least = omega arith;
       stands = subst (StandsBehind font glyph unit from (m.counted + asked.taken)) (sym is)
           (stands_idled font glyph unit from (m.counted + asked.taken) (moved_on w way) moved gone.stands);

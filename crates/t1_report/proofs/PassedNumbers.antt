@@ -3,6 +3,7 @@ use Rattle.std.proofs.Common.{◌≡◌, ℕ, ℤ, zero, suc, ◌+◌, ◌-◌, 
 use Rattle.std.proofs.Math.Bool.{and-false}
 use Rattle.std.proofs.lemmas.Bool.{cases_lt}
 use Rattle.t1_char.specs.declared.edition.Edition.{Edition}
+use Rattle.t1_char.specs.Editions.{has_latest_rules}
 use Rattle.t1_char.specs.declared.token.CharToken.TheVariants.{Number}
 use Rattle.t1_char.specs.Arguments.{is_hint_replacement}
 use Rattle.t1_char.specs.Passing.{ArePassed, IsPassed}
@@ -15,6 +16,8 @@ use Rattle.t1_char.specs.declared.machine.Answer.TheVariants.{Ended, Limit}
 use Rattle.t1_char.specs.declared.step.Step.{Step}
 use Rattle.t1_char.specs.Turns.{ended}
 use Rattle.t1_char.proofs.TurnsTaken.{IsOver}
+use Rattle.t1_drawing.specs.DrawingRules.{box_of}
+use Rattle.t1_drawing.proofs.Numbers.{no_fault_at_number as draws_none, stays_at_number as drawing_stays}
 use Rattle.t1_rules.specs.declared.sidebearings.Component.{Component}
 use Rattle.t1_rules.specs.declared.watches.Watches.{Watches}
 use Rattle.t1_rules.specs.Components.{components_of}
@@ -30,7 +33,7 @@ use Rattle.t1_report.specs.Laws.PassedNumbers.{CalmIsBehindNoReplacement, CalmWa
 use Rattle.t1_report.specs.Reports.{is_broken, rules_of}
 use Rattle.t1_report.specs.Private.Units.{IsQuiet}
 use Rattle.t1_report.specs.Walks.{turns_of_glyph}
-use Rattle.t1_report.proofs.Broken.{at_step, both_kinds, rules_by, within_limit}
+use Rattle.t1_report.proofs.Broken.{at_step, both_kinds, breaks_neither, rules_by, within_limit}
 use Rattle.t1_report.proofs.GlyphSteps.{take_next}
 use Rattle.t1_report.proofs.RunSteps.{IsRunAt, IsTold}
 
@@ -78,9 +81,11 @@ none_at font unit glyph k n at there passed none =
     ∙ within_limit (step_limit font) (rules_of font) n all k passed.near
     ∙ ap (breaks_next (rules_of font) n (take k all)) passed.there
     ∙ ap (λ (rules : List StepRule). breaks rules n (take k all) passed.step) (sym (rules_by font components refl))
-    ∙ sym (both_kinds font.edition components n (take k all) passed.step false false false refl
+    ∙ breaks_neither font.edition components (box_of font.value) n (take k all) passed.step
+    (sym (both_kinds font.edition components n (take k all) passed.step false false false refl
     (sym (no_fault_at_number font.edition n (take k all) passed.step is.number is.token is.room none.0 none.1))
-    (sym (no_component_fault components n (take k all) passed.step is.number is.token)))
+    (sym (no_component_fault components n (take k all) passed.step is.number is.token))))
+    (ap (λ b. has_latest_rules font.edition && b) (draws_none (take k all) passed.step is.number is.token (box_of font.value) n) ∙ and-false _)
 
 -- After a number, no rule speaks of the last steps.
 behind_number : (before : List StepView) (t : StepView) (z : ℤ) → t.token ≡ Number z → IsBehindNoReplacement (before ++ t ∷ [])
@@ -128,8 +133,7 @@ pub record StandsBehind (font : CheckedFont) (glyph unit from before : ℕ) (w :
   pub quiet : IsQuiet font unit from (before + 1)
 
 -- The same with all that is known before the step.
-pub record IsTurn (font : CheckedFont) (glyph unit from n counted : ℕ) (w : Watches) (step : Step) : Type 0 where
-  pub before : ℕ
+pub record IsTurn (font : CheckedFont) (glyph unit from n before counted : ℕ) (w : Watches) (step : Step) : Type 0 where
   pub least : n ≤ before
   pub stands : StandsBehind font glyph unit from before w
   pub told : IsTold font glyph before counted step
@@ -145,6 +149,6 @@ pub record EndsBehind (font : CheckedFont) (glyph before counted : ℕ) : Type 0
   pub counted_is : counted ≡ turns_of_glyph font glyph
 
 -- How many more steps can be requested then.
-pub fewer_turns_left : (font : CheckedFont) (glyph unit from n counted : ℕ) (w : Watches) (step : Step) → IsTurn font glyph unit from n counted w step
+pub fewer_turns_left : (font : CheckedFont) (glyph unit from n before counted : ℕ) (w : Watches) (step : Step) → IsTurn font glyph unit from n before counted w step
     → n ≤ step_limit font → step_limit font + 1 - counted < step_limit font + 1 - n
-fewer_turns_left font glyph unit from n counted w step turn near = omega (arith, turn.least, turn.told.counted_is, near)
+fewer_turns_left font glyph unit from n before counted w step turn near = omega (arith, turn.least, turn.told.counted_is, near)

@@ -9,6 +9,7 @@ use Rattle.t1_char.specs.Steps.{StepView, steps_of}
 use Rattle.t1_char.specs.StepValues.{step_view, step_value}
 use Rattle.t1_char.specs.Turns.{MachineView, stepped, ended, limited, turn_at, counted_after}
 use Rattle.t1_char.proofs.TurnsTaken.{Executes, IsStepped, IsLimited, IsOver, same_count, same_turn, stepped_is, limited_is, ended_is}
+use Rattle.t1_drawing.specs.DrawingRules.{box_of}
 use Rattle.t1_report.specs.Checked.{CheckedFont, step_limit}
 use Rattle.t1_rules.specs.declared.mask.Mask.{Mask}
 use Rattle.t1_rules.specs.declared.rule.Rule.{Rule}
@@ -16,10 +17,10 @@ use Rattle.t1_rules.specs.declared.watches.Watches.{Watches}
 use Rattle.t1_rules.specs.Book.{number_of}
 use Rattle.t1_rules.specs.Components.{AreOf, ComponentsView, components_of}
 use Rattle.t1_rules.specs.Mask.{HasNoneAbove, has}
-use Rattle.t1_rules.specs.StepRules.{StepRule, charstring_rules}
+use Rattle.t1_rules.specs.StepRules.{StepRule}
 use Rattle.t1_rules.proofs.Lemmas.Book.{in_book}
 use Rattle.t1_report.specs.declared.walk.found.Found.{Found}
-use Rattle.t1_report.specs.Reports.{is_broken, path_in, path_of_step, rules_of, step_breaks}
+use Rattle.t1_report.specs.Reports.{is_broken, path_in, path_of_step, rules_of, rules_with, step_breaks}
 use Rattle.t1_report.specs.Private.Units.{IsFirst, IsQuiet, IsRun, executed}
 use Rattle.t1_report.specs.Private.Reporting.{HaveSeen}
 use Rattle.t1_report.specs.Walks.{turns_of_glyph}
@@ -58,14 +59,14 @@ turns_limited font glyph n step near is = turns_past (step_limit font) (steps_of
 pub step_agrees : (font : CheckedFont) (unit glyph place : ℕ) (step : Step) (components : ComponentsView) (mask : Mask) → unit ≡ glyph + 1
     → glyph < length font.value.glyphs → IsListed (step_limit font) (steps_of font.value glyph) place step → AreOf font.value components
     → components.edition ≡ font.edition
-    → ((n : ℕ) → has mask n ≡ step_breaks (limit_of components.edition) (charstring_rules components.edition components.components) n
+    → ((n : ℕ) → has mask n ≡ step_breaks (limit_of components.edition) (rules_with components.edition components.components (box_of font.value)) n
     (take place (steps_of font.value glyph) ++ step_view step ∷ []) (length (take place (steps_of font.value glyph))))
     → (n : ℕ) → has mask n ≡ is_broken font unit step.number n
 step_agrees font unit glyph place step components mask at there is are same answers n =
     let all : List StepView = steps_of font.value glyph in
     let those : components.components ≡ components_of (step_limit font) font.value = are ∙ ap (λ e. components_of (limit_of e) font.value) same in
     answers n
-    ∙ ap (λ e. step_breaks (limit_of e) (charstring_rules e components.components) n (take place all ++ step_view step ∷ []) (length (take place all))) same
+    ∙ ap (λ e. step_breaks (limit_of e) (rules_with e components.components (box_of font.value)) n (take place all ++ step_view step ∷ []) (length (take place all))) same
     ∙ ap (λ (rules : List StepRule). step_breaks (step_limit font) rules n (take place all ++ step_view step ∷ []) (length (take place all)))
     (rules_by font components.components those)
     ∙ so_far_decides (step_limit font) (rules_of font) n all place (step_view step) is.there
@@ -223,28 +224,36 @@ run_of font glyph m watches of_font of_glyph there at =
       seen = same.seen_are;
     }
 
+-- The steps with one more, and after the end.
+pub taken_more : (font : CheckedFont) (glyph n counted : ℕ) (step : Step) → IsTold font glyph n counted step
+    → take counted (steps_of font.value glyph) ≡ take n (steps_of font.value glyph) ++ step_view step ∷ []
+taken_more font glyph n counted step told =
+    ap (λ k. take k (steps_of font.value glyph)) told.counted_is ∙ take_next (steps_of font.value glyph) n (step_view step) told.listed.there
+
+pub taken_over : (font : CheckedFont) (glyph n counted : ℕ) → IsOver (step_limit font) (steps_of font.value glyph) n → counted ≡ turns_of_glyph font glyph
+    → take counted (steps_of font.value glyph) ≡ take n (steps_of font.value glyph)
+unfolding turns_of_glyph
+taken_over font glyph n counted over count =
+    let all : List StepView = steps_of font.value glyph in
+    take_all counted all (whole (step_limit font) all n counted over count) ∙ sym (take_all n all over.all)
+  where
+    whole : (limit : ℕ) (all : List StepView) (n counted : ℕ) → IsOver limit all n → counted ≡ length (take limit all) + 1 → length all ≤ counted
+    whole limit all n counted over is = omega (arith, over.few, is, length-take limit all)
+
 -- One step more.
 pub run_more : (font : CheckedFont) (glyph n counted : ℕ) (step : Step) (watches : Watches) → IsTold font glyph n counted step
     → HaveSeen font.edition watches (take n (steps_of font.value glyph) ++ step_view step ∷ []) → IsRunAt font glyph counted watches
 run_more font glyph n counted step watches told seen =
     record {
       counted_few = told.turns;
-      seen_are = subst (HaveSeen font.edition watches)
-          (sym (ap (λ k. take k (steps_of font.value glyph)) told.counted_is ∙ take_next (steps_of font.value glyph) n (step_view step) told.listed.there))
-          seen;
+      seen_are = subst (HaveSeen font.edition watches) (sym (taken_more font glyph n counted step told)) seen;
     }
 
 -- After the end no step was seen more.
 pub run_over : (font : CheckedFont) (glyph n counted : ℕ) (watches : Watches) → IsOver (step_limit font) (steps_of font.value glyph) n
     → counted ≡ turns_of_glyph font glyph → IsRunAt font glyph n watches → IsRunAt font glyph counted watches
-unfolding turns_of_glyph
 run_over font glyph n counted watches over count run =
-    let all : List StepView = steps_of font.value glyph in
-    let same : take counted all ≡ take n all = take_all counted all (whole (step_limit font) all n counted over count) ∙ sym (take_all n all over.all) in
     record {
       counted_few = omega (arith, count);
-      seen_are = subst (HaveSeen font.edition watches) (sym same) run.seen_are;
+      seen_are = subst (HaveSeen font.edition watches) (sym (taken_over font glyph n counted over count)) run.seen_are;
     }
-  where
-    whole : (limit : ℕ) (all : List StepView) (n counted : ℕ) → IsOver limit all n → counted ≡ length (take limit all) + 1 → length all ≤ counted
-    whole limit all n counted over is = omega (arith, over.few, is, length-take limit all)

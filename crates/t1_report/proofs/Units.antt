@@ -224,6 +224,7 @@ begun_part font waivers from first glyph step passed checked (Glyph run) is few 
     unit_is = ap (λ g. g + 1) (sym is.glyph_is);
     font_is = is.font_is;
     runs = is.runs;
+    draws = is.draws;
     passed_are = passed_are;
     few = few;
   },

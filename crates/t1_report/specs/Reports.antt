@@ -1,11 +1,16 @@
 -- The report of a font: its violations by place, each once, numbered from 1.
-use Rattle.std.specs.Prelude.{◌≡◌, ℕ, zero, suc, ◌+◌, ◌/◌, ◌%◌, ◌<◌, ◌⊎◌, ◌==◌, ◌&&◌, nat_lt, if◌then◌else◌, Bool, true, false, Option, Some, None, List, [], length, map, slice_get, ◌||◌, not}
+use Rattle.std.specs.Prelude.{◌≡◌, ℕ, zero, suc, ◌+◌, ◌/◌, ◌%◌, ◌<◌, ◌⊎◌, ◌==◌, ◌&&◌, nat_lt, if◌then◌else◌, Bool, true, false, Option, Some, None, List, [], length, map, slice_get, ◌||◌, not, ◌++◌}
 use Rattle.std.specs.List.{All, AllPairs, Any, range_with_len}
+use Rattle.t1_char.specs.declared.edition.Edition.{Edition}
+use Rattle.t1_char.specs.Editions.{has_latest_rules}
 use Rattle.t1_char.specs.Steps.{StepView, steps_of}
+use Rattle.t1_drawing.specs.declared.font_box.FontBox.{FontBox}
+use Rattle.t1_drawing.specs.DrawingRules.{box_of, drawing_rules}
 use Rattle.t1_font.specs.Fonts.{FontValue, glyph_name}
 use Rattle.t1_rules.specs.declared.rule.Rule.{Rule}
 use Rattle.t1_rules.specs.FontRules.{font_rules, violated}
 use Rattle.t1_rules.specs.declared.rule.Rule.TheVariants.{L01, U01}
+use Rattle.t1_rules.specs.declared.sidebearings.Component.{Component}
 use Rattle.t1_rules.specs.Components.{components_of, glyph_named}
 use Rattle.t1_rules.specs.StepRules.{StepRule, breaks_at, charstring_rules}
 use Rattle.t1_rules.specs.Book.{number_of}
@@ -48,9 +53,15 @@ step_breaks limit rules n steps place =
     if nat_lt place limit then breaks_at rules n steps place
     else (place == limit && nat_lt place (length steps)) && number_of L01 == n
 
--- The charstring rules of a font, whose components of accented characters are looked at up to the limit.
+-- The rules on steps by an edition, where the components of accented characters, and FontBBox, are these: those on charstrings, and where the
+-- edition has them those on the drawing.
+abbrev pub rules_with : Edition → List Component → Option FontBox → List StepRule
+rules_with edition components box =
+    if has_latest_rules edition then charstring_rules edition components ++ drawing_rules box else charstring_rules edition components
+
+-- Those of a font, whose components of accented characters are looked at up to the limit.
 unfoldable pub rules_of : CheckedFont → List StepRule
-rules_of font = charstring_rules font.edition (components_of (step_limit font) font.value)
+rules_of font = rules_with font.edition (components_of (step_limit font) font.value) (box_of font.value)
 
 -- The rule of a number is broken at a unit and a step: in the font at the key and the index of the step, in a
 -- glyph at one of its steps, which count from 1.

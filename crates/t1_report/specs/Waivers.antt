@@ -2,11 +2,11 @@
 use Rattle.std.specs.Prelude.{ℕ, ◌-◌, ◌==◌, ◌&&◌, ◌||◌, nat_le, if◌then◌else◌, Bool, Option, None, Some, List, [], ◌∷◌, ◌++◌, drop, length, option_and_then, option_map, take}
 use Rattle.std.specs.List.{list_any}
 use Rattle.t1_char.specs.declared.edition.Edition.{Edition}
-use Rattle.t1_char.specs.Editions.{has_later_rules}
+use Rattle.t1_char.specs.Editions.{has_later_rules, has_latest_rules}
 use Rattle.t1_font.specs.Keys.{same_name}
 use Rattle.t1_scan.specs.Lengths.{run_len}
 use Rattle.t1_rules.specs.declared.rule.Rule.{Rule}
-use Rattle.t1_rules.specs.declared.rule.Rule.TheVariants.{C01, H05, L01, W03}
+use Rattle.t1_rules.specs.declared.rule.Rule.TheVariants.{C01, H05, H10, L01, P04, W03}
 use Rattle.t1_rules.specs.Book.{number_of, rule_coded}
 
 -- The most bytes of a text of waivers, and so the most waivers.
@@ -36,11 +36,12 @@ abbrev pub without_return : List ℕ → List ℕ
 without_return line =
     if same_name (drop (length line - 1) line) (13 ∷ []) then take (length line - 1) line else line
 
--- A rule on charstrings, or the one on their steps; of those after number 70 where the edition has them.
+-- A rule on charstrings, or the one on their steps; of those after number 70, and on the drawing, where the edition has them.
 abbrev pub is_waivable : Edition → Rule → Bool
 is_waivable edition rule =
     (nat_le (number_of C01) (number_of rule) && nat_le (number_of rule) (number_of L01))
-    || (has_later_rules edition && (nat_le (number_of H05) (number_of rule) && nat_le (number_of rule) (number_of W03)))
+    || ((has_later_rules edition && (nat_le (number_of H05) (number_of rule) && nat_le (number_of rule) (number_of W03)))
+    || (has_latest_rules edition && (nat_le (number_of P04) (number_of rule) && nat_le (number_of rule) (number_of H10))))
 
 abbrev pub waiver_by : Edition → List ℕ → Option Rule → Option Waiver
 waiver_by edition name None = None

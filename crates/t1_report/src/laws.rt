@@ -75,8 +75,8 @@ pub fn passed_numbers_break_no_rule()
     ensures kept { CalmWatchersStandBehindNumbers }
 {}
 
-/// Numbers, lines, curves and closepaths that a machine passes in a path break no rule. The watchers, which don't see
-/// them, keep the same after them, but for the current point and what is drawn: these are moved on by the way of the
+/// Numbers, lines, curves and closepaths that a machine passes in a path break no rule of the first three editions. The
+/// watchers, which don't see them, keep the same after them, but for the current point and what is drawn: these are moved on by the way of the
 /// steps.
 pub fn passed_lines_break_no_rule()
     ensures rules { PassedLinesBreakNoRule }

@@ -81,7 +81,7 @@ impl<'a> Waivers<'a> {
     }
 
     /// The waivers of a text of at most 1,048,576 bytes: a line each, as in `A C05`. The edition says which rules can be
-    /// waived: those from C01 to L01, and from H05 to W03 where it has them.
+    /// waived: those from C01 to L01, and from H05 to W03 and P04 to H10 where it has them.
     pub fn read(alloc: Global, text: &'a [u8], edition: Edition) -> Result<Waivers<'a>, WaiverError>
         requires { length text.now ≤ largest_waivers }
         ensures { IsReadAs (λ w. w) (waivers_of edition text.now) result }
@@ -177,12 +177,13 @@ fn pair_in(text: &[u8], edition: Edition) -> Option<Pair<'_>>
     }
 }
 
-/// Whether an edition waives a rule: one on charstrings, or that on their steps.
+/// Whether an edition waives a rule: one on charstrings, on their steps, or on what they draw.
 fn is_waivable(rule: Rule, edition: Edition) -> bool
     ensures { result ≡ is_waivable edition rule }
 {
     is_from(rule, Rule::C01, Rule::L01)
-        || (edition.has_later_rules() && is_from(rule, Rule::H05, Rule::W03))
+        || ((edition.has_later_rules() && is_from(rule, Rule::H05, Rule::W03))
+            || (edition.has_latest_rules() && is_from(rule, Rule::P04, Rule::H10)))
 }
 
 /// Whether a rule is one of those from the first to the last, by their numbers.

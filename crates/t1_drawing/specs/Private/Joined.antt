@@ -1,11 +1,19 @@
--- What one segment breaks, and what several do.
+-- What one segment breaks, what several do, and what a step does.
 use Rattle.std.specs.Prelude.{◌||◌, false, Option, List}
+use Rattle.t1_char.specs.Steps.{StepView}
 use Rattle.t1_outline.specs.declared.segment.Segment.{Segment}
+use Rattle.t1_outline.specs.Outlines.{drawn}
 use Rattle.t1_drawing.specs.declared.faults.SegmentFaults.{SegmentFaults}
+use Rattle.t1_drawing.specs.declared.glyph.DrawingFaults.{DrawingFaults}
 use Rattle.t1_drawing.specs.declared.font_box.FontBox.{FontBox}
 use Rattle.t1_drawing.specs.Curves.{is_flat, lacks_extreme}
+use Rattle.t1_drawing.specs.DrawingRules.{ends_clockwise, ends_untouched}
+use Rattle.t1_drawing.specs.Drawings.{faults_in}
 use Rattle.t1_drawing.specs.FontBoxes.{is_first_outside}
 use Rattle.t1_drawing.specs.Lines.{goes_straight_on, has_no_length, turns_back}
+use Rattle.t1_drawing.specs.Moves.{moves_again}
+use Rattle.t1_drawing.specs.StemEdges.{sets_adjacent, sets_negative_width}
+use Rattle.t1_drawing.specs.Strokes.{segments_of}
 
 abbrev pub no_faults : SegmentFaults
 no_faults = record {
@@ -35,4 +43,14 @@ faults_at box before s = record {
   goes_straight_on = goes_straight_on before s;
   is_flat = is_flat before s;
   lacks_extreme = lacks_extreme before s;
+}
+
+abbrev pub drawing_faults : Option FontBox → List StepView → StepView → DrawingFaults
+drawing_faults box before step = record {
+  segments = faults_in box (segments_of before) (drawn before step);
+  ends_clockwise = ends_clockwise before step;
+  moves_again = moves_again before step;
+  ends_untouched = ends_untouched before step;
+  sets_adjacent = sets_adjacent before step;
+  sets_negative_width = sets_negative_width step;
 }

@@ -1,10 +1,9 @@
 -- What watchers keep of the segments and the steps that they have seen.
 use Rattle.std.specs.Prelude.{◌≡◌, ◌*◌, ◌≤◌, ◌+ℤ◌, false, true, Option, Some, None, IfSome, List, [], ◌++◌, length, map}
 use Rattle.std.specs.List.{list_all, list_any}
-use Rattle.t1_char.specs.declared.edition.Edition.{Edition}
 use Rattle.t1_char.specs.Steps.{StepView}
 use Rattle.t1_outline.specs.declared.segment.Segment.{Segment}
-use Rattle.t1_outline.specs.Private.Standing.{PenStandsFor}
+use Rattle.t1_outline.specs.Private.Standing.{NibStandsFor}
 use Rattle.t1_rules.specs.Watches.{IsNear, IsWithin}
 use Rattle.t1_drawing.specs.declared.area.Area.{Area}
 use Rattle.t1_drawing.specs.declared.direction.Direction.TheVariants.{Across, Upright}
@@ -56,8 +55,8 @@ pub record TouchesStandFor (watcher : TouchWatcher) (before : List StepView) : T
   pub end : watcher.end ≡ end_of_steps before
   pub has_strokes : watcher.has_strokes ≡ list_any is_stroke (strokes_after [] before)
 
-pub record DrawingStandsFor (edition : Edition) (box : Option FontBox) (watcher : DrawingWatcher) (before : List StepView) : Type 0 where
-  pub pen : PenStandsFor edition watcher.pen before
+pub record DrawingStandsFor (box : Option FontBox) (watcher : DrawingWatcher) (before : List StepView) : Type 0 where
+  pub nib : NibStandsFor watcher.nib before
   pub segments : SegmentsStandFor box watcher.segments (segments_of before)
   pub moves : MovesStandFor watcher.moves before
   pub touches : TouchesStandFor watcher.touches before

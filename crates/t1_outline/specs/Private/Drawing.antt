@@ -5,16 +5,8 @@ use Rattle.t1_char.specs.Steps.{StepView}
 use Rattle.t1_outline.specs.declared.segment.Segment.{Segment}
 use Rattle.t1_outline.specs.declared.segment.Segment.TheVariants.{Move}
 use Rattle.t1_outline.specs.Outlines.{drawn_by, flex_curves, stroke}
-use Rattle.t1_rules.specs.declared.mask.Mask.{Mask}
-use Rattle.t1_rules.specs.declared.rule.Rule.TheVariants.{X01, X03, X04}
 use Rattle.t1_rules.specs.declared.step_rules.flex.Point.{Point}
-use Rattle.t1_rules.specs.Book.{number_of}
-use Rattle.t1_rules.specs.Mask.{has}
 use Rattle.t1_rules.specs.StepRules.Tokens.{closes, is_line, is_move}
-
--- Of these broken rules one spoils a flex.
-abbrev pub spoils : Mask → Bool
-spoils broken = has broken (number_of X01) || (has broken (number_of X03) || has broken (number_of X04))
 
 -- The places of a flex after a step, at most eight.
 abbrev pub places_kept : List Point → Point → StepView → List Point

@@ -3,6 +3,7 @@ use Rattle.std.specs.Prelude.{◌≡◌, ℕ, suc, ◌+◌, ◌<◌, ◌≤◌, 
 use Rattle.t1_char.specs.declared.lines.Passing.{Passing}
 use Rattle.t1_char.specs.declared.lines.Passing.TheVariants as passing
 use Rattle.t1_char.specs.declared.lines.Way.{Way}
+use Rattle.t1_char.specs.Editions.{has_latest_rules}
 use Rattle.t1_char.specs.Lines.{PassesSteps}
 use Rattle.t1_char.specs.Steps.{steps_of}
 use Rattle.t1_rules.specs.declared.watches.Watches.{Watches}
@@ -12,9 +13,10 @@ use Rattle.t1_rules.specs.Watches.{IsCalm}
 use Rattle.t1_report.specs.Checked.{CheckedFont, step_limit}
 use Rattle.t1_report.specs.Reports.{is_broken}
 
--- Watchers that have seen the first steps of a glyph are calm and steady, and a machine passes the next steps, so many: moves only where
--- nothing is drawn.
+-- In an edition without rules on the drawing, watchers that have seen the first steps of a glyph are calm and steady, and a machine passes the
+-- next steps, so many: moves only where nothing is drawn.
 pub record IsPassedInAPath (font : CheckedFont) (glyph from count : ℕ) (what : Passing) (watches : Watches) (way : Way) : Type 0 where
+  pub earlier : has_latest_rules font.edition ≡ false
   pub there : glyph < length font.value.glyphs
   pub calm : IsCalm watches
   pub steady : IsSteady watches

@@ -16,6 +16,6 @@ idled watches other = record watches { idling = other.idling }
 pub record HasGone (machine : MachineView) (watches : Watches) (new : MachineView) (seen : Watches) (answer : TurnValue) : Type 0 where
   pub what : Passing
   pub way : Way
-  pub fit : IsFit what watches
+  pub fit : IsFit machine.edition what watches
   pub asked : IsAskedFar what machine new answer way
   pub moved : seen ≡ idled (moved_on watches way) seen

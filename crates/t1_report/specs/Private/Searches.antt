@@ -11,7 +11,7 @@ use Rattle.t1_report.specs.declared.walk.search.Part.TheVariants.{Font, Glyph, O
 use Rattle.t1_report.specs.declared.walk.search.Search.{Search}
 use Rattle.t1_report.specs.Checked.{CheckedFont, checked}
 use Rattle.t1_report.specs.Reports.{Place, path_in, IsTold, is_told}
-use Rattle.t1_report.specs.Private.Units.{IsFontPlaces, IsRun, font_step, executed}
+use Rattle.t1_report.specs.Private.Units.{IsDrawn, IsFontPlaces, IsRun, font_step, executed}
 use Rattle.t1_report.specs.Walks.{turns_before, first_asked, turns_asked, turns_of_unit}
 use Rattle.t1_rules.specs.declared.rule.Rule.{Rule}
 use Rattle.t1_rules.specs.Book.{number_of}
@@ -71,6 +71,7 @@ pub record IsBegun (font : CheckedFont) (glyph : ℕ) (run : GlyphRun) : Type 0 
   pub glyph_is : run.machine.glyph ≡ glyph
   pub font_is : executed run.machine ≡ font
   pub runs : IsRun run.machine run.watches
+  pub draws : IsDrawn run.machine run.drawing
   pub counted : run.machine.counted ≡ 0
 
 -- The waivers are before a step, or before the first or after the last.
@@ -113,6 +114,7 @@ pub record IsGlyphPart (font : CheckedFont) (from unit passed : ℕ) (run : Glyp
   pub unit_is : unit ≡ run.machine.glyph + 1
   pub font_is : executed run.machine ≡ font
   pub runs : IsRun run.machine run.watches
+  pub draws : IsDrawn run.machine run.drawing
   pub passed_are : passed ≡ turns_before font from unit
   pub few : length font.value.glyphs ≤ most_glyphs
 

@@ -1,6 +1,8 @@
 -- Within one unit: where a rule is first broken, and the state of the places of the font and of the run of a glyph.
 use Rattle.std.specs.Prelude.{◌≡◌, ℕ, ◌+◌, ◌*◌, ◌<◌, ◌≤◌, false, Option, None, Some, length, take}
 use Rattle.t1_char.specs.Steps.{steps_of}
+use Rattle.t1_drawing.specs.declared.glyph.DrawingWatcher.{DrawingWatcher}
+use Rattle.t1_drawing.specs.DrawingRules.{box_of}
 use Rattle.t1_rules.specs.declared.rule.Rule.{Rule}
 use Rattle.t1_rules.specs.Book.{number_of}
 use Rattle.t1_rules.specs.Keys.{places_of, index_count, key_count}
@@ -12,7 +14,7 @@ use Rattle.t1_report.specs.declared.walk.font_places.FontPlaces.{FontPlaces}
 use Rattle.t1_report.specs.Checked.{CheckedFont, checked}
 use Rattle.t1_report.specs.Reports.{is_broken, path_in}
 use Rattle.t1_report.specs.Walks.{turns_of_glyph, turns_of_waiver}
-use Rattle.t1_report.specs.Private.Reporting.{HaveSeen}
+use Rattle.t1_report.specs.Private.Reporting.{HaveDrawn, HaveSeen}
 use Rattle.t1_report.specs.Waivers.{Waiver}
 
 -- No rule is broken at a unit's steps from one on up to another; nor from one on.
@@ -50,6 +52,14 @@ pub record IsRun (machine : MachineView) (watches : Watches) : Type 0 where
   pub there : machine.glyph < length machine.font.glyphs
   pub counted : machine.counted ≤ turns_of_glyph (executed machine) machine.glyph
   pub seen : HaveSeen machine.edition watches (take machine.counted (steps_of machine.font machine.glyph))
+
+-- So has the watcher of the drawing.
+abbrev pub HaveDrawnAt : CheckedFont → ℕ → ℕ → DrawingWatcher → Type 0
+HaveDrawnAt font glyph counted drawing =
+    HaveDrawn font.edition (box_of font.value) drawing (take counted (steps_of font.value glyph))
+
+abbrev pub IsDrawn : MachineView → DrawingWatcher → Type 0
+IsDrawn machine drawing = HaveDrawnAt (executed machine) machine.glyph machine.counted drawing
 
 abbrev pub turns_if_any : CheckedFont → Option Waiver → ℕ
 turns_if_any font None = 0

@@ -235,7 +235,7 @@ fn begin<'a>(
     let last = waivers.len() as u32 + 1;
     if glyph < count {
         match part {
-            Part::Glyph(run) => run.start_again(glyph, edition),
+            Part::Glyph(run) => run.start_again(font, glyph, edition),
             _ => *part = Part::Glyph(GlyphRun::start(font, glyph, edition)),
         }
     } else if glyph == count {

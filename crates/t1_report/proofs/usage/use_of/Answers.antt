@@ -25,6 +25,7 @@ few_found machine watches step font same is at =
 pub loop-found-init : goal.loop-found-init
 loop-found-init c = record {
   run = c.start-run.ensures.run;
+  drawn = c.start-run.ensures.drawn;
   font = c.start-run.ensures.font ∙ ap (λ e. checked c.args.font.now e) c.edition.ensures;
   glyph = c.start-run.ensures.glyph;
   quiet = λ s low. at_no_step (checked c.args.font.now c.args.sidebearings.now.edition) (c.in-Some.glyph + 1) s (number_of c.args.rule) (omega arith)
@@ -39,6 +40,9 @@ overflow_add-glyph c = omega (arith, c.in-Some.ensures.within, c.requires.few)
 
 pub next-requires-clause-run : goal.next-requires-clause-run
 next-requires-clause-run c = c.loop-found.invariant.run
+
+pub next-requires-clause-drawn : goal.next-requires-clause-drawn
+next-requires-clause-drawn c = c.loop-found.invariant.drawn
 
 pub next-requires-clause-sidebearings : goal.next-requires-clause-sidebearings
 next-requires-clause-sidebearings c =
@@ -80,6 +84,7 @@ loop-found-smaller c = omega (
 pub loop-found-preserved : goal.loop-found-preserved
 loop-found-preserved c = record {
   run = c.in-Some-next.ensures.run;
+  drawn = c.in-Some-next.ensures.drawn;
   font = c.in-Some-next.ensures.font ∙ c.loop-found.invariant.font;
   glyph = c.in-Some-next.ensures.glyph ∙ c.loop-found.invariant.glyph;
   quiet = unused_more (checked c.args.font.now c.args.sidebearings.now.edition) (executed c.loop-found.run.machine) c.in-Some.glyph

@@ -1,6 +1,6 @@
 use Rattle.std.proofs.Common.{◌≡◌, nat_lt, ◌+◌, ◌≤◌, ◌++◌, ◌∷◌, [], take, refl, ap, sym, subst, ◌∙◌, arith}
 use Rattle.std.proofs.lemmas.Bool.{ltb-false, ltb-true, not-false, not-true}
-use Rattle.t1_char.specs.Editions.{limit_of}
+use Rattle.t1_char.specs.Editions.{has_latest_rules, limit_of}
 use Rattle.t1_char.specs.Steps.{steps_of}
 use Rattle.t1_char.specs.StepValues.{step_view}
 use Rattle.t1_report.proofs.GlyphSteps.{is_next_by}
@@ -8,9 +8,11 @@ use Rattle.t1_rules.specs.Steady.{moved_on}
 use Rattle.t1_report.proofs.PassedLines.{GoneFar, ended_far, gone_far, past_far, stands_idled, turn_far}
 use Rattle.t1_report.proofs.PassedNumbers.{EndsBehind, IsTurn, StandsBehind, fewer_turns_left}
 use Rattle.t1_report.proofs.RunSteps.{found_at, quiet_limit, quiet_more, quiet_over, run_at, run_more, run_of, run_over, step_agrees, turns_at_limit}
+use Rattle.t1_drawing.specs.DrawingRules.{box_of}
 use Rattle.t1_report.specs.Checked.{CheckedFont, step_limit}
 use Rattle.t1_report.specs.Private.Units.{IsQuiet, executed}
-use Rattle.t1_report.specs.Private.Reporting.{HaveSeen}
+use Rattle.t1_report.specs.Private.Reporting.{HaveDrawn, HaveSeen}
+use Rattle.t1_report.proofs.DrawnRuns.{drawn_far, drawn_more, drawn_of, drawn_over}
 use Rattle.t1_report.proofs.walk.glyph_run.next_broken.Goals as goal
 
 -- The glyph is over.
@@ -61,6 +63,27 @@ returns-then-is_over-clause-run c =
     (c.go_on-answer.ensures.glyph ∙ c.loop-on.invariant.glyph) c.requires.run.there
     (run_over font glyph (c.loop-on.machine.counted + c.go_on-answer.ensures.asked.asked.taken) c.go_on-answer.new.machine.counted c.go_on-answer.new.watches (ended c).over (ended c).counted_is (stands c).run)
 
+pub returns-then-is_over-clause-drawn : goal.returns-then-is_over-clause-drawn
+returns-then-is_over-clause-drawn c =
+    let font = executed c.args.machine.now in
+    let glyph = c.args.machine.now.glyph in
+    let n = c.loop-on.machine.counted + c.go_on-answer.ensures.asked.asked.taken in
+    drawn_of font glyph c.go_on-answer.new.machine c.loop-on.drawing
+    (c.go_on-answer.ensures.font ∙ c.loop-on.invariant.font)
+    (c.go_on-answer.ensures.glyph ∙ c.loop-on.invariant.glyph)
+    (drawn_over font glyph n c.go_on-answer.new.machine.counted c.loop-on.drawing (ended c).over (ended c).counted_is
+    (drawn_far c.go_on-answer.ensures.asked.what c.loop-on.machine c.go_on-answer.new.machine _ c.go_on-answer.ensures.asked.way c.loop-on.watches
+    c.loop-on.drawing font glyph c.go_on-answer.ensures.asked.fit c.loop-on.invariant.font c.loop-on.invariant.glyph
+    (c.loop-on.invariant.near c.loop-on-test.true) c.loop-on.invariant.drawn c.go_on-answer.ensures.asked.asked))
+
+-- What is drawn stands for a font and its edition.
+pub go_on-answer-requires-clause-draws : goal.go_on-answer-requires-clause-draws
+go_on-answer-requires-clause-draws c =
+    c.requires.draws ∙ sym (ap (λ (f : CheckedFont). has_latest_rules f.edition) c.loop-on.invariant.font)
+
+pub broken_at-rules-requires-clause-draws : goal.broken_at-rules-requires-clause-draws
+broken_at-rules-requires-clause-draws c = c.requires.draws ∙ ap has_latest_rules (sym c.requires.edition)
+
 -- The step, and that it is the next one for the watchers.
 pub broken_at-rules-requires-clause-next : goal.broken_at-rules-requires-clause-next
 broken_at-rules-requires-clause-next c =
@@ -73,10 +96,17 @@ broken_at-rules-requires-clause-next c =
     c.go_on-answer.ensures.asked.fit c.loop-on.invariant.font c.loop-on.invariant.glyph c.requires.unit c.loop-on.invariant.run
     c.loop-on.invariant.quiet
     (c.loop-on.invariant.near c.loop-on-test.true)
-    (sym c.is_over.ensures ∙ c.if-is_over.false) c.current-step.ensures c.go_on-answer.ensures.asked.asked c.go_on-answer.ensures.asked.moved in (
-      take turn.before all,
-      is_next_by c.args.sidebearings.now.edition font.edition c.requires.edition all c.go_on-answer.new.watches turn.before
-          c.current-step.result.now turn.told.listed turn.stands.run.seen_are,
+    (sym c.is_over.ensures ∙ c.if-is_over.false) c.current-step.ensures c.go_on-answer.ensures.asked.asked c.go_on-answer.ensures.asked.moved in
+    let n = c.loop-on.machine.counted + c.go_on-answer.ensures.asked.asked.taken in
+    let drawn = drawn_far c.go_on-answer.ensures.asked.what c.loop-on.machine c.go_on-answer.new.machine _ c.go_on-answer.ensures.asked.way c.loop-on.watches
+    c.loop-on.drawing font c.args.machine.now.glyph c.go_on-answer.ensures.asked.fit c.loop-on.invariant.font c.loop-on.invariant.glyph
+    (c.loop-on.invariant.near c.loop-on-test.true) c.loop-on.invariant.drawn c.go_on-answer.ensures.asked.asked in (
+      box_of font.value,
+      (
+        take n all,
+        is_next_by c.args.sidebearings.now.edition font.edition c.requires.edition (box_of font.value) all c.go_on-answer.new.watches c.loop-on.drawing n
+            c.current-step.result.now turn.told.listed turn.stands.run.seen_are drawn,
+      ),
     )
 
 pub broken_at-rules-requires-clause-past : goal.broken_at-rules-requires-clause-past
@@ -89,7 +119,7 @@ broken_at-rules-requires-clause-past c =
 
 -- A rule is broken at it.
 abbrev turn_broken : (c : goal.After-copy_of) → IsTurn (executed c.args.machine.now) c.args.machine.now.glyph c.args.unit (c.args.machine.now.counted + 1)
-    c.loop-on.machine.counted c.go_on-answer.new.machine.counted c.go_on-answer.new.watches c.current-step.result.now
+    c.loop-on.machine.counted (c.loop-on.machine.counted + c.go_on-answer.ensures.asked.asked.taken) c.go_on-answer.new.machine.counted c.go_on-answer.new.watches c.current-step.result.now
 turn_broken c =
     turn_far c.go_on-answer.ensures.asked.what c.loop-on.machine c.go_on-answer.new.machine c.go_on-answer.result c.go_on-answer.ensures.asked.way c.current-step.result.now
     c.loop-on.watches c.go_on-answer.new.watches
@@ -104,13 +134,16 @@ returns-then-has_rules-clause-found c =
     let font = executed c.args.machine.now in
     let glyph = c.args.machine.now.glyph in
     let turn = turn_broken c in
-    let n = turn.before in
+    let n = c.loop-on.machine.counted + c.go_on-answer.ensures.asked.asked.taken in
     let step = c.current-step.result.now in
-    let next = is_next_by c.args.sidebearings.now.edition font.edition c.requires.edition (steps_of font.value glyph) c.go_on-answer.new.watches n step
-    turn.told.listed turn.stands.run.seen_are in
+    let drawn = drawn_far c.go_on-answer.ensures.asked.what c.loop-on.machine c.go_on-answer.new.machine _ c.go_on-answer.ensures.asked.way c.loop-on.watches
+    c.loop-on.drawing font glyph c.go_on-answer.ensures.asked.fit c.loop-on.invariant.font c.loop-on.invariant.glyph
+    (c.loop-on.invariant.near c.loop-on-test.true) c.loop-on.invariant.drawn c.go_on-answer.ensures.asked.asked in
+    let next = is_next_by c.args.sidebearings.now.edition font.edition c.requires.edition (box_of font.value) (steps_of font.value glyph)
+    c.go_on-answer.new.watches c.loop-on.drawing n step turn.told.listed turn.stands.run.seen_are drawn in
     let agrees = step_agrees font c.args.unit glyph n step c.args.sidebearings.now c.broken_at-rules.result c.requires.unit c.requires.run.there
     turn.told.listed c.requires.sidebearings c.requires.edition
-    (λ k. c.broken_at-rules.ensures.broken (take n (steps_of font.value glyph)) next k) in
+    (λ k. c.broken_at-rules.ensures.broken (box_of font.value) (take n (steps_of font.value glyph)) next k) in
     found_at font c.args.unit glyph (c.args.machine.now.counted + 1) n step _ c.requires.run.there c.requires.unit turn.told.listed
     (omega (arith, c.loop-on.invariant.least, turn.least)) turn.stands.quiet
     refl refl c.copy_of.ensures agrees
@@ -123,20 +156,42 @@ returns-then-has_rules-clause-run c =
     let font = executed c.args.machine.now in
     let glyph = c.args.machine.now.glyph in
     let turn = turn_broken c in
-    let n = turn.before in
+    let n = c.loop-on.machine.counted + c.go_on-answer.ensures.asked.asked.taken in
     let step = c.current-step.result.now in
-    let next = is_next_by c.args.sidebearings.now.edition font.edition c.requires.edition (steps_of font.value glyph) c.go_on-answer.new.watches n step
-    turn.told.listed turn.stands.run.seen_are in
+    let drawn = drawn_far c.go_on-answer.ensures.asked.what c.loop-on.machine c.go_on-answer.new.machine _ c.go_on-answer.ensures.asked.way c.loop-on.watches
+    c.loop-on.drawing font glyph c.go_on-answer.ensures.asked.fit c.loop-on.invariant.font c.loop-on.invariant.glyph
+    (c.loop-on.invariant.near c.loop-on-test.true) c.loop-on.invariant.drawn c.go_on-answer.ensures.asked.asked in
+    let next = is_next_by c.args.sidebearings.now.edition font.edition c.requires.edition (box_of font.value) (steps_of font.value glyph)
+    c.go_on-answer.new.watches c.loop-on.drawing n step turn.told.listed turn.stands.run.seen_are drawn in
     run_of font glyph c.go_on-answer.new.machine c.broken_at-rules.new.watches
     (c.go_on-answer.ensures.font ∙ c.loop-on.invariant.font)
     (c.go_on-answer.ensures.glyph ∙ c.loop-on.invariant.glyph) c.requires.run.there
     (run_more font glyph n c.go_on-answer.new.machine.counted step c.broken_at-rules.new.watches turn.told
     (subst (λ e. HaveSeen e c.broken_at-rules.new.watches (take n (steps_of font.value glyph) ++ step_view step ∷ [])) c.requires.edition
-    (c.broken_at-rules.ensures.seen (take n (steps_of font.value glyph)) next)))
+    (c.broken_at-rules.ensures.seen (box_of font.value) (take n (steps_of font.value glyph)) next)))
+
+pub returns-then-has_rules-clause-drawn : goal.returns-then-has_rules-clause-drawn
+returns-then-has_rules-clause-drawn c =
+    let font = executed c.args.machine.now in
+    let glyph = c.args.machine.now.glyph in
+    let turn = turn_broken c in
+    let n = c.loop-on.machine.counted + c.go_on-answer.ensures.asked.asked.taken in
+    let step = c.current-step.result.now in
+    let drawn = drawn_far c.go_on-answer.ensures.asked.what c.loop-on.machine c.go_on-answer.new.machine _ c.go_on-answer.ensures.asked.way c.loop-on.watches
+    c.loop-on.drawing font glyph c.go_on-answer.ensures.asked.fit c.loop-on.invariant.font c.loop-on.invariant.glyph
+    (c.loop-on.invariant.near c.loop-on-test.true) c.loop-on.invariant.drawn c.go_on-answer.ensures.asked.asked in
+    let next = is_next_by c.args.sidebearings.now.edition font.edition c.requires.edition (box_of font.value) (steps_of font.value glyph)
+    c.go_on-answer.new.watches c.loop-on.drawing n step turn.told.listed turn.stands.run.seen_are drawn in
+    drawn_of font glyph c.go_on-answer.new.machine c.broken_at-rules.new.drawing
+    (c.go_on-answer.ensures.font ∙ c.loop-on.invariant.font)
+    (c.go_on-answer.ensures.glyph ∙ c.loop-on.invariant.glyph)
+    (drawn_more font glyph n c.go_on-answer.new.machine.counted step c.broken_at-rules.new.drawing turn.told
+    (subst (λ e. HaveDrawn e (box_of font.value) c.broken_at-rules.new.drawing (take n (steps_of font.value glyph) ++ step_view step ∷ [])) c.requires.edition
+    (c.broken_at-rules.ensures.drawn (box_of font.value) (take n (steps_of font.value glyph)) next)))
 
 -- No rule is broken at it.
 abbrev turn_quiet : (c : goal.Else-has_rules) → IsTurn (executed c.args.machine.now) c.args.machine.now.glyph c.args.unit (c.args.machine.now.counted + 1)
-    c.loop-on.machine.counted c.go_on-answer.new.machine.counted c.go_on-answer.new.watches c.current-step.result.now
+    c.loop-on.machine.counted (c.loop-on.machine.counted + c.go_on-answer.ensures.asked.asked.taken) c.go_on-answer.new.machine.counted c.go_on-answer.new.watches c.current-step.result.now
 turn_quiet c =
     turn_far c.go_on-answer.ensures.asked.what c.loop-on.machine c.go_on-answer.new.machine c.go_on-answer.result c.go_on-answer.ensures.asked.way c.current-step.result.now
     c.loop-on.watches c.go_on-answer.new.watches
@@ -157,7 +212,7 @@ past_is c =
 pub loop-on-smaller : goal.loop-on-smaller
 loop-on-smaller c =
     fewer_turns_left (executed c.args.machine.now) c.args.machine.now.glyph c.args.unit (c.args.machine.now.counted + 1) c.loop-on.machine.counted
-    c.go_on-answer.new.machine.counted c.go_on-answer.new.watches c.current-step.result.now (turn_quiet c)
+    (c.loop-on.machine.counted + c.go_on-answer.ensures.asked.asked.taken) c.go_on-answer.new.machine.counted c.go_on-answer.new.watches c.current-step.result.now (turn_quiet c)
     (c.loop-on.invariant.near c.loop-on-test.true)
 
 pub loop-on-preserved : goal.loop-on-preserved
@@ -165,20 +220,27 @@ loop-on-preserved c =
     let font = executed c.args.machine.now in
     let glyph = c.args.machine.now.glyph in
     let turn = turn_quiet c in
-    let n = turn.before in
+    let n = c.loop-on.machine.counted + c.go_on-answer.ensures.asked.asked.taken in
     let step = c.current-step.result.now in
-    let next = is_next_by c.args.sidebearings.now.edition font.edition c.requires.edition (steps_of font.value glyph) c.go_on-answer.new.watches n step
-    turn.told.listed turn.stands.run.seen_are in
+    let drawn = drawn_far c.go_on-answer.ensures.asked.what c.loop-on.machine c.go_on-answer.new.machine _ c.go_on-answer.ensures.asked.way c.loop-on.watches
+    c.loop-on.drawing font glyph c.go_on-answer.ensures.asked.fit c.loop-on.invariant.font c.loop-on.invariant.glyph
+    (c.loop-on.invariant.near c.loop-on-test.true) c.loop-on.invariant.drawn c.go_on-answer.ensures.asked.asked in
+    let next = is_next_by c.args.sidebearings.now.edition font.edition c.requires.edition (box_of font.value) (steps_of font.value glyph)
+    c.go_on-answer.new.watches c.loop-on.drawing n step turn.told.listed turn.stands.run.seen_are drawn in
     let agrees = step_agrees font c.args.unit glyph n step c.args.sidebearings.now c.broken_at-rules.result c.requires.unit c.requires.run.there
     turn.told.listed c.requires.sidebearings c.requires.edition
-    (λ k. c.broken_at-rules.ensures.broken (take n (steps_of font.value glyph)) next k) in
+    (λ k. c.broken_at-rules.ensures.broken (box_of font.value) (take n (steps_of font.value glyph)) next k) in
     let of_font = c.go_on-answer.ensures.font ∙ c.loop-on.invariant.font in
     let of_glyph = c.go_on-answer.ensures.glyph ∙ c.loop-on.invariant.glyph in
     record {
       run = run_of font glyph c.go_on-answer.new.machine c.broken_at-rules.new.watches of_font of_glyph c.requires.run.there
           (run_more font glyph n c.go_on-answer.new.machine.counted step c.broken_at-rules.new.watches turn.told
           (subst (λ e. HaveSeen e c.broken_at-rules.new.watches (take n (steps_of font.value glyph) ++ step_view step ∷ [])) c.requires.edition
-          (c.broken_at-rules.ensures.seen (take n (steps_of font.value glyph)) next)));
+          (c.broken_at-rules.ensures.seen (box_of font.value) (take n (steps_of font.value glyph)) next)));
+      drawn = drawn_of font glyph c.go_on-answer.new.machine c.broken_at-rules.new.drawing of_font of_glyph
+          (drawn_more font glyph n c.go_on-answer.new.machine.counted step c.broken_at-rules.new.drawing turn.told
+          (subst (λ e. HaveDrawn e (box_of font.value) c.broken_at-rules.new.drawing (take n (steps_of font.value glyph) ++ step_view step ∷ [])) c.requires.edition
+          (c.broken_at-rules.ensures.drawn (box_of font.value) (take n (steps_of font.value glyph)) next)));
       font = of_font;
       glyph = of_glyph;
       quiet = subst (λ k. IsQuiet font c.args.unit (c.args.machine.now.counted + 1) (k + 1)) (sym turn.told.counted_is)
