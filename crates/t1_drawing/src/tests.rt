@@ -6,8 +6,9 @@ ghost use Rattle.t1_rules.specs.Watches.{IsNear};
 ghost use Rattle.t1_drawing.specs.Bounds.{CanBeDrawn, IsDrawnNear, most_ways};
 ghost use Rattle.t1_drawing.specs.Private.Standing.{SegmentsStandFor};
 
+use crate::faults::SegmentFaults;
+use crate::font_box::FontBox;
 use crate::segments::SegmentWatcher;
-use crate::{FontBox, SegmentFaults};
 use t1_outline::Segment;
 use t1_outline::Segment::{Close, Curve, Line, Move};
 use t1_rules::Point;

@@ -2,7 +2,7 @@
 use Rattle.std.proofs.Common.{◌≡◌, ℕ, zero, suc, ◌/◌, ◌%◌, ◌==◌, ◌&&◌, ◌+◌, not, nat_lt, if◌then◌else◌, Bool, true, false, Option, Some, None, List, [], length, slice_get, refl, sym, ap, ◌∙◌}
 use Rattle.t1_char.specs.Editions.{has_later_rules}
 use Rattle.t1_char.specs.Steps.{StepView, steps_of}
-use Rattle.t1_font.specs.Fonts.{FontValue, glyph_name}
+use Rattle.t1_font.specs.Fonts.{glyph_name}
 use Rattle.t1_font.specs.Laws.Notes.{unnoted}
 use Rattle.t1_rules.specs.declared.rule.Rule.TheVariants.{U01}
 use Rattle.t1_rules.specs.Book.{number_of}

@@ -17,7 +17,7 @@ use Rattle.t1_char.specs.declared.step.Step.{Step}
 use Rattle.t1_char.specs.Turns.{ended}
 use Rattle.t1_char.proofs.TurnsTaken.{IsOver}
 use Rattle.t1_drawing.specs.DrawingRules.{box_of}
-use Rattle.t1_drawing.proofs.Numbers.{no_fault_at_number as draws_none, stays_at_number as drawing_stays}
+use Rattle.t1_drawing.proofs.Numbers.{no_fault_at_number as draws_none}
 use Rattle.t1_rules.specs.declared.sidebearings.Component.{Component}
 use Rattle.t1_rules.specs.declared.watches.Watches.{Watches}
 use Rattle.t1_rules.specs.Components.{components_of}

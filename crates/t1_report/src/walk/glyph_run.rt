@@ -91,9 +91,23 @@ impl<'a> GlyphRun<'a> {
     {
         // Each arm has a loop of its own, in which no test of the edition is left.
         if sidebearings.edition().has_latest_rules() {
-            next_broken(&mut self.machine, &mut self.watches, &mut self.drawing, sidebearings, true, unit)
+            next_broken(
+                &mut self.machine,
+                &mut self.watches,
+                &mut self.drawing,
+                sidebearings,
+                true,
+                unit,
+            )
         } else {
-            next_broken(&mut self.machine, &mut self.watches, &mut self.drawing, sidebearings, false, unit)
+            next_broken(
+                &mut self.machine,
+                &mut self.watches,
+                &mut self.drawing,
+                sidebearings,
+                false,
+                unit,
+            )
         }
     }
 }
