@@ -72,6 +72,16 @@ const CURVES: &[Drawn] = &[
         "A 20 H08",
     ),
     (
+        "112 20 vstem 100 100 rmoveto 12 10 -22 10 -33 10 rrcurveto -30 vlineto closepath endchar",
+        "",
+        "",
+    ),
+    (
+        "113 20 vstem 100 100 rmoveto 12 10 -22 10 -33 10 rrcurveto -30 vlineto closepath endchar",
+        "",
+        "A 20 H08",
+    ),
+    (
         "150 10 hstem 100 100 rmoveto 100 hlineto 0 50 -50 50 -50 0 rrcurveto closepath endchar",
         "",
         "A 20 H08",
