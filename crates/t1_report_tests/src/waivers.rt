@@ -143,15 +143,17 @@ fn later_rules_are_waived_from_the_third_edition_on(rt: HostRuntime) -> Result<(
 
 /// Waivers of rules after number 93: the fourth edition has those on what is drawn.
 const LATEST: &[(&[u8], Option<&[u8]>)] = &[
-    (
-        b"A P04\nA P05\nA P06\nA P07",
-        Some(b"A P04|A P05|A P06|A P07|"),
-    ),
-    (
-        b"A P08\nA P09\nA P10\nA P11",
-        Some(b"A P08|A P09|A P10|A P11|"),
-    ),
-    (b"A H08\nA H09\nA H10", Some(b"A H08|A H09|A H10|")),
+    (b"A P04", Some(b"A P04|")),
+    (b"A P05", Some(b"A P05|")),
+    (b"A P06", Some(b"A P06|")),
+    (b"A P07", Some(b"A P07|")),
+    (b"A P08", Some(b"A P08|")),
+    (b"A P09", Some(b"A P09|")),
+    (b"A P10", Some(b"A P10|")),
+    (b"A P11", Some(b"A P11|")),
+    (b"A H08", Some(b"A H08|")),
+    (b"A H09", Some(b"A H09|")),
+    (b"A H10", Some(b"A H10|")),
     (b"A P12", None),
     (b"A H11", None),
 ];
