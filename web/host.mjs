@@ -14,7 +14,7 @@ const KEYS = {
 };
 
 // How many rules and refusals there are.
-const CODES = 101 + 15;
+const CODES = 112 + 15;
 
 // The forms of a report: the export that hands it over, its words for the form, and how many bytes are kept between two calls. Of a document
 // these have a count of 8 bytes for each code.

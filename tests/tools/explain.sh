@@ -41,7 +41,7 @@ for code in F01 Z11 C09 GE02 K07 L01 U01 E01 E05 E15; do
     fi
 done
 wanted <<'END'
-116
+127
 --
 END
 try 'the list of rules and refusals' 0 sh -c "'$explain' | wc -l | tr -d ' '"

@@ -1114,6 +1114,127 @@ fn f29() -> &'static Page {
     &F29
 }
 
+static P04: Page = Page {
+    code: "P04",
+    anchor: "p04-point-outside-fontbbox",
+    title: "point outside FontBBox",
+    text: "Level *should* (Type 1 Format, chapter 2): a rasteriser may cut the glyph off there.\n\nFontBBox is the box that encloses all glyphs, and a rasteriser may reserve room by it. The rule looks at the points where lines and curves end. A point\na unit or more outside the box breaks it, and one less than a unit outside doesn't. Moves and control points don't count. A glyph is reported\nonce, at its first such point.\n\nNothing is compared where FontBBox isn't four numbers (F16), has its corners exchanged\n(F17), or is `{0 0 0 0}`.\n\nHere the box ends at x 1000, and the first line of the glyph at 1001.\n\n    A: 0 500 hsbw 950 100 rmoveto 51 hlineto 100 vlineto -51 hlineto closepath endchar\n    1: glyph A - 8 P04 point outside FontBBox\n\nMended:\n\n    /FontBBox {0 0 1001 1000} def\n\nCure: write a FontBBox that encloses all glyphs; or mend the point, if a digit or a sign of it is wrong.\n\nTo find the step: `t1disasm FONT TEXT`, of Debian's t1utils, writes dictionaries and charstrings as text, and\n`t1asm --pfb TEXT FONT` makes the font of it; where lenIV is -1 it leaves charstrings raw. Glyph A is below `/A {`, the Subr of PATH `5>6` below\n`dup 6 {`. `t1check --trace A FONT` numbers what is executed, Subrs too, as STEP does.",
+};
+
+fn p04() -> &'static Page {
+    &P04
+}
+
+static P05: Page = Page {
+    code: "P05",
+    anchor: "p05-outline-runs-clockwise",
+    title: "outline runs clockwise",
+    text: "Level *should* (Type 1 Format, chapter 3): what goes by the direction of paths, as making strokes bolder, does the opposite.\n\nIn a Type 1 font outer contours run anticlockwise, and inner ones, as that of `o`, clockwise: black is to the left. Mostly such an outline was taken\nfrom a TrueType font, where it is the other way round.\n\nThe rule asks for the whole glyph. The area of a subpath is above 0 if it runs anticlockwise, and below 0 if it runs clockwise. The rule is broken if\nthe sum of all is below 0. So one wrong contour among right ones may be missed.\n\n- A curve counts by its own area, not by that of its chord.\n- An open subpath counts as closed by a straight line.\n- A glyph with a coordinate past 32000 or -32000 isn't judged. Control points and moves count there too.\n\nHere a square goes up first.\n\n    A: 0 500 hsbw 100 100 rmoveto 100 vlineto 100 hlineto -100 vlineto closepath endchar\n    1: glyph A - 14 P05 outline runs clockwise\n\nMended:\n\n    A: 0 500 hsbw 100 100 rmoveto 100 hlineto 100 vlineto -100 hlineto closepath endchar\n\nCure: write the points of each path in the opposite order. Font editors do so, as FontForge by *Element > Correct Direction*.\n\nTo find the step: `t1disasm FONT TEXT`, of Debian's t1utils, writes dictionaries and charstrings as text, and\n`t1asm --pfb TEXT FONT` makes the font of it; where lenIV is -1 it leaves charstrings raw. Glyph A is below `/A {`, the Subr of PATH `5>6` below\n`dup 6 {`. `t1check --trace A FONT` numbers what is executed, Subrs too, as STEP does.",
+};
+
+fn p05() -> &'static Page {
+    &P05
+}
+
+static P06: Page = Page {
+    code: "P06",
+    anchor: "p06-segment-of-no-length",
+    title: "segment of no length",
+    text: "Level *tidy* (Type 1 Format, chapter 3): nothing is drawn by it.\n\nAll points of a line or a curve are one point, the one where it begins too. Mostly two points became one by rounding. A curve that comes back to where\nit began, by other points, has a length. The line that closepath draws isn't judged.\n\n    A: 0 500 hsbw 100 100 rmoveto 0 hlineto 100 hlineto 100 vlineto closepath endchar\n    1: glyph A - 8 P06 segment of no length\n\nMended:\n\n    A: 0 500 hsbw 100 100 rmoveto 100 hlineto 100 vlineto closepath endchar\n\nCure: remove the line or the curve.\n\nTo find the step: `t1disasm FONT TEXT`, of Debian's t1utils, writes dictionaries and charstrings as text, and\n`t1asm --pfb TEXT FONT` makes the font of it; where lenIV is -1 it leaves charstrings raw. Glyph A is below `/A {`, the Subr of PATH `5>6` below\n`dup 6 {`. `t1check --trace A FONT` numbers what is executed, Subrs too, as STEP does.",
+};
+
+fn p06() -> &'static Page {
+    &P06
+}
+
+static P07: Page = Page {
+    code: "P07",
+    anchor: "p07-line-turns-back",
+    title: "line turns back",
+    text: "Level *tidy* (Type 1 Format, chapter 3): the path has a spike without width.\n\nTwo lines, one right after the other, are on one straight line, and the second leads back. Both have a length. A move, a curve or closepath between two\nlines parts them. A stem, a hint replacement, setcurrentpoint or a flex that draws nothing doesn't. The line that closepath draws isn't judged.\n\nHere the second line leads back by 50.\n\n    A: 0 500 hsbw 100 100 rmoveto 100 hlineto -50 hlineto 100 vlineto closepath endchar\n    1: glyph A - 10 P07 line turns back\n\nMended:\n\n    A: 0 500 hsbw 100 100 rmoveto 50 hlineto 100 vlineto closepath endchar\n\nCure: make one line of both. Where the spike is meant as a stroke, give it a width.\n\nTo find the step: `t1disasm FONT TEXT`, of Debian's t1utils, writes dictionaries and charstrings as text, and\n`t1asm --pfb TEXT FONT` makes the font of it; where lenIV is -1 it leaves charstrings raw. Glyph A is below `/A {`, the Subr of PATH `5>6` below\n`dup 6 {`. `t1check --trace A FONT` numbers what is executed, Subrs too, as STEP does.",
+};
+
+fn p07() -> &'static Page {
+    &P07
+}
+
+static P08: Page = Page {
+    code: "P08",
+    anchor: "p08-line-goes-straight-on",
+    title: "line goes straight on",
+    text: "Level *tidy* (Type 1 Format, chapter 3): nothing different is drawn, by more points.\n\nTwo lines, one right after the other, are on one straight line, and the second leads on. Which lines are compared is as with\nP07. The direction has to be exactly the same: lines that bend by rounding aren't reported.\n\n    A: 0 500 hsbw 100 100 rmoveto 50 hlineto 50 hlineto 100 vlineto -100 hlineto closepath endchar\n    1: glyph A - 10 P08 line goes straight on\n\nMended:\n\n    A: 0 500 hsbw 100 100 rmoveto 100 hlineto 100 vlineto -100 hlineto closepath endchar\n\nCure: make one line of both.\n\nTo find the step: `t1disasm FONT TEXT`, of Debian's t1utils, writes dictionaries and charstrings as text, and\n`t1asm --pfb TEXT FONT` makes the font of it; where lenIV is -1 it leaves charstrings raw. Glyph A is below `/A {`, the Subr of PATH `5>6` below\n`dup 6 {`. `t1check --trace A FONT` numbers what is executed, Subrs too, as STEP does.",
+};
+
+fn p08() -> &'static Page {
+    &P08
+}
+
+static P09: Page = Page {
+    code: "P09",
+    anchor: "p09-flat-curve",
+    title: "flat curve",
+    text: "Level *tidy* (Type 1 Format, chapter 3): a straight line is drawn, by more work.\n\nBoth control points are exactly on the straight line through the curve's ends. The ends are two points; where they are one,\nP06 or P10 may be broken. A flex is judged as well.\n\n    A: 0 500 hsbw 100 100 rmoveto 10 0 20 0 30 0 rrcurveto 100 vlineto closepath endchar\n    1: glyph A - 13 P09 flat curve\n\nMended:\n\n    A: 0 500 hsbw 100 100 rmoveto 60 hlineto 100 vlineto closepath endchar\n\nCure: write a line in place of the curve.\n\nTo find the step: `t1disasm FONT TEXT`, of Debian's t1utils, writes dictionaries and charstrings as text, and\n`t1asm --pfb TEXT FONT` makes the font of it; where lenIV is -1 it leaves charstrings raw. Glyph A is below `/A {`, the Subr of PATH `5>6` below\n`dup 6 {`. `t1check --trace A FONT` numbers what is executed, Subrs too, as STEP does.",
+};
+
+fn p09() -> &'static Page {
+    &P09
+}
+
+static P10: Page = Page {
+    code: "P10",
+    anchor: "p10-no-point-at-an-extreme",
+    title: "no point at an extreme",
+    text: "Level *tidy* (Type 1 Format, chapter 3): a hint finds no point there, so it may not hold the curve.\n\nAn extreme is where a curve is highest, lowest, or outermost to the left or right. A point belongs there, where one curve ends and the next begins.\n\nThe rule asks the curve itself at three places: 1/4, 1/2 and 3/4 of its parameter. It is broken if the curve is there three units or more above both of\nits ends, or below both. To the right and to the left it is the same. So the rule has no false alarm: what it reports does go beyond its ends. A control\npoint beyond them is no fault. An extreme between the three places may be missed.\n\nHere the curve begins and ends at y 100, and its middle is at 175.\n\n    A: 0 500 hsbw 100 100 rmoveto 100 hlineto 0 100 -100 0 0 -100 rrcurveto closepath endchar\n    1: glyph A - 15 P10 no point at an extreme\n\nMended:\n\n    A: 0 500 hsbw 100 100 rmoveto 100 hlineto 50 -25 25 -25 vhcurveto -25 -25 -25 -50 hvcurveto closepath endchar\n\nCure: make two curves of it, with a point at the extreme. Font editors do so, as FontForge by *Element > Add Extrema*.\n\nTo find the step: `t1disasm FONT TEXT`, of Debian's t1utils, writes dictionaries and charstrings as text, and\n`t1asm --pfb TEXT FONT` makes the font of it; where lenIV is -1 it leaves charstrings raw. Glyph A is below `/A {`, the Subr of PATH `5>6` below\n`dup 6 {`. `t1check --trace A FONT` numbers what is executed, Subrs too, as STEP does.",
+};
+
+fn p10() -> &'static Page {
+    &P10
+}
+
+static P11: Page = Page {
+    code: "P11",
+    anchor: "p11-move-right-behind-a-move",
+    title: "move right behind a move",
+    text: "Level *tidy* (our own rule): nothing is drawn from where the first move leads.\n\nBetween the two moves there is no line, no curve, no end of a flex and no closepath. A stem or a call of a Subr between them changes nothing. Moves\ninside a flex don't count. Of three moves the second and the third are reported.\n\n    A: 0 500 hsbw 10 hmoveto 90 100 rmoveto 100 hlineto 100 vlineto -100 hlineto closepath endchar\n    1: glyph A - 8 P11 move right behind a move\n\nMended:\n\n    A: 0 500 hsbw 100 100 rmoveto 100 hlineto 100 vlineto -100 hlineto closepath endchar\n\nCure: make one move of both, which leads as far as both did; or write the lines that are missing between them.\n\nTo find the step: `t1disasm FONT TEXT`, of Debian's t1utils, writes dictionaries and charstrings as text, and\n`t1asm --pfb TEXT FONT` makes the font of it; where lenIV is -1 it leaves charstrings raw. Glyph A is below `/A {`, the Subr of PATH `5>6` below\n`dup 6 {`. `t1check --trace A FONT` numbers what is executed, Subrs too, as STEP does.",
+};
+
+fn p11() -> &'static Page {
+    &P11
+}
+
+static H08: Page = Page {
+    code: "H08",
+    anchor: "h08-stem-that-nothing-touches",
+    title: "stem that nothing touches",
+    text: "Level *should* (Type 1 Format, chapter 5): the hint has no effect, or moves a stroke that it wasn't made for.\n\nA stem says where the two edges of a stroke are, but nothing is drawn at either. The main cause is accents whose stems weren't moved with them when\nglyphs were composed.\n\nOne edge that is *touched* is enough, in y for hstem and hstem3, in x for vstem and vstem3. A line or a curve that is drawn after the stem touches an\nedge\n\n- if it begins or ends at most ten units from the edge: a rasteriser moves with the stem what lies a few units off;\n- if it is a curve, and the edge is between its lower end and its lowest point, or between its upper end and its highest point. Control points count\n  here, since the curve may have its extreme there. In x the same is asked of left and right.\n\nMoves don't touch an edge, nor does the line that closepath draws.\n\nThe rule looks at all stems of the glyph:\n\n- A hint replacement takes none of them away.\n- Edges count from the sidebearing that hsbw or sbw has set before the stem.\n- A stem with the same two edges as an earlier one is that stem, at the place where it was set first.\n- Of the stems that are left the first 96 of each direction count.\n- A ghost hint, of width -20 or -21, has two edges as well.\n\nA glyph without lines and curves isn't reported. Here the stem is from 300 to 320, and the square from 100 to 200.\n\n    A: 0 500 hsbw 300 20 hstem 100 100 rmoveto 100 hlineto 100 vlineto -100 hlineto closepath endchar\n    1: glyph A - 17 H08 stem that nothing touches\n\nMended:\n\n    A: 0 500 hsbw 180 20 hstem 100 100 rmoveto 100 hlineto 100 vlineto -100 hlineto closepath endchar\n\nCure: move the stem to its stroke, or remove it. In a composed glyph, add to an accent's stems what was added to its outline. A stem that comes after\nits stroke belongs before it (H01).\n\nTo find the step: `t1disasm FONT TEXT`, of Debian's t1utils, writes dictionaries and charstrings as text, and\n`t1asm --pfb TEXT FONT` makes the font of it; where lenIV is -1 it leaves charstrings raw. Glyph A is below `/A {`, the Subr of PATH `5>6` below\n`dup 6 {`. `t1check --trace A FONT` numbers what is executed, Subrs too, as STEP does.",
+};
+
+fn h08() -> &'static Page {
+    &H08
+}
+
+static H09: Page = Page {
+    code: "H09",
+    anchor: "h09-stems-share-an-edge",
+    title: "stems share an edge",
+    text: "Level *tidy* (Type 1 Format, chapter 5): one of the stems is no stroke.\n\nBetween two strokes there is white. Where one stem ends at the edge at which another begins, one of them is mostly that white, or one stroke has two\nstems. A stem is compared with the same stems as by H02. Positions count as they are written, without the sidebearing. A stem\nof width 0, -20 or -21 shares no edge.\n\nHere both stems have an edge at 150.\n\n    A: 0 500 hsbw 100 50 hstem 150 50 hstem 100 100 rmoveto 100 hlineto 100 vlineto -100 hlineto closepath endchar\n    1: glyph A - 9 H09 stems share an edge\n\nMended:\n\n    A: 0 500 hsbw 100 100 hstem 100 100 rmoveto 100 hlineto 100 vlineto -100 hlineto closepath endchar\n\nCure: keep the stem that is a stroke, or make one stem of both. If both are needed, replace the hints.\n\nTo find the step: `t1disasm FONT TEXT`, of Debian's t1utils, writes dictionaries and charstrings as text, and\n`t1asm --pfb TEXT FONT` makes the font of it; where lenIV is -1 it leaves charstrings raw. Glyph A is below `/A {`, the Subr of PATH `5>6` below\n`dup 6 {`. `t1check --trace A FONT` numbers what is executed, Subrs too, as STEP does.",
+};
+
+fn h09() -> &'static Page {
+    &H09
+}
+
+static H10: Page = Page {
+    code: "H10",
+    anchor: "h10-stem-of-negative-width",
+    title: "stem of negative width",
+    text: "Level *tidy* (Type 1 Format, chapter 6): interpreters take the same two edges.\n\nA stem begins at its lower or left edge, and its width is above 0. Only -20 and -21 have a meaning of their own, that of a ghost hint. Each other width\nbelow 0 breaks the rule, also -19, -22 and -20.5.\n\n    A: 0 500 hsbw 200 -100 hstem 100 100 rmoveto 100 hlineto 100 vlineto -100 hlineto closepath endchar\n    1: glyph A - 6 H10 stem of negative width\n\nMended:\n\n    A: 0 500 hsbw 100 100 hstem 100 100 rmoveto 100 hlineto 100 vlineto -100 hlineto closepath endchar\n\nCure: write the lower or left edge, and the width without its sign. Where one edge alone is meant, write a ghost hint.\n\nTo find the step: `t1disasm FONT TEXT`, of Debian's t1utils, writes dictionaries and charstrings as text, and\n`t1asm --pfb TEXT FONT` makes the font of it; where lenIV is -1 it leaves charstrings raw. Glyph A is below `/A {`, the Subr of PATH `5>6` below\n`dup 6 {`. `t1check --trace A FONT` numbers what is executed, Subrs too, as STEP does.",
+};
+
+fn h10() -> &'static Page {
+    &H10
+}
+
 static E01: Page = Page {
     code: "E01",
     anchor: "e01-not-a-pfa-or-pfb",
@@ -1261,7 +1382,7 @@ static E14: Page = Page {
     code: "E14",
     anchor: "e14-waivers-malformed",
     title: "waivers malformed",
-    text: "A line of the file of waivers isn't what a waiver has to be. It has to be a name, one blank (byte 32) and a code, and nothing else. The\nname has the bytes that a name in a font can have: all but zero, tab, line feed, form feed, carriage return, the blank, and `( ) < > [ ] { } / %`.\nThe code is that of a rule from C01 to L01, in capital letters, or in edition 3 of one from H05 to W03. Each of these lines is malformed:\n\n    A                    no code\n    A C05 H02            two codes\n    A  C05               two blanks; so is a blank at the end, or a tab\n    /A C05               a slash\n    A F01                a rule on the font\n    A U01                the rule on waivers\n    A C10                no rule\n    % meant so           a comment\n\nOne such line is enough, since it can't be said what it was to waive.\n\nCure: mend these lines, or remove them.",
+    text: "A line of the file of waivers isn't what a waiver has to be. It has to be a name, one blank (byte 32) and a code, and nothing else. The\nname has the bytes that a name in a font can have: all but zero, tab, line feed, form feed, carriage return, the blank, and `( ) < > [ ] { } / %`.\nThe code is that of a rule from C01 to L01, in capital letters. In edition 3 it may also be one from H05 to W03, and in edition 4 also one from P04 to\nH10. Each of these lines is malformed:\n\n    A                    no code\n    A C05 H02            two codes\n    A  C05               two blanks; so is a blank at the end, or a tab\n    /A C05               a slash\n    A F01                a rule on the font\n    A U01                the rule on waivers\n    A C10                no rule\n    % meant so           a comment\n\nOne such line is enough, since it can't be said what it was to waive.\n\nCure: mend these lines, or remove them.",
 };
 
 fn e14() -> &'static Page {
@@ -1281,7 +1402,7 @@ fn e15() -> &'static Page {
 
 /// All pages, in the order of docs/RULES.md. A page is borrowed by a function of its own: of a static array of all the borrow
 /// checker's part stops at its limit.
-pub fn pages() -> [Page; 116] {
+pub fn pages() -> [Page; 127] {
     [
         *f01(),
         *f02(),
@@ -1384,6 +1505,17 @@ pub fn pages() -> [Page; 116] {
         *f27(),
         *f28(),
         *f29(),
+        *p04(),
+        *p05(),
+        *p06(),
+        *p07(),
+        *p08(),
+        *p09(),
+        *p10(),
+        *p11(),
+        *h08(),
+        *h09(),
+        *h10(),
         *e01(),
         *e02(),
         *e03(),

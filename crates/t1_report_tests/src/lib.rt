@@ -16,6 +16,7 @@
 //! | `flex`, `flex_ends`, `current_point`, `othersubrs` | rules on flex and OtherSubrs |
 //! | `seac`, `sidebearings`, `components` | rules on accented characters |
 //! | `editions`, `third_edition`, `fourth_edition`, `limit` | the editions of the rule book, what the third and the fourth add, and the limit of steps |
+//! | `drawing`, `outlines`, `segments`, `touched_stems`, `glyph_ends` | the fourth edition's rules on what is drawn |
 //! | `order`, `lines` | order and lines of faults |
 //! | `machines`, `marks`, `units`, `waivers` | machines; faults one at a time, from any mark on, of one unit, and with waivers |
 //! | `hostile` | fonts that are made to take long |
@@ -35,6 +36,8 @@ mod components;
 #[cfg(test)]
 mod current_point;
 #[cfg(test)]
+mod drawing;
+#[cfg(test)]
 mod editions;
 #[cfg(test)]
 mod flex;
@@ -44,6 +47,8 @@ mod flex_ends;
 mod fonts;
 #[cfg(test)]
 mod fourth_edition;
+#[cfg(test)]
+mod glyph_ends;
 #[cfg(test)]
 mod hostile;
 #[cfg(test)]
@@ -59,6 +64,8 @@ mod order;
 #[cfg(test)]
 mod othersubrs;
 #[cfg(test)]
+mod outlines;
+#[cfg(test)]
 mod paths;
 #[cfg(test)]
 mod replacements;
@@ -69,11 +76,15 @@ mod rules;
 #[cfg(test)]
 mod seac;
 #[cfg(test)]
+mod segments;
+#[cfg(test)]
 mod sidebearings;
 #[cfg(test)]
 mod stems;
 #[cfg(test)]
 mod third_edition;
+#[cfg(test)]
+mod touched_stems;
 #[cfg(test)]
 mod units;
 #[cfg(test)]

@@ -141,6 +141,45 @@ fn later_rules_are_waived_from_the_third_edition_on(rt: HostRuntime) -> Result<(
     Ok(())
 }
 
+/// Waivers of rules after number 93: the fourth edition has those on what is drawn.
+const LATEST: &[(&[u8], Option<&[u8]>)] = &[
+    (b"A P04", Some(b"A P04|")),
+    (b"A P05", Some(b"A P05|")),
+    (b"A P06", Some(b"A P06|")),
+    (b"A P07", Some(b"A P07|")),
+    (b"A P08", Some(b"A P08|")),
+    (b"A P09", Some(b"A P09|")),
+    (b"A P10", Some(b"A P10|")),
+    (b"A P11", Some(b"A P11|")),
+    (b"A H08", Some(b"A H08|")),
+    (b"A H09", Some(b"A H09|")),
+    (b"A H10", Some(b"A H10|")),
+    (b"A P12", None),
+    (b"A H11", None),
+];
+
+/// Whether the first three editions take a text for no waivers.
+fn is_later(alloc: Global, text: &[u8]) -> Result<bool, AllocError> {
+    for edition in [Edition::One, Edition::Two, Edition::Three] {
+        if !has_pairs(alloc, text, edition, None)? {
+            return Ok(false);
+        }
+    }
+    Ok(true)
+}
+
+#[test]
+fn latest_rules_are_waived_in_the_fourth_edition(rt: HostRuntime) -> Result<(), Fail> {
+    for (text, pairs) in LATEST {
+        assert!(rt;
+            has_pairs(rt.alloc(), text, Edition::Four, *pairs)?,
+            "{text:?}"
+        );
+        assert!(rt; is_later(rt.alloc(), text)?, "{text:?}");
+    }
+    Ok(())
+}
+
 #[test]
 fn no_waivers_have_no_pairs(rt: HostRuntime) {
     let none = Waivers::none();
