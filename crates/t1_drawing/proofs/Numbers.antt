@@ -1,6 +1,5 @@
 -- A number draws nothing and sets no stem: it breaks no rule on the drawing, and a watcher matches the steps with it too.
-use Rattle.std.proofs.Common.{◌≡◌, ℕ, ℤ, ◌&&◌, not, Bool, true, false, Option, List, [], ◌∷◌, ◌++◌, map, take, append-nil, refl, sym, ap, subst, ◌∙◌}
-use Rattle.std.specs.List.{list_any}
+use Rattle.std.proofs.Common.{◌≡◌, ℕ, ℤ, ◌&&◌, Bool, true, false, Option, List, [], ◌∷◌, ◌++◌, map, take, append-nil, refl, sym, ap, subst, ◌∙◌}
 use Rattle.std.proofs.Math.Bool.{or-false}
 use Rattle.t1_char.specs.declared.token.CharToken.TheVariants.{Number}
 use Rattle.t1_char.specs.Steps.{StepView}
@@ -22,7 +21,7 @@ use Rattle.t1_drawing.proofs.NearLaws.{steps_add_what_they_draw}
 use Rattle.t1_drawing.proofs.Touches.{end_on, point_goes_on, strokes_more, touched_by_none, watched_on}
 use Rattle.t1_outline.specs.declared.nib.Nib.{Nib}
 use Rattle.t1_outline.specs.Laws.Points.{last_end}
-use Rattle.t1_outline.specs.Outlines.{drawn, flex_places, has_subpath, is_spoiled, makes_subpath}
+use Rattle.t1_outline.specs.Outlines.{drawn, has_subpath, is_spoiled, makes_subpath}
 use Rattle.t1_outline.specs.Private.Standing.{NibStandsFor}
 use Rattle.t1_outline.proofs.Flexes.{places_go_on, spoiled_goes_on}
 use Rattle.t1_rules.specs.StepRules.{breaks}

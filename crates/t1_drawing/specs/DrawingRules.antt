@@ -1,9 +1,11 @@
 -- The rules on the drawing as a table: which of them a step of a glyph breaks, by the steps before it and itself. The segments are those that
 -- t1_outline promises. Type 1 Font Format 1.1, chapters 2, 3, 5 and 6.
-use Rattle.std.specs.Prelude.{◌&&◌, ◌||◌, if◌then◌else◌, Bool, true, false, Option, None, List, [], ◌∷◌, slice_index_or}
+use Rattle.std.specs.Prelude.{ℕ, ◌&&◌, ◌||◌, if◌then◌else◌, Bool, true, false, Option, None, List, [], ◌∷◌, slice_index_or}
 use Rattle.t1_char.specs.declared.command.Command.TheVariants.{Endchar}
+use Rattle.t1_char.specs.declared.edition.Edition.{Edition}
 use Rattle.t1_char.specs.declared.token.CharToken.{CharToken}
 use Rattle.t1_char.specs.declared.token.CharToken.TheVariants.{Command}
+use Rattle.t1_char.specs.Editions.{has_latest_rules}
 use Rattle.t1_char.specs.Steps.{StepView}
 use Rattle.t1_drawing.specs.declared.font_box.FontBox.{FontBox}
 use Rattle.t1_drawing.specs.Areas.{runs_clockwise}
@@ -23,7 +25,7 @@ use Rattle.t1_outline.specs.Outlines.{drawn}
 use Rattle.t1_rules.specs.declared.rule.Rule.{Rule}
 use Rattle.t1_rules.specs.declared.rule.Rule.TheVariants.{P04, P05, P06, P07, P08, P09, P10, P11, H08, H09, H10}
 use Rattle.t1_rules.specs.FontRules.Values.{first_in, is_so_many}
-use Rattle.t1_rules.specs.StepRules.{StepRule, of_step, row}
+use Rattle.t1_rules.specs.StepRules.{StepRule, breaks, of_step, row, step_rules}
 use Rattle.t1_rules.specs.StepRules.Calls.{ends_in_glyph}
 
 -- The end of a glyph: endchar, or the end of its charstring. An accented character by seac has none of its own.
@@ -71,6 +73,11 @@ drawing_rules box =
     -- A stem is of negative width. Type 1 Font Format, chapter 6.
     ∷ of_step H10 sets_negative_width
     ∷ []
+
+-- What a step breaks of the rules that a glyph's own steps decide, by an edition.
+abbrev pub breaks_own : Edition → Option FontBox → ℕ → List StepView → StepView → Bool
+breaks_own edition box n before step =
+    breaks (step_rules edition) n before step || (has_latest_rules edition && breaks (drawing_rules box) n before step)
 
 -- FontBBox of a font: four numbers that are a box.
 abbrev pub box_in : Value → Option FontBox

@@ -5,9 +5,9 @@ ghost use Rattle.t1_char.specs.declared.edition.Edition.{Edition as Editions};
 ghost use Rattle.t1_char.specs.Steps.{StepView};
 ghost use Rattle.t1_char.specs.StepValues.{step_view};
 ghost use Rattle.t1_drawing.specs.declared.font_box.FontBox.{FontBox as Boxes};
-ghost use Rattle.t1_drawing.specs.DrawingRules.{drawing_rules, ends_clockwise, ends_glyph, ends_untouched, is_endchar};
+ghost use Rattle.t1_drawing.specs.DrawingRules.{breaks_own, drawing_rules, ends_clockwise, ends_glyph, ends_untouched, is_endchar};
 ghost use Rattle.t1_drawing.specs.Private.Joined.{drawing_faults};
-ghost use Rattle.t1_drawing.specs.Private.Standing.{DrawingStandsFor, SegmentsStandFor, TouchesStandFor};
+ghost use Rattle.t1_drawing.specs.Private.Standing.{CanBeSeen, DrawingStandsFor, LatestDrawingStandsFor, SegmentsStandFor, TouchesStandFor};
 ghost use Rattle.t1_drawing.specs.Strokes.{segments_of};
 ghost use Rattle.t1_rules.specs.Mask.{has};
 ghost use Rattle.t1_rules.specs.Private.Standing.{WatchesStandFor};
@@ -113,6 +113,31 @@ impl DrawingWatcher {
             sets_adjacent,
             sets_negative_width: sets_negative_width(step),
         }))
+    }
+}
+
+impl DrawingWatcher {
+    /// The same as [`DrawingWatcher::see`] where `draws` says that the edition has rules on the drawing; else shows the step to the other
+    /// watchers alone.
+    #[inline(always)]
+    pub fn see_where(&mut self, draws: bool, watches: &mut Watches, step: &Step) -> Mask
+        requires { (edition : Editions) × ((box : Option Boxes) × ((before : List StepView) ×
+            CanBeSeen edition box draws watches.old self.old before)) }
+        ensures watches { (edition : Editions) (before : List StepView) →
+            WatchesStandFor edition watches.old before → length before < most_steps →
+            WatchesStandFor edition watches.new (before ++ step_view step.now ∷ []) }
+        ensures stands { (edition : Editions) (box : Option Boxes) (before : List StepView) →
+            CanBeSeen edition box draws watches.old self.old before →
+            LatestDrawingStandsFor edition box self.new (before ++ step_view step.now ∷ []) }
+        ensures answer { (edition : Editions) (box : Option Boxes) (before : List StepView) →
+            CanBeSeen edition box draws watches.old self.old before →
+            (n : ℕ) → has result n ≡ breaks_own edition box n before (step_view step.now) }
+    {
+        if draws {
+            self.see(watches, step)
+        } else {
+            watches.see_as(step.token, step)
+        }
     }
 }
 

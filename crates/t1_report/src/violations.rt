@@ -11,7 +11,7 @@ ghost use Rattle.t1_rules.specs.Mask.{has};
 
 use t1_char::Step;
 use t1_drawing::DrawingWatcher;
-use t1_rules::{Mask, Rule, Sidebearings, Watch, Watches};
+use t1_rules::{Mask, Rule, Sidebearings, Watches};
 
 /// The rules that the next step of a glyph breaks: the first step past the limit of the edition breaks the
 /// rule on the limit, and no other. `is_past` says that it is this step, and `draws` that the edition has rules on the
@@ -44,11 +44,7 @@ pub(crate) fn broken_at(
     if is_past {
         return Mask::empty().with(Rule::L01, true);
     }
-    let token = step.token;
-    let broken = if draws {
-        drawing.see(watches, step)
-    } else {
-        watches.see_as(token, step)
-    };
-    broken.join(sidebearings.see_as(token, step))
+    drawing
+        .see_where(draws, watches, step)
+        .join(sidebearings.see_as(step.token, step))
 }

@@ -1,10 +1,14 @@
 -- What watchers keep of the segments and the steps that they have seen.
-use Rattle.std.specs.Prelude.{◌≡◌, ◌*◌, ◌≤◌, ◌+ℤ◌, false, true, Option, Some, None, IfSome, List, [], ◌++◌, length, map}
+use Rattle.std.specs.Prelude.{◌≡◌, ◌*◌, ◌<◌, ◌≤◌, ◌+ℤ◌, Bool, false, true, Option, Some, None, IfSome, List, [], ◌++◌, length, map}
 use Rattle.std.specs.List.{list_all, list_any}
+use Rattle.t1_char.specs.declared.edition.Edition.{Edition}
+use Rattle.t1_char.specs.Editions.{has_latest_rules}
 use Rattle.t1_char.specs.Steps.{StepView}
 use Rattle.t1_outline.specs.declared.segment.Segment.{Segment}
 use Rattle.t1_outline.specs.Private.Standing.{NibStandsFor}
-use Rattle.t1_rules.specs.Watches.{IsNear, IsWithin}
+use Rattle.t1_rules.specs.declared.watches.Watches.{Watches}
+use Rattle.t1_rules.specs.Private.Standing.{WatchesStandFor}
+use Rattle.t1_rules.specs.Watches.{IsNear, IsWithin, most_steps}
 use Rattle.t1_drawing.specs.declared.area.Area.{Area}
 use Rattle.t1_drawing.specs.declared.direction.Direction.TheVariants.{Across, Upright}
 use Rattle.t1_drawing.specs.declared.font_box.FontBox.{FontBox}
@@ -60,3 +64,14 @@ pub record DrawingStandsFor (box : Option FontBox) (watcher : DrawingWatcher) (b
   pub segments : SegmentsStandFor box watcher.segments (segments_of before)
   pub moves : MovesStandFor watcher.moves before
   pub touches : TouchesStandFor watcher.touches before
+
+-- The same in the editions that have rules on the drawing.
+abbrev pub LatestDrawingStandsFor : Edition → Option FontBox → DrawingWatcher → List StepView → Type 0
+LatestDrawingStandsFor edition box watcher before = has_latest_rules edition ≡ true → DrawingStandsFor box watcher before
+
+-- It and the other watchers can see one step more.
+pub record CanBeSeen (edition : Edition) (box : Option FontBox) (draws : Bool) (watches : Watches) (watcher : DrawingWatcher) (before : List StepView) : Type 0 where
+  pub where_drawn : draws ≡ has_latest_rules edition
+  pub watched : WatchesStandFor edition watches before
+  pub drawn : LatestDrawingStandsFor edition box watcher before
+  pub short : length before < most_steps

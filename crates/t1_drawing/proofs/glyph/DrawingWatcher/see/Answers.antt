@@ -1,21 +1,14 @@
-use Rattle.std.proofs.Common.{◌≡◌, ◌<◌, ◌||◌, Option, List, [], ◌∷◌, ◌++◌, length, refl, sym, ap, subst, ◌∙◌}
-use Rattle.t1_char.specs.declared.edition.Edition.{Edition as Editions}
-use Rattle.t1_char.specs.Steps.{StepView}
+use Rattle.std.proofs.Common.{◌≡◌, [], ◌∷◌, ◌++◌, refl, sym, ap, subst, ◌∙◌}
 use Rattle.t1_char.specs.StepValues.{step_view}
-use Rattle.t1_drawing.specs.declared.font_box.FontBox.{FontBox as Boxes}
 use Rattle.t1_drawing.specs.Bounds.{CanBeDrawn}
 use Rattle.t1_drawing.specs.Drawings.{faults_in}
 use Rattle.t1_drawing.specs.Strokes.{segments_of}
-use Rattle.t1_drawing.specs.Private.Joined.{drawing_faults}
-use Rattle.t1_drawing.specs.Private.Standing.{DrawingStandsFor, SegmentsStandFor}
+use Rattle.t1_drawing.specs.Private.Standing.{SegmentsStandFor}
 use Rattle.t1_drawing.proofs.NearLaws.{drawn_segments_can_be_seen, steps_add_what_they_draw}
 use Rattle.t1_drawing.proofs.Spoiled.{spoils_by_steps}
 use Rattle.t1_drawing.proofs.glyph.DrawingWatcher.see.Goals as goal
-use Rattle.t1_outline.specs.declared.nib.Around.{Around}
 use Rattle.t1_outline.specs.Nibs.{IsAround}
 use Rattle.t1_outline.specs.Outlines.{drawn}
-use Rattle.t1_rules.specs.Private.Standing.{WatchesStandFor}
-use Rattle.t1_rules.specs.Watches.{most_steps}
 
 pub see-segments-requires : goal.see-segments-requires
 see-segments-requires c =
