@@ -1,45 +1,71 @@
 -- The report's faults and their reasons.
-use Rattle.std.proofs.Common.{◌≡◌, ℕ, zero, suc, ◌/◌, ◌%◌, ◌<◌, ◌≤◌, ◌==◌, ◌&&◌, ◌+◌, ◌-◌, inl, inr, nat_lt, if◌then◌else◌, Bool, true, false, Option, None, Some, is_some, List, length, option_map, slice_get, take, refl, sym, ap, ◌∙◌, arith}
+use Rattle.std.proofs.Common.{◌≡◌, ℕ, zero, suc, ◌/◌, ◌%◌, ◌<◌, ◌≤◌, ◌==◌, ◌&&◌, ◌||◌, ◌+◌, ◌-◌, inl, inr, nat_lt, if◌then◌else◌, Bool, true, false, Option, None, Some, is_some, List, length, option_map, slice_get, take, refl, sym, ap, ◌∙◌, arith}
 use Rattle.std.proofs.Common.{lt-ltb}
-use Rattle.std.proofs.lemmas.Bool.{cases_lt, eq-eqb, eqb-true, true≢false}
+use Rattle.std.proofs.Math.Bool.{and-false, or-false}
+use Rattle.std.proofs.lemmas.Bool.{cases_lt, eq-eqb, eqb-true, ltb-false, ltb-true, true≢false}
 use Rattle.t1_char.specs.declared.edition.Edition.{Edition}
-use Rattle.t1_char.specs.Editions.{limit_of}
+use Rattle.t1_char.specs.Editions.{has_latest_rules, limit_of}
 use Rattle.t1_char.specs.Steps.{StepView, steps_of}
 use Rattle.t1_char.specs.Turns.{MachineView}
 use Rattle.t1_report.specs.Checked.{CheckedFont, step_limit}
 use Rattle.t1_report.specs.Faults.{FaultValue}
 use Rattle.t1_report.specs.declared.places.FaultPlace.TheVariants.{Glyph, Waiver as AtWaiver}
-use Rattle.t1_report.specs.Reports.{is_broken, is_told, is_unused, rules_of, step_breaks, tells_unused}
+use Rattle.t1_report.specs.Reports.{is_broken, is_told, is_unused, rules_of, rules_with, step_breaks, tells_unused}
 use Rattle.t1_report.specs.Waivers.{Waiver}
+use Rattle.t1_report.proofs.Broken.{breaks_both}
 use Rattle.t1_report.proofs.Told.{in_glyph, past_waivers, told_in_font, told_of_waiver}
 use Rattle.t1_rules.specs.declared.rule.Rule.{Rule}
 use Rattle.t1_rules.specs.declared.rule.Rule.TheVariants.{L01, U01}
 use Rattle.t1_rules.specs.declared.sidebearings.Component.{Component}
-use Rattle.t1_rules.specs.Book.{number_of}
+use Rattle.t1_rules.specs.Book.{last_number_of_third, number_of}
 use Rattle.t1_rules.specs.Keys.{index_count}
 use Rattle.t1_rules.proofs.Lemmas.Book.{both}
 use Rattle.t1_reasons.proofs.FontLaws.{fonts_broken_where_reason}
 use Rattle.t1_rules.specs.Components.{components_of}
 use Rattle.t1_font.specs.Fonts.{FontValue}
-use Rattle.t1_rules.specs.StepRules.{breaks_at, breaks_next, charstring_rules}
+use Rattle.t1_rules.specs.StepRules.{breaks, breaks_at, breaks_next, charstring_rules}
+use Rattle.t1_drawing.specs.DrawingRules.{box_of, drawing_rules}
 use Rattle.t1_reasons.specs.declared.reason.Reason.{Reason}
+use Rattle.t1_reasons.specs.declared.reason.Reason.TheVariants.{Nothing}
 use Rattle.t1_reasons.specs.CharstringReasons.{told_of_step}
 use Rattle.t1_reasons.specs.FaultReasons.{FaultsHaveReasons, HasReason, IsOf, ReportedPlacesHaveReasons}
-use Rattle.t1_reasons.specs.GlyphReasons.{glyph_reason, limit_reason, next_reason, reason_among, reason_at, reason_at_place}
+use Rattle.t1_reasons.specs.GlyphReasons.{drawing_reason, glyph_reason, limit_reason, next_reason, reason_among, reason_at, reason_at_place}
 use Rattle.t1_reasons.specs.Reported.{ReportedFaultsHaveReasons, fault_reason, place_reason, waiver_reason}
 use Rattle.t1_reasons.specs.StepReasons.{step_reason}
 use Rattle.t1_reasons.proofs.LawProofs.{broken_where_reason}
+use Rattle.t1_reasons.proofs.Walking.{none_on_charstrings, none_on_drawing}
 
 still_some : (f : Reason → Reason) (reason : Option Reason) → is_some (option_map f reason) ≡ is_some reason
 still_some f None = refl
 still_some f (Some reason) = refl
 
 next_has : (font : FontValue) (glyph : ℕ) (edition : Edition) (components : List Component) (rule : Rule) (before : List StepView) (step : Option StepView)
-    → breaks_next (charstring_rules edition components) (number_of rule) before step ≡ is_some (next_reason font glyph edition components rule before step)
+    → breaks_next (rules_with edition components (box_of font)) (number_of rule) before step ≡ is_some (next_reason font glyph edition components rule before step)
 next_has font glyph edition components rule before None = refl
 next_has font glyph edition components rule before (Some step) =
-    broken_where_reason edition components rule before step
-    ∙ sym (still_some (told_of_step font glyph rule step) (step_reason edition components rule before step))
+    breaks_both edition components (box_of font) (number_of rule) before step ∙ go (nat_lt last_number_of_third (number_of rule)) refl
+  where
+    drawn : Bool
+    drawn = has_latest_rules edition && breaks (drawing_rules (box_of font)) (number_of rule) before step
+
+    told : (b : Bool) → b ≡ is_some (if b then Some Nothing else None)
+    told true = refl
+    told false = refl
+
+    go : (b : Bool) → nat_lt last_number_of_third (number_of rule) ≡ b
+        → (breaks (charstring_rules edition components) (number_of rule) before step || drawn)
+        ≡ is_some (if b then drawing_reason edition (box_of font) rule before step
+        else option_map (told_of_step font glyph rule step) (step_reason edition components rule before step))
+    go true past =
+        ap (λ b. b || drawn) (none_on_charstrings edition components (number_of rule) before step (ltb-true last_number_of_third (number_of rule) past))
+        ∙ told drawn
+    go false few =
+        ap (λ b. breaks (charstring_rules edition components) (number_of rule) before step || has_latest_rules edition && b)
+        (none_on_drawing (box_of font) (number_of rule) before step (ltb-false last_number_of_third (number_of rule) few))
+        ∙ ap (λ b. breaks (charstring_rules edition components) (number_of rule) before step || b) (and-false (has_latest_rules edition))
+        ∙ or-false (breaks (charstring_rules edition components) (number_of rule) before step)
+        ∙ broken_where_reason edition components rule before step
+        ∙ sym (still_some (told_of_step font glyph rule step) (step_reason edition components rule before step))
 
 -- The limit has a rule of its own.
 limit_has : (limit : ℕ) (rule : Rule) → (number_of L01 == number_of rule) ≡ is_some (limit_reason limit rule)
@@ -47,7 +73,7 @@ limit_has limit L01 = refl
 limit_has limit _ = refl
 
 step_has : (limit : ℕ) (font : FontValue) (glyph : ℕ) (edition : Edition) (components : List Component) (rule : Rule) (steps : List StepView) (place : ℕ)
-    → step_breaks limit (charstring_rules edition components) (number_of rule) steps place
+    → step_breaks limit (rules_with edition components (box_of font)) (number_of rule) steps place
     ≡ is_some (reason_among limit font glyph edition components rule steps place)
 step_has limit font glyph edition components rule steps place = go (nat_lt place limit)
   where
@@ -56,7 +82,7 @@ step_has limit font glyph edition components rule steps place = go (nat_lt place
     at_limit false = refl
 
     go : (b : Bool)
-        → (if b then breaks_at (charstring_rules edition components) (number_of rule) steps place
+        → (if b then breaks_at (rules_with edition components (box_of font)) (number_of rule) steps place
         else (place == limit && nat_lt place (length steps)) && number_of L01 == number_of rule)
         ≡ is_some (if b then reason_at_place font glyph edition components rule steps place
         else (if place == limit && nat_lt place (length steps) then limit_reason limit rule else None))
@@ -65,7 +91,7 @@ step_has limit font glyph edition components rule steps place = go (nat_lt place
 
 broken_is : (font : CheckedFont) (glyph place n : ℕ) → glyph < length font.value.glyphs
     → is_broken font (suc glyph) (suc place) n
-    ≡ step_breaks (limit_of font.edition) (charstring_rules font.edition (components_of (limit_of font.edition) font.value)) n (steps_of font.value glyph) place
+    ≡ step_breaks (limit_of font.edition) (rules_with font.edition (components_of (limit_of font.edition) font.value) (box_of font.value)) n (steps_of font.value glyph) place
 unfolding is_broken rules_of
 broken_is font glyph place n less =
     ap (λ b. b && step_breaks (step_limit font) (rules_of font) n (steps_of font.value glyph) place) (lt-ltb glyph (length font.value.glyphs) less)

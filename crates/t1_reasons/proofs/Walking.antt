@@ -1,6 +1,7 @@
 -- A machine that goes on by one step, and what is kept of the steps before the step in hand.
 use Rattle.std.proofs.Common.{◌≡◌, ℕ, zero, suc, ◌+◌, ◌-◌, ◌<◌, ◌≤◌, ◌==◌, ◌&&◌, ◌||◌, nat_lt, cond, if◌then◌else◌, Bool, true, false, Option, None, Some, List, [], ◌∷◌, ◌++◌, get_or, length, length-take, slice_get, take, take_all, refl, sym, ap, ◌∙◌, arith}
 use Rattle.std.proofs.Common.{lt-ltb}
+use Rattle.std.proofs.Math.Bool.{and-false, or-false}
 use Rattle.std.proofs.lemmas.Bool.{eqb-true, ltb-false, ltb-true}
 use Rattle.std.proofs.lemmas.List.{get_or-take}
 use Rattle.std.proofs.lemmas.Option.{get_or_from_slice_get, slice_get_within}
@@ -11,11 +12,16 @@ use Rattle.t1_char.specs.declared.machine.Answer.TheVariants.{Step, Ended, Limit
 use Rattle.t1_char.specs.declared.machine.Numbers.TheVariants.{Returned}
 use Rattle.t1_char.specs.AnswerViews.{answer_view}
 use Rattle.t1_char.specs.Asking.{IsAsked}
-use Rattle.t1_char.specs.Editions.{limit_of}
+use Rattle.t1_char.specs.Editions.{has_latest_rules, limit_of}
 use Rattle.t1_char.specs.Steps.{NumberedStep, StepView, steps_of}
 use Rattle.t1_char.specs.Turns.{MachineView, answered, counted_after, ended, is_returned, limit_or_end, limited, step_of_number, step_or_end, stepped, turn_at}
 use Rattle.t1_char.proofs.TurnsTaken.{IsStepped, answered_over, stepped_is}
 use Rattle.t1_font.specs.Fonts.{FontValue}
+use Rattle.t1_drawing.specs.declared.font_box.FontBox.{FontBox}
+use Rattle.t1_drawing.specs.declared.glyph.DrawingWatcher.{DrawingWatcher}
+use Rattle.t1_drawing.specs.DrawingRules.{box_of, breaks_own, drawing_rules}
+use Rattle.t1_drawing.specs.Private.Standing.{CanBeSeen, LatestDrawingStandsFor}
+use Rattle.t1_drawing.proofs.RuleNumbers.{drawing_rules_come_last}
 use Rattle.t1_rules.specs.Watches.{most_steps}
 use Rattle.t1_rules.specs.declared.mask.Mask.{Mask}
 use Rattle.t1_rules.specs.declared.rule.Rule.{Rule}
@@ -25,10 +31,12 @@ use Rattle.t1_rules.specs.Components.{components_of}
 use Rattle.t1_rules.specs.Private.Standing.{WatchesStandFor}
 use Rattle.t1_rules.specs.Book.{number_of}
 use Rattle.t1_rules.specs.Mask.{has}
-use Rattle.t1_rules.specs.StepRules.{StepRule, breaks, charstring_rules, component_rules, step_rules}
+use Rattle.t1_rules.specs.Book.{last_number_of_third}
+use Rattle.t1_rules.specs.StepRules.{StepRule, argument_rules, breaks, call_rules, charstring_rules, component_rules, counter_rules, flex_rules, othersubr_rules, path_rules, seac_rules, stem_rules, step_rules, triple_rules}
+use Rattle.t1_rules.proofs.Lemmas.StepRules.{number_between, numbers_between}
 use Rattle.t1_reasons.specs.declared.steps_before.StepsBefore.{StepsBefore}
 use Rattle.t1_reasons.specs.GlyphReasons.{IsAnswer, IsBegun, IsInHand, IsOfSameGlyph, IsWatched, is_step, limit_reason, next_reason, reason_among, reason_at, reason_at_place, steps_in, told_reason}
-use Rattle.t1_reasons.specs.Standing.{AreBroken, StepsStandFor}
+use Rattle.t1_reasons.specs.Standing.{StepsStandFor}
 
 pub few_steps : (m : MachineView) (n : ℕ) → length (take n (steps_in m)) < most_steps
 few_steps m n = omega (arith, length-take n (steps_in m), length-take (limit_of m.edition) (steps_of m.font m.glyph), limit_few m.edition)
@@ -97,16 +105,18 @@ told old new same asked =
       before = rw (same_steps old new same, place) refl;
     }
 
-pub step_watched : (old new : MachineView) (kept : StepsBefore) (watches seen : Watches) (broken : Mask) → IsOfSameGlyph old new
-    → IsAsked Returned old new (stepped new.step)
+pub step_watched : (old new : MachineView) (kept : StepsBefore) (watches seen : Watches) (drawing drawn : DrawingWatcher) (draws : Bool) (broken : Mask)
+    → IsOfSameGlyph old new → IsAsked Returned old new (stepped new.step)
     → StepsStandFor old.edition kept (take old.counted (steps_in old))
-    → WatchesStandFor old.edition watches (take old.counted (steps_in old))
+    → CanBeSeen old.edition (box_of old.font) draws watches drawing (take old.counted (steps_in old))
     → ((edition : Edition) (before : List StepView) → WatchesStandFor edition watches before → length before < most_steps
     → WatchesStandFor edition seen (before ++ new.step.step ∷ []))
-    → ((edition : Edition) (before : List StepView) → WatchesStandFor edition watches before → length before < most_steps
-    → AreBroken (step_rules edition) broken before new.step.step)
-    → IsWatched new kept seen broken Step
-step_watched old new kept watches seen broken same asked stands watched more breaks =
+    → ((edition : Edition) (box : Option FontBox) (before : List StepView) → CanBeSeen edition box draws watches drawing before
+    → LatestDrawingStandsFor edition box drawn (before ++ new.step.step ∷ []))
+    → ((edition : Edition) (box : Option FontBox) (before : List StepView) → CanBeSeen edition box draws watches drawing before
+    → (n : ℕ) → has broken n ≡ breaks_own edition box n before new.step.step)
+    → IsWatched new kept seen drawn broken Step
+step_watched old new kept watches seen drawing drawn draws broken same asked stands can more draws_on breaks =
     let is = told old new same asked in
     let before = take old.counted (steps_in old) in
     let some : 0 < new.counted = omega (arith, is.counted) in
@@ -114,8 +124,9 @@ step_watched old new kept watches seen broken same asked stands watched more bre
     record {
       in_hand = is.in_hand;
       kept = rw (is.before, same.edition) stands;
-      watches = rw (now, same.edition) (more old.edition before watched (few_steps old old.counted));
-      broken = λ few within. rw (is.before, same.edition) (breaks old.edition before watched (few_steps old old.counted));
+      watches = rw (now, same.edition) (more old.edition before can.watched can.short);
+      drawn = rw (now, same.edition, same.font) (draws_on old.edition (box_of old.font) before can);
+      broken = λ few within. rw (is.before, same.edition, same.font) (breaks old.edition (box_of old.font) before can);
       answer = is.within;
     }
 
@@ -190,12 +201,14 @@ over_answer old new Limit same is other asked =
       rw (same.font, same.glyph, same.edition) (limited_long limit steps new.step (slice_get steps limit) refl turn),
     )
 
-pub over_watched : (old new : MachineView) (kept : StepsBefore) (watches : Watches) (broken : Mask) (answer : Answer) → IsOfSameGlyph old new
+pub over_watched : (old new : MachineView) (kept : StepsBefore) (watches : Watches) (drawing : DrawingWatcher) (broken : Mask) (answer : Answer)
+    → IsOfSameGlyph old new
     → old.counted ≤ length (steps_in old) → (answer ≡ Step → ⊥) → IsAsked Returned old new (answer_view answer new.step)
     → StepsStandFor old.edition kept (take old.counted (steps_in old))
     → WatchesStandFor old.edition watches (take old.counted (steps_in old))
-    → IsWatched new kept watches broken answer
-over_watched old new kept watches broken answer same few other asked stands watched =
+    → LatestDrawingStandsFor old.edition (box_of old.font) drawing (take old.counted (steps_in old))
+    → IsWatched new kept watches drawing broken answer
+over_watched old new kept watches drawing broken answer same few other asked stands watched drawn =
     let is = over old new answer few other asked in
     let steps : steps_in new ≡ steps_in old = same_steps old new same in
     let place : new.counted - 1 ≡ old.counted = omega (arith, is.counted, is.all) in
@@ -209,6 +222,7 @@ over_watched old new kept watches broken answer same few other asked stands watc
           let no : None ≡ Some step = sym none ∙ here in cc;
       kept = rw (steps, place, same.edition) stands;
       watches = rw (whole, same.edition) watched;
+      drawn = rw (whole, same.edition, same.font) drawn;
       broken = λ some within.
           let none : new.counted ≤ length (steps_in old) = rw steps at within in
           absurd (omega (arith, none, is.counted));
@@ -356,10 +370,50 @@ joined (x ∷ xs) ys n before step =
     or_assoc true b c = refl
     or_assoc false b c = refl
 
-pub both_kinds : (edition : Edition) (components : List Component) (own other both : Mask) (before : List StepView) (step : StepView)
-    → ((n : ℕ) → has both n ≡ (has own n || has other n))
-    → AreBroken (step_rules edition) own before step → AreBroken (component_rules components) other before step
-    → AreBroken (charstring_rules edition components) both before step
+-- They come before those on the drawing.
+none_past : (rules : List StepRule) → numbers_between 26 last_number_of_third rules ≡ true → (n : ℕ) (before : List StepView) (step : StepView)
+    → last_number_of_third < n → breaks rules n before step ≡ false
+none_past rules within n before step past = go (breaks rules n before step) refl
+  where
+    go : (b : Bool) → breaks rules n before step ≡ b → b ≡ false
+    go false is = refl
+    go true is = absurd (omega (arith, past, (number_between 26 last_number_of_third rules within n before step is).1))
+
+charstrings_between : (edition : Edition) (components : List Component) → numbers_between 26 last_number_of_third (charstring_rules edition components) ≡ true
+unfolding charstring_rules step_rules argument_rules call_rules path_rules stem_rules flex_rules othersubr_rules seac_rules triple_rules counter_rules component_rules
+charstrings_between edition components = refl
+
+steps_between : (edition : Edition) → numbers_between 26 last_number_of_third (step_rules edition) ≡ true
+unfolding step_rules argument_rules call_rules path_rules stem_rules flex_rules othersubr_rules seac_rules triple_rules counter_rules
+steps_between edition = refl
+
+pub none_on_charstrings : (edition : Edition) (components : List Component) (n : ℕ) (before : List StepView) (step : StepView) → last_number_of_third < n
+    → breaks (charstring_rules edition components) n before step ≡ false
+none_on_charstrings edition components = none_past (charstring_rules edition components) (charstrings_between edition components)
+
+pub drawing_alone : (edition : Edition) (box : Option FontBox) (n : ℕ) (before : List StepView) (step : StepView) → last_number_of_third < n
+    → breaks_own edition box n before step ≡ (has_latest_rules edition && breaks (drawing_rules box) n before step)
+drawing_alone edition box n before step past = rw (none_past (step_rules edition) (steps_between edition) n before step past) refl
+
+pub none_on_drawing : (box : Option FontBox) (n : ℕ) (before : List StepView) (step : StepView) → n ≤ last_number_of_third
+    → breaks (drawing_rules box) n before step ≡ false
+none_on_drawing box n before step few = go (breaks (drawing_rules box) n before step) refl
+  where
+    go : (b : Bool) → breaks (drawing_rules box) n before step ≡ b → b ≡ false
+    go false is = refl
+    go true is = absurd (omega (arith, few, (drawing_rules_come_last box n before step is).0))
+
+pub both_kinds : (edition : Edition) (components : List Component) (box : Option FontBox) (own other both : Mask) (before : List StepView) (step : StepView) (n : ℕ)
+    → n ≤ last_number_of_third → has both n ≡ (has own n || has other n)
+    → has own n ≡ breaks_own edition box n before step → has other n ≡ breaks (component_rules components) n before step
+    → has both n ≡ breaks (charstring_rules edition components) n before step
 unfolding charstring_rules
-both_kinds edition components own other both before step is by_own by_other = λ n.
-    is n ∙ rw (by_own n, by_other n) (sym (joined (step_rules edition) (component_rules components) n before step))
+both_kinds edition components box own other both before step n few is by_own by_other =
+    is
+    ∙ rw (
+      by_own,
+      by_other,
+      none_on_drawing box n before step few,
+      and-false (has_latest_rules edition),
+      or-false (breaks (step_rules edition) n before step),
+    ) (sym (joined (step_rules edition) (component_rules components) n before step))

@@ -9,10 +9,7 @@ use Rattle.t1_reasons.specs.declared.reason.SetStem.{SetStem}
 use Rattle.t1_reasons.specs.HintSets.{all_set_at, stems_set}
 use Rattle.t1_reasons.specs.declared.steps_before.StepsBefore.{StepsBefore}
 use Rattle.t1_reasons.specs.Backgrounds.{background_of}
-use Rattle.t1_rules.specs.declared.mask.Mask.{Mask}
-use Rattle.t1_rules.specs.Mask.{has}
 use Rattle.t1_rules.specs.Private.Standing.{FlexStandsFor}
-use Rattle.t1_rules.specs.StepRules.{StepRule, breaks}
 use Rattle.t1_rules.specs.StepRules.Stems.{lies_across, most_stems, stands_upright, stems_of}
 use Rattle.t1_rules.specs.StepRules.Tokens.{is_command}
 
@@ -35,7 +32,3 @@ pub record StepsStandFor (edition : Edition) (kept : StepsBefore) (before : List
   pub hints : HintsStandFor kept.hints before
   pub flex : FlexStandsFor kept.flex before
   pub background : kept.background ≡ background_of before
-
--- The set is that of the rules that a step breaks.
-abbrev pub AreBroken : List StepRule → Mask → List StepView → StepView → Type 0
-AreBroken rules broken before step = (n : ℕ) → has broken n ≡ breaks rules n before step

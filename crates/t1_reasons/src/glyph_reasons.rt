@@ -1,20 +1,26 @@
 //! The reasons of a glyph's faults, in their order.
 
-ghost use Rattle.std.specs.Prelude.{◌≡◌, ◌<◌, ◌≤◌, ◌+◌, ◌-◌, true, false, length, take};
+ghost use Rattle.std.specs.Prelude.{◌≡◌, ◌<◌, ◌≤◌, ◌+◌, ◌-◌, if◌then◌else◌, true, false, None, Some, length, take};
 ghost use Rattle.t1_char.specs.Editions.{limit_of};
 ghost use Rattle.t1_reasons.specs.GlyphReasons.{GoesTo, IsInHand, IsOfSameGlyph, is_step, limit_reason, reason_at, steps_in};
-ghost use Rattle.t1_reasons.specs.Standing.{AreBroken, StepsStandFor};
+ghost use Rattle.t1_reasons.specs.declared.reason.Reason.TheVariants.{Nothing};
+ghost use Rattle.t1_reasons.specs.Standing.{StepsStandFor};
+ghost use Rattle.t1_rules.specs.Book.{number_of};
 ghost use Rattle.t1_rules.specs.Components.{AreOf};
+ghost use Rattle.t1_rules.specs.Mask.{has};
 ghost use Rattle.t1_rules.specs.Private.Standing.{WatchesStandFor};
-ghost use Rattle.t1_rules.specs.StepRules.{step_rules};
 
 use crate::charstring_reasons::told_of_step;
 use crate::reason::Reason;
 use crate::steps_before::StepsBefore;
 use std::marker::Model;
 use t1_char::{Answer, Edition, Machine, Numbers};
+use t1_drawing::{DrawingWatcher, FontBox};
 use t1_font::Font;
 use t1_rules::{Mask, Rule, Sidebearings, Watch, Watches};
+
+/// The number of the last rule of the third edition: of the rules on glyphs those after it are on the drawing.
+const LAST_OF_THIRD: u8 = 93;
 
 /// The reasons of a glyph's faults. It executes the glyph once where it is asked in the order of the steps, and once more where it is
 /// asked for an earlier step. It takes no memory and can't fail.
@@ -26,9 +32,10 @@ pub struct GlyphReasons<'a> {
     machine: Machine<'a>,
     /// The steps before the step in hand.
     before: StepsBefore,
-    /// The watchers that have seen the step in hand too.
+    /// The watchers that have seen the step in hand too, and that of the drawing where the edition has its rules.
     watches: Watches,
-    /// What the step in hand breaks of the rules on its glyph's own steps.
+    drawing: DrawingWatcher,
+    /// What the step in hand breaks of the rules on its glyph's own steps and on the drawing.
     broken: Mask,
     /// What the machine answered last.
     answer: Answer,
@@ -42,7 +49,7 @@ impl<'a> Model for GlyphReasons<'a> {
 
     ghost view = { λ r. r.machine };
 
-    ghost invariant = { λ r. IsWatched r.machine r.before r.watches r.broken r.answer
+    ghost invariant = { λ r. IsWatched r.machine r.before r.watches r.drawing r.broken r.answer
         × IsBegun r.machine r.font.now r.glyph r.edition };
 }
 
@@ -62,6 +69,7 @@ impl<'a> GlyphReasons<'a> {
             machine: Machine::start(font, glyph, edition),
             before: StepsBefore::start(edition),
             watches: Watches::start(edition),
+            drawing: DrawingWatcher::start(FontBox::of_font(font)),
             broken: Mask::empty(),
             answer: Answer::Step,
         }
@@ -103,6 +111,9 @@ impl<'a> GlyphReasons<'a> {
         match self.answer {
             Answer::Step => {
                 let step = self.machine.current();
+                if rule.number() > LAST_OF_THIRD {
+                    return drawing_reason(self.broken, rule);
+                }
                 let broken = self.broken.join(sidebearings.see(step));
                 let reason = self.before.reason(rule, step, sidebearings, broken);
                 told_of_step(self.font, self.glyph, rule, step, reason)
@@ -120,6 +131,7 @@ impl<'a> GlyphReasons<'a> {
         self.machine.start_again(self.glyph, self.edition);
         self.before = StepsBefore::start(self.edition);
         self.watches.start_again(self.edition);
+        self.drawing.start_again(FontBox::of_font(self.font));
         self.broken = Mask::empty();
         self.answer = Answer::Step;
     }
@@ -149,11 +161,25 @@ impl<'a> GlyphReasons<'a> {
         see_in_hand(&mut self.before, &self.machine);
         self.answer = self.machine.go_on(Numbers::Returned);
         if is_step(self.answer) {
-            self.broken = self.watches.see(self.machine.current());
+            let draws = self.edition.has_latest_rules();
+            self.broken = self
+                .drawing
+                .see_where(draws, &mut self.watches, self.machine.current());
             true
         } else {
             false
         }
+    }
+}
+
+/// Why a step breaks a rule on the drawing: that it does.
+fn drawing_reason(broken: Mask, rule: Rule) -> Option<Reason>
+    ensures { result ≡ (if has broken (number_of rule) then Some Nothing else None) }
+{
+    if broken.has(rule) {
+        Some(Reason::Nothing)
+    } else {
+        None
     }
 }
 

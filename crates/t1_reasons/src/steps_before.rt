@@ -7,10 +7,12 @@ ghost use Rattle.t1_char.specs.Steps.{StepView};
 ghost use Rattle.t1_char.specs.StepValues.{step_view};
 ghost use Rattle.t1_char.specs.Arguments.{is_flex_end};
 ghost use Rattle.t1_reasons.specs.HintSets.{all_set_at};
-ghost use Rattle.t1_reasons.specs.Standing.{AreBroken, StepsStandFor};
+ghost use Rattle.t1_reasons.specs.Standing.{StepsStandFor};
 ghost use Rattle.t1_reasons.specs.StepReasons.{are_no_pairs, are_pairs, is_miss, is_overlap, misses_at, only_where, pairs_at, pairs_with, stems_at, step_reason};
 ghost use Rattle.t1_reasons.specs.declared.reason.Reason.TheVariants.{Miss, Pairs};
-ghost use Rattle.t1_rules.specs.StepRules.{charstring_rules};
+ghost use Rattle.t1_rules.specs.Book.{number_of};
+ghost use Rattle.t1_rules.specs.Mask.{has};
+ghost use Rattle.t1_rules.specs.StepRules.{breaks, charstring_rules};
 ghost use Rattle.t1_rules.specs.StepRules.Flex.{end_point};
 ghost use Rattle.t1_rules.specs.StepRules.Stems.{stems_of};
 ghost use Rattle.t1_rules.specs.Watches.{most_steps};
@@ -65,7 +67,7 @@ impl StepsBefore {
             .after(step, in_flex, self.hints.seen, self.flex.point());
     }
 
-    /// Why the next step breaks a rule, where it does. The set has the rules that it breaks.
+    /// Why the next step breaks a rule on charstrings, where it does. The set has the rules that it breaks.
     pub(crate) fn reason(
         &self,
         rule: Rule,
@@ -77,7 +79,7 @@ impl StepsBefore {
             (StepsStandFor edition self.now before × (length before < most_steps))) }
         ensures { (edition : Editions) (before : List StepView) →
             StepsStandFor edition self.now before → length before < most_steps →
-            AreBroken (charstring_rules edition sidebearings.now.components) broken before (step_view step.now) →
+            has broken (number_of rule) ≡ breaks (charstring_rules edition sidebearings.now.components) (number_of rule) before (step_view step.now) →
             result ≡ step_reason edition sidebearings.now.components rule before (step_view step.now) }
     {
         match rule {

@@ -1,4 +1,4 @@
-use Rattle.std.proofs.Common.{◌≡◌, ◌+◌, ◌≤◌, ◌++◌, ◌∷◌, [], true, ap, arith, length, sym, subst, ◌∙◌}
+use Rattle.std.proofs.Common.{◌≡◌, ℕ, ◌+◌, ◌≤◌, ◌++◌, ◌∷◌, [], true, ap, arith, length, sym, subst, take, ◌∙◌}
 use Rattle.t1_char.specs.declared.machine.Answer.{Answer}
 use Rattle.t1_char.specs.declared.machine.Answer.TheVariants.{Step}
 use Rattle.t1_char.specs.declared.machine.Numbers.TheVariants.{Returned}
@@ -7,12 +7,32 @@ use Rattle.t1_char.specs.Asking.{IsAsked}
 use Rattle.t1_char.specs.Steps.{NumberedStep, StepView}
 use Rattle.t1_char.specs.StepValues.{step_view}
 use Rattle.t1_char.specs.Turns.{MachineView, stepped}
+use Rattle.t1_char.specs.Editions.{has_latest_rules}
+use Rattle.t1_drawing.specs.DrawingRules.{box_of, breaks_own}
+use Rattle.t1_drawing.specs.Private.Standing.{LatestDrawingStandsFor}
 use Rattle.t1_rules.specs.Private.Standing.{WatchesStandFor}
-use Rattle.t1_rules.specs.StepRules.{step_rules}
+use Rattle.t1_rules.specs.Mask.{has}
 use Rattle.t1_reasons.specs.GlyphReasons.{IsOfSameGlyph, IsWatched, is_step, steps_in}
-use Rattle.t1_reasons.specs.Standing.{AreBroken}
-use Rattle.t1_reasons.proofs.Walking.{a_step, begun_on, no_step, over, over_watched, step_watched, within_steps}
+use Rattle.t1_reasons.proofs.Walking.{a_step, begun_on, few_steps, no_step, over, over_watched, step_watched, within_steps}
 use Rattle.t1_reasons.proofs.glyph_reasons.GlyphReasons.next.Goals as goal
+
+pub see_where-self-inside-requires : goal.see_where-self-inside-requires
+see_where-self-inside-requires c =
+    let old = c.self.inside.machine in (
+      old.edition,
+      (
+        box_of old.font,
+        (
+          take old.counted (steps_in old),
+          record {
+            where_drawn = c.has_latest_rules-draws.ensures ∙ ap has_latest_rules (sym c.self.invariant.1.edition_is);
+            watched = c.self.invariant.0.watches;
+            drawn = c.self.invariant.0.drawn;
+            short = few_steps old old.counted;
+          },
+        ),
+      ),
+    )
 
 pub invariant_of-self : goal.invariant_of-self
 invariant_of-self c =
@@ -25,14 +45,21 @@ invariant_of-self c =
     let asked : IsAsked Returned old new (stepped new.step) =
     subst (λ (a : Answer). IsAsked Returned old new (answer_view a new.step)) is c.go_on-self-inside.ensures.asked in
     let step : step_view c.current.result.now ≡ new.step.step = ap (λ (s : NumberedStep). s.step) c.current.ensures in
-    let watched : IsWatched new c.see_in_hand.new.before c.see-self-inside.new.self c.see-self-inside.result Step =
-    step_watched old new c.see_in_hand.new.before c.self.inside.watches c.see-self-inside.new.self c.see-self-inside.result same asked
-    c.see_in_hand.ensures c.self.invariant.0.watches
-    (λ edition before stands few. subst (λ (s : StepView). WatchesStandFor edition c.see-self-inside.new.self (before ++ s ∷ [])) step
-    (c.see-self-inside.ensures.stands edition before stands few))
-    (λ edition before stands few. subst (λ (s : StepView). AreBroken (step_rules edition) c.see-self-inside.result before s) step
-    (c.see-self-inside.ensures.answer edition before stands few)) in (
-      subst (λ (a : Answer). IsWatched new c.see_in_hand.new.before c.see-self-inside.new.self c.see-self-inside.result a) (sym is) watched,
+    let watched : IsWatched new c.see_in_hand.new.before c.see_where-self-inside.new.watches c.see_where-self-inside.new.self c.see_where-self-inside.result Step =
+    step_watched old new c.see_in_hand.new.before c.self.inside.watches c.see_where-self-inside.new.watches c.self.inside.drawing c.see_where-self-inside.new.self
+    c.has_latest_rules-draws.result c.see_where-self-inside.result same asked c.see_in_hand.ensures (record {
+      where_drawn = c.has_latest_rules-draws.ensures ∙ ap has_latest_rules (sym c.self.invariant.1.edition_is);
+      watched = c.self.invariant.0.watches;
+      drawn = c.self.invariant.0.drawn;
+      short = few_steps old old.counted;
+    })
+    (λ edition before stands few. subst (λ (s : StepView). WatchesStandFor edition c.see_where-self-inside.new.watches (before ++ s ∷ [])) step
+    (c.see_where-self-inside.ensures.watches edition before stands few))
+    (λ edition box before can. subst (λ (s : StepView). LatestDrawingStandsFor edition box c.see_where-self-inside.new.self (before ++ s ∷ [])) step
+    (c.see_where-self-inside.ensures.stands edition box before can))
+    (λ edition box before can. subst (λ (s : StepView). (n : ℕ) → has c.see_where-self-inside.result n ≡ breaks_own edition box n before s) step
+    (c.see_where-self-inside.ensures.answer edition box before can)) in (
+      subst (λ (a : Answer). IsWatched new c.see_in_hand.new.before c.see_where-self-inside.new.watches c.see_where-self-inside.new.self c.see_where-self-inside.result a) (sym is) watched,
       begun_on old new _ _ _ same c.self.invariant.1,
     )
 
@@ -46,8 +73,8 @@ invariant_of-self-else-is_step c =
     let began : is_step c.self.inside.answer ≡ true = sym c.is_step.ensures ∙ c.if-not-is_step.false in
     let few : old.counted ≤ length (steps_in old) = within_steps old c.self.inside.answer began c.self.invariant.0.answer in
     let other : answer ≡ Step → ⊥ = no_step answer (sym c.is_step-2.ensures ∙ c.if-is_step.false) in (
-      over_watched old new c.see_in_hand.new.before c.self.inside.watches c.self.inside.broken answer same few other c.go_on-self-inside.ensures.asked
-          c.see_in_hand.ensures c.self.invariant.0.watches,
+      over_watched old new c.see_in_hand.new.before c.self.inside.watches c.self.inside.drawing c.self.inside.broken answer same few other c.go_on-self-inside.ensures.asked
+          c.see_in_hand.ensures c.self.invariant.0.watches c.self.invariant.0.drawn,
       begun_on old new _ _ _ same c.self.invariant.1,
     )
 

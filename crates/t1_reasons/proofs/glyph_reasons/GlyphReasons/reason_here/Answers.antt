@@ -1,18 +1,36 @@
-use Rattle.std.proofs.Common.{◌≡◌, ◌-◌, ◌<◌, ◌≤◌, None, ap, arith, length, subst, sym, take, ◌∙◌}
+use Rattle.std.proofs.Common.{◌≡◌, ◌-◌, ◌<◌, ◌≤◌, nat_lt, false, None, le-ltb, lt-ltb, refl, ap, arith, length, subst, sym, take, ◌∙◌}
+use Rattle.std.proofs.lemmas.Bool.{ltb-false}
 use Rattle.t1_char.specs.declared.machine.Answer.{Answer}
 use Rattle.t1_char.specs.Editions.{limit_of}
 use Rattle.t1_char.specs.Steps.{NumberedStep, StepView}
 use Rattle.t1_char.specs.StepValues.{step_view}
 use Rattle.t1_char.specs.Turns.{MachineView}
+use Rattle.t1_drawing.specs.DrawingRules.{box_of, breaks_own}
 use Rattle.t1_rules.specs.Components.{components_of}
-use Rattle.t1_rules.specs.StepRules.{charstring_rules, step_rules}
+use Rattle.t1_rules.specs.Book.{last_number_of_third, number_of}
+use Rattle.t1_rules.specs.Mask.{has}
 use Rattle.t1_reasons.specs.GlyphReasons.{IsAnswer, reason_at, steps_in}
-use Rattle.t1_reasons.specs.Standing.{AreBroken}
-use Rattle.t1_reasons.proofs.Walking.{both_kinds, few_steps, no_reason_at_the_end, reason_in_hand, reason_past_the_limit}
+use Rattle.t1_reasons.proofs.Walking.{both_kinds, drawing_alone, few_steps, no_reason_at_the_end, reason_in_hand, reason_past_the_limit}
 use Rattle.t1_reasons.proofs.glyph_reasons.GlyphReasons.reason_here.Goals as goal
 
-pub returns-in-Step : goal.returns-in-Step
-returns-in-Step c =
+pub returns-then-number-gt-LAST_OF_THIRD : goal.returns-then-number-gt-LAST_OF_THIRD
+returns-then-number-gt-LAST_OF_THIRD c =
+    let m = c.self.inside.machine in
+    let n = number_of c.args.rule in
+    let before = take (m.counted - 1) (steps_in m) in
+    let counted : c.counted.result ≡ m.counted = c.counted.ensures.counted in
+    let some : 0 < m.counted = omega (arith, counted, c.if-counted-eq0.false) in
+    let within : m.counted ≤ length (steps_in m) = subst (λ (a : Answer). IsAnswer a m) c.in-Step.is c.self.invariant.0.answer in
+    let past : last_number_of_third < n = omega (arith, c.if-number-gt-LAST_OF_THIRD.true, c.number.ensures.number) in
+    subst (λ (x : MachineView). c.drawing_reason.result ≡ reason_at x c.args.rule x.counted) c.self.view_is
+    (c.drawing_reason.ensures
+    ∙ rw (c.self.invariant.0.broken some within n, drawing_alone m.edition (box_of m.font) n before m.step.step past)
+    (sym (reason_in_hand m c.args.rule some within c.self.invariant.0.in_hand ∙ rw (lt-ltb last_number_of_third n past) refl)))
+
+pub returns-else-number-gt-LAST_OF_THIRD : goal.returns-else-number-gt-LAST_OF_THIRD
+returns-else-number-gt-LAST_OF_THIRD c =
+    let small : nat_lt last_number_of_third (number_of c.args.rule) ≡ false =
+    le-ltb last_number_of_third (number_of c.args.rule) (omega (arith, c.if-number-gt-LAST_OF_THIRD.false, c.number.ensures.number)) in
     let m = c.self.inside.machine in
     let before = take (m.counted - 1) (steps_in m) in
     let counted : c.counted.result ≡ m.counted = c.counted.ensures.counted in
@@ -22,11 +40,13 @@ returns-in-Step c =
     let components : c.args.sidebearings.now.components ≡ components_of (limit_of m.edition) m.font =
     subst (λ (x : MachineView). c.args.sidebearings.now.components ≡ components_of (limit_of x.edition) x.font) (sym c.self.view_is)
     (rw (← c.requires.edition) c.requires.sidebearings) in
-    let own : AreBroken (step_rules m.edition) c.self.inside.broken before (step_view c.current-step.result.now) =
-    subst (λ (s : StepView). AreBroken (step_rules m.edition) c.self.inside.broken before s) (sym step) (c.self.invariant.0.broken some within) in
-    let broken : AreBroken (charstring_rules m.edition c.args.sidebearings.now.components) c.join-broken.result before (step_view c.current-step.result.now) =
-    both_kinds m.edition c.args.sidebearings.now.components c.self.inside.broken c.see.result c.join-broken.result before (step_view c.current-step.result.now)
-    c.join-broken.ensures own (c.see.ensures before) in
+    let own : has c.self.inside.broken (number_of c.args.rule) ≡ breaks_own m.edition (box_of m.font) (number_of c.args.rule) before (step_view c.current-step.result.now) =
+    subst (λ (s : StepView). has c.self.inside.broken (number_of c.args.rule) ≡ breaks_own m.edition (box_of m.font) (number_of c.args.rule) before s) (sym step)
+    (c.self.invariant.0.broken some within (number_of c.args.rule)) in
+    let broken =
+    both_kinds m.edition c.args.sidebearings.now.components (box_of m.font) c.self.inside.broken c.see.result c.join-broken.result before
+    (step_view c.current-step.result.now) (number_of c.args.rule) (ltb-false last_number_of_third (number_of c.args.rule) small)
+    (c.join-broken.ensures (number_of c.args.rule)) own (c.see.ensures before (number_of c.args.rule)) in
     subst (λ (x : MachineView). c.told_of_step.result ≡ reason_at x c.args.rule x.counted) c.self.view_is
     (c.told_of_step.ensures
     ∙ rw (
@@ -36,7 +56,7 @@ returns-in-Step c =
       ← c.self.invariant.1.font_is,
       ← c.self.invariant.1.glyph_is,
     )
-    (sym (reason_in_hand m c.args.rule some within c.self.invariant.0.in_hand)))
+    (sym (reason_in_hand m c.args.rule some within c.self.invariant.0.in_hand ∙ rw small refl)))
 
 pub returns-in-Ended : goal.returns-in-Ended
 returns-in-Ended c =

@@ -2,7 +2,6 @@ use Rattle.std.proofs.Common.{◌≡◌, List, None, refl, ◌∙◌}
 use Rattle.t1_char.specs.declared.edition.Edition.{Edition}
 use Rattle.t1_char.specs.Steps.{StepView}
 use Rattle.t1_char.specs.StepValues.{step_view}
-use Rattle.t1_rules.specs.Book.{number_of}
 use Rattle.t1_rules.specs.declared.rule.Rule.{Rule}
 use Rattle.t1_rules.specs.declared.rule.Rule.TheVariants.{C01, C02, C03, C04, C05, C06, C07, C08, C09, S01, S02, S03, S04, GE01, GE02, W01, W02, P01, P02, P03, H01, H02, H03, H04, R01, R02, X01, X02, X03, X04, X05, X06, O01, O02, O03, O04, K01, K02, K03, K04, K05, K06, K07, H05, H06, H07, O05, O06, O07, O08, W03}
 use Rattle.t1_reasons.specs.StepReasons.{step_reason}
@@ -21,7 +20,7 @@ returns-in-X04 c = λ edition before st short broken. rw c.in-X04.is (c.pairs_re
 pub returns-in-W01 : goal.returns-in-W01
 returns-in-W01 c = λ edition before st short broken.
     c.told_where.ensures
-    ∙ rw (c.has.ensures, broken (number_of c.args.rule), st.background)
+    ∙ rw (c.has.ensures, broken, st.background)
     (told_reason edition c.args.sidebearings.now.components before (step_view c.args.step.now) c.args.rule (tells_where c.args.rule c.in-W01.is))
 
 pub returns-in_default : goal.returns-in_default
