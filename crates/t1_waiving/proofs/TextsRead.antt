@@ -5,7 +5,10 @@ use Rattle.std.proofs.lemmas.Bool.{and_parts, cases_Bool, eqb-true, le-leb, or_c
 use Rattle.std.specs.List.{All, AllByRecursion, list_all}
 use Rattle.t1_char.specs.Steps.{StepView, steps_of}
 use Rattle.t1_char.specs.declared.edition.Edition.{Edition}
-use Rattle.t1_char.specs.Editions.{has_later_rules}
+use Rattle.t1_char.specs.Editions.{has_later_rules, has_latest_rules}
+use Rattle.t1_drawing.specs.declared.font_box.FontBox.{FontBox}
+use Rattle.t1_drawing.specs.DrawingRules.{box_of, drawing_rules}
+use Rattle.t1_drawing.proofs.RuleNumbers.{drawing_rules_come_last}
 use Rattle.t1_font.specs.Fonts.{FontValue, glyph_name, name_in}
 use Rattle.t1_lines.specs.Lines.{FaultLineValue, IsFaultLine, at_step, line_in}
 use Rattle.t1_lines.specs.Names.{HasNames}
@@ -13,10 +16,11 @@ use Rattle.t1_many.proofs.WaiversRead.{written_are_read}
 use Rattle.t1_many.specs.Laws.{CanBeWaived}
 use Rattle.t1_many.specs.Verdicts.{told_faults}
 use Rattle.t1_many.specs.WrittenWaivers.{waivers_behind, waivers_text}
+use Rattle.t1_report.proofs.Broken.{breaks_both}
 use Rattle.t1_report.proofs.Told.{told_in_glyph, told_within}
 use Rattle.t1_report.specs.Checked.{CheckedFont, step_limit}
 use Rattle.t1_report.specs.Faults.{FaultValue}
-use Rattle.t1_report.specs.Reports.{is_broken, is_told, rules_of, step_breaks}
+use Rattle.t1_report.specs.Reports.{is_broken, is_told, rules_of, rules_with, step_breaks}
 use Rattle.t1_report.specs.Waivers.{Waiver, is_waivable, waivers_of, with_waiver}
 use Rattle.t1_rules.specs.Book.{number_of}
 use Rattle.t1_rules.specs.Components.{components_of}
@@ -62,24 +66,47 @@ of_components edition rule (least, greatest) =
     rw (low, high) refl
 
 of_limit : (edition : Edition) (rule : Rule) → number_of L01 ≡ number_of rule → is_waivable edition rule ≡ true
-of_limit edition rule same = subst (λ n. (nat_le 26 n && nat_le n 69 || has_later_rules edition && (nat_le 86 n && nat_le n 93)) ≡ true) same refl
+of_limit edition rule same =
+    subst (λ n. (nat_le 26 n && nat_le n 69
+    || (has_later_rules edition && (nat_le 86 n && nat_le n 93) || has_latest_rules edition && (nat_le 102 n && nat_le n 112))) ≡ true) same refl
 
-module _ (edition : Edition) (components : List Component) (rule : Rule) where
-  breaks_waivable : (before : List StepView) (step : StepView) → breaks (charstring_rules edition components) (number_of rule) before step ≡ true
+of_drawing : (edition : Edition) (rule : Rule) → has_latest_rules edition ≡ true → (102 ≤ number_of rule) × (number_of rule ≤ 112)
+    → is_waivable edition rule ≡ true
+of_drawing edition rule has (least, greatest) =
+    let low : nat_le 102 (number_of rule) ≡ true = le-leb 102 (number_of rule) least in
+    let high : nat_le (number_of rule) 112 ≡ true = le-leb (number_of rule) 112 greatest in
+    let first = nat_le 26 (number_of rule) && nat_le (number_of rule) 69 in
+    rw (has, low, high)
+    (ap (λ b. first || b) (or-true (has_later_rules edition && (nat_le 86 (number_of rule) && nat_le (number_of rule) 93))) ∙ or-true first)
+
+module _ (edition : Edition) (components : List Component) (box : Option FontBox) (rule : Rule) where
+  charstrings_waivable : (before : List StepView) (step : StepView) → breaks (charstring_rules edition components) (number_of rule) before step ≡ true
       → is_waivable edition rule ≡ true
-  breaks_waivable before step is =
+  charstrings_waivable before step is =
       elim (or_cases (breaks (step_rules edition) (number_of rule) before step) (breaks (component_rules components) (number_of rule) before step)
       (sym (all_rules edition components (number_of rule) before step) ∙ is)) [
         | inl own ↦ of_steps edition rule (broken_have_these_numbers edition (number_of rule) before step own)
         | inr other ↦ of_components edition rule (component_number components (number_of rule) before step other)
       ]
 
-  next_waivable : (before : List StepView) (step : Option StepView) → breaks_next (charstring_rules edition components) (number_of rule) before step ≡ true
+  breaks_waivable : (before : List StepView) (step : StepView) → breaks (rules_with edition components box) (number_of rule) before step ≡ true
+      → is_waivable edition rule ≡ true
+  breaks_waivable before step is =
+      elim (or_cases (breaks (charstring_rules edition components) (number_of rule) before step)
+      (has_latest_rules edition && breaks (drawing_rules box) (number_of rule) before step)
+      (sym (breaks_both edition components box (number_of rule) before step) ∙ is)) [
+        | inl charstring ↦ charstrings_waivable before step charstring
+        | inr drawn ↦
+            let parts = and_parts (has_latest_rules edition) (breaks (drawing_rules box) (number_of rule) before step) drawn in
+            of_drawing edition rule parts.0 (drawing_rules_come_last box (number_of rule) before step parts.1)
+      ]
+
+  next_waivable : (before : List StepView) (step : Option StepView) → breaks_next (rules_with edition components box) (number_of rule) before step ≡ true
       → is_waivable edition rule ≡ true
   next_waivable before None is = absurd (true≢false (sym is))
   next_waivable before (Some step) is = breaks_waivable before step is
 
-  step_broken : (limit : ℕ) (steps : List StepView) (i : ℕ) → step_breaks limit (charstring_rules edition components) (number_of rule) steps i ≡ true
+  step_broken : (limit : ℕ) (steps : List StepView) (i : ℕ) → step_breaks limit (rules_with edition components box) (number_of rule) steps i ≡ true
       → is_waivable edition rule ≡ true
   step_broken limit steps i is = elim (cases_Bool (nat_lt i limit)) [
     | inl before ↦ next_waivable _ (slice_get steps i) (rw before at is)
@@ -92,7 +119,7 @@ broken_waivable : (font : CheckedFont) (glyph step : ℕ) (rule : Rule) → is_b
 unfolding is_broken rules_of
 broken_waivable font glyph zero rule is = absurd (true≢false (sym is))
 broken_waivable font glyph (suc i) rule is =
-    step_broken font.edition (components_of (step_limit font) font.value) rule (step_limit font) (steps_of font.value glyph) i (and_parts _ _ is).1
+    step_broken font.edition (components_of (step_limit font) font.value) (box_of font.value) rule (step_limit font) (steps_of font.value glyph) i (and_parts _ _ is).1
 
 -- ---- the lines of glyphs, each with its glyph and its rule alone
 
