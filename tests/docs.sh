@@ -378,7 +378,7 @@ done <"$scratch/files"
 has_rows() {
     case $1 in
         *Views | t1_char/StepValues | t1_font/Entries) return 1 ;;
-        t1_seal/* | t1_scan/* | t1_words/* | t1_font/* | t1_texts/* | t1_char/* | t1_rules/* | t1_report/* | t1_answer/*) return 0 ;;
+        t1_seal/* | t1_scan/* | t1_words/* | t1_font/* | t1_texts/* | t1_char/* | t1_rules/* | t1_drawing/* | t1_report/* | t1_answer/*) return 0 ;;
     esac
     return 1
 }

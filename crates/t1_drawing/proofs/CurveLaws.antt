@@ -2,6 +2,9 @@
 use Rattle.std.proofs.Common.{◌≡◌, ◌≤ℤ◌, ◌⊎◌, ◌&&◌, ◌||◌, inl, inr, ℤ, pos, ◌+ℤ◌, ◌*ℤ◌, Bool, true, false, int_le, refl, arith}
 use Rattle.std.proofs.lemmas.Bool.{and_parts, or_cases}
 use Rattle.std.proofs.lemmas.Int.{clamps, ints}
+use Rattle.std.specs.Int.{int_max, int_min}
+use Rattle.t1_drawing.specs.Private.Between.{are_between}
+use Rattle.t1_drawing.specs.Touching.{is_between}
 use Rattle.t1_drawing.specs.Curves.{at_half, at_quarter, goes_beyond, is_above, is_below, is_beyond, is_beyond_at_half, is_beyond_at_quarter}
 use Rattle.t1_drawing.specs.Laws.{CurvesWithinTheirEndsAreFine, CurvesWithoutExtremesGoBeyond, GoesBeyond, IsBetween}
 
@@ -108,6 +111,18 @@ never_beyond a b c d first second =
       never_at_half a b c d first second,
       never_at_quarter d c b a (turned_between c a d second) (turned_between b a d first),
     ) refl
+
+is_it_between : (low z high : ℤ) → is_between low z high ≡ true → (low ≤ℤ z) × (z ≤ℤ high)
+is_it_between low z high is =
+    let parts = and_parts (int_le low z) (int_le z high) is in
+    (ordered low z parts.0, ordered z high parts.1)
+
+pub never_beyond_between : (a b c d : ℤ) → are_between a b c d ≡ true → goes_beyond a b c d ≡ false
+never_beyond_between a b c d is =
+    let parts = and_parts (is_between (int_min a d) b (int_max a d)) (is_between (int_min a d) c (int_max a d)) is in
+    let first = is_it_between (int_min a d) b (int_max a d) parts.0 in
+    let second = is_it_between (int_min a d) c (int_max a d) parts.1 in
+    never_beyond a b c d (record { low = first.0; high = first.1 }) (record { low = second.0; high = second.1 })
 
 pub curves_within_their_ends_are_fine : CurvesWithinTheirEndsAreFine
 curves_within_their_ends_are_fine p a b q one two =

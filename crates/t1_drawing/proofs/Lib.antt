@@ -5,6 +5,7 @@ pub mod Drawing
 pub mod FlatLaws
 pub mod Mapped
 pub mod NearLaws
+pub mod NoFaults
 pub mod Numbers
 pub mod RuleNumbers
 pub mod Spoiled

@@ -8,10 +8,11 @@ use Rattle.t1_char.specs.Steps.{StepView}
 use Rattle.t1_char.proofs.LookingBack.{last_goes_on}
 use Rattle.t1_drawing.specs.declared.direction.Direction.{Direction}
 use Rattle.t1_drawing.specs.declared.direction.Direction.TheVariants.{Across, Upright}
+use Rattle.t1_drawing.specs.declared.touching.Extent.{Extent}
 use Rattle.t1_drawing.specs.declared.touching.WatchedStem.{WatchedStem}
 use Rattle.t1_drawing.specs.Strokes.{Stroke, end_of_steps, segments_of, strokes_after, strokes_at, strokes_from}
-use Rattle.t1_drawing.specs.Touching.{SetStem, coordinate, extent_by, has_edges_of, is_stroke, is_touched, set_after, set_at, set_from, setting_width, sidebearing_point, stems_of_glyph, stems_set, touches, with_stem, with_stems}
-use Rattle.t1_drawing.specs.Private.Watching.{Drawing, draw_on, draws_on, has_edges, point_on, touched_by, watched, with_stem_from, with_stems_from}
+use Rattle.t1_drawing.specs.Touching.{SetStem, coordinate, extent_by, has_edges_of, is_stroke, is_touched, set_after, set_at, set_from, setting_width, sidebearing_point, stems_of_glyph, stems_set, touches, touches_one, with_stem, with_stems}
+use Rattle.t1_drawing.specs.Private.Watching.{Drawing, all_touched, draw_on, draws_on, has_edges, point_on, touched_by, watched, with_stem_from, with_stems_from}
 use Rattle.t1_drawing.proofs.NearLaws.{steps_add_what_they_draw}
 use Rattle.t1_outline.specs.declared.segment.Segment.{Segment}
 use Rattle.t1_outline.specs.Laws.Points.{end_of, last_end}
@@ -117,6 +118,18 @@ watched_stems direction start stems (m ∷ ms) =
 pub touched_by_none : (direction : Direction) (stems : List WatchedStem) → map (touched_by_all direction []) stems ≡ stems
 touched_by_none direction [] = refl
 touched_by_none direction (s ∷ ss) = rw (or-false s.touched, touched_by_none direction ss) refl
+
+-- Where all stems are touched, nothing changes them.
+pub touched_stay : (e : Option Extent) (stems : List WatchedStem) → all_touched stems ≡ true → map (touched_by e) stems ≡ stems
+touched_stay e [] all = refl
+touched_stay e (s ∷ ss) all = go s.touched refl all (touched_stay e ss)
+  where
+    go : (touched : Bool) → s.touched ≡ touched → not (not touched || list_any (λ stem. not stem.touched) ss) ≡ true
+        → (all_touched ss ≡ true → map (touched_by e) ss ≡ ss) → map (touched_by e) (s ∷ ss) ≡ s ∷ ss
+    go false is all rest = let no : false ≡ true = all in cc
+    go true is all rest =
+        let same : touched_by e s ≡ s = ap (λ t. record s { touched = t }) (ap (λ t. t || touches_one e s.low s.high) is ∙ sym is) in
+        rw (same, rest all) refl
 
 -- What is no line and no curve touches nothing.
 pub touched_by_nothing : (stems : List WatchedStem) → map (touched_by None) stems ≡ stems

@@ -4,8 +4,12 @@ ghost use Rattle.std.specs.Prelude.{◌≡◌, ◌*◌, ◌+ℤ◌, ◌*ℤ◌, 
 ghost use Rattle.t1_rules.specs.Watches.{IsNear, IsWithin, reach};
 ghost use Rattle.t1_drawing.specs.Bounds.{AreCoordinates, IsDrawnNear, most_ways};
 ghost use Rattle.t1_drawing.specs.Curves.{at_half, at_quarter, goes_beyond, is_above, is_below, is_beyond, is_beyond_at_half, is_beyond_at_quarter, is_flat_from, lacks_extreme_from};
+ghost use Rattle.std.specs.Int.{int_max, int_min};
+ghost use Rattle.t1_drawing.specs.Private.Between.{are_between};
+ghost use Rattle.t1_drawing.specs.Touching.{is_between};
 
 use crate::points::{is_on_line, is_same};
+use crate::touching::is_between;
 use t1_char::UNIT;
 use t1_outline::Segment;
 use t1_rules::Point;
@@ -42,9 +46,27 @@ fn goes_beyond(start: i64, one: i64, two: i64, end: i64) -> bool
     requires { AreCoordinates start one two end }
     ensures { result ≡ goes_beyond start one two end }
 {
+    // Most curves stay between their ends.
+    if are_between(start, one, two, end) {
+        return false;
+    }
     is_beyond_at_quarter(start, one, two, end)
         | is_beyond_at_half(start, one, two, end)
         | is_beyond_at_quarter(end, two, one, start)
+}
+
+/// Whether the coordinates of both control points are between those of the ends.
+fn are_between(start: i64, one: i64, two: i64, end: i64) -> bool
+    ensures { result ≡ are_between start one two end }
+{
+    is_within(start, one, end) & is_within(start, two, end)
+}
+
+/// Whether a coordinate is between those of the ends.
+fn is_within(start: i64, place: i64, end: i64) -> bool
+    ensures { result ≡ is_between (int_min start end) place (int_max start end) }
+{
+    is_between(start.min(end), place, start.max(end))
 }
 
 fn is_beyond_at_quarter(start: i64, one: i64, two: i64, end: i64) -> bool

@@ -1,7 +1,7 @@
 //! Which rules on segments a step breaks.
 
 ghost use Rattle.std.specs.Prelude.{◌≡◌};
-ghost use Rattle.t1_drawing.specs.Private.Joined.{joined, no_faults};
+ghost use Rattle.t1_drawing.specs.Private.Joined.{are_some, joined, no_faults};
 
 /// Which rules on segments a step breaks: whether one of the segments that it draws does. Type 1 Font Format 1.1,
 /// chapters 2 and 3.
@@ -34,6 +34,19 @@ impl SegmentFaults {
             is_flat: false,
             lacks_extreme: false,
         }
+    }
+
+    /// Whether there is one.
+    #[inline(always)]
+    pub(crate) fn are_some(self) -> bool
+        ensures { result ≡ are_some self }
+    {
+        self.is_outside
+            | self.has_no_length
+            | self.turns_back
+            | self.goes_straight_on
+            | self.is_flat
+            | self.lacks_extreme
     }
 
     /// These and others.

@@ -1,10 +1,12 @@
 //! FontBBox, and what ends outside of it: Type 1 Font Format 1.1, chapter 2.
 
-ghost use Rattle.std.specs.Prelude.{◌≡◌, ◌*ℤ◌, ◌+ℤ◌, ◌-ℤ◌, if◌then◌else◌, int_le, pos};
+ghost use Rattle.std.specs.Prelude.{◌≡◌, ◌*ℤ◌, ◌+ℤ◌, ◌-ℤ◌, ◌||◌, if◌then◌else◌, int_le, pos, Option, option_map};
 ghost use Rattle.std.specs.Ordering.{int_eq};
 ghost use Rattle.t1_scan.specs.Numbers.{billion};
 ghost use Rattle.t1_drawing.specs.DrawingRules.{box_of};
-ghost use Rattle.t1_drawing.specs.FontBoxes.{ends_outside, ends_outside_box, font_box, is_box, is_off, is_outside};
+ghost use Rattle.t1_drawing.specs.declared.font_box.FontBox.{FontBox as Boxes};
+ghost use Rattle.t1_drawing.specs.FontBoxes.{ends_outside, ends_outside_box, font_box, is_box, is_outside};
+ghost use Rattle.t1_drawing.specs.Private.Limits.{limits_of};
 
 use t1_char::UNIT;
 use t1_font::{BILLION, Font, Key};
@@ -61,11 +63,12 @@ fn is_ordered(lower: i64, upper: i64) -> bool
     lower <= upper
 }
 
-/// Whether a coordinate is a unit or more below the first number, or above the second.
-fn is_off(least: i64, greatest: i64, place: i64) -> bool
-    ensures { result ≡ is_off least greatest place }
+/// Whether a coordinate is a unit or more below the first of a box's numbers, or above the second, by where that is.
+fn is_off(below: i128, above: i128, place: i64) -> bool
+    ensures { result ≡ (int_le (place *ℤ pos billion) below || int_le above (place *ℤ pos billion)) }
 {
-    (of_point(place) <= a_unit_below(least)) | (a_unit_above(greatest) <= of_point(place))
+    let place = of_point(place);
+    (place <= below) | (above <= place)
 }
 
 /// A point's coordinate, in units of 1/65536 of 10^-9.
@@ -113,22 +116,54 @@ impl FontBox {
         }
     }
 
-    fn is_outside(self, point: Point) -> bool
-        ensures { result ≡ is_outside self point }
+    fn limits(self) -> Limits
+        ensures { result ≡ limits_of self }
+    {
+        Limits {
+            left: a_unit_below(self.left),
+            bottom: a_unit_below(self.bottom),
+            right: a_unit_above(self.right),
+            top: a_unit_above(self.top),
+        }
+    }
+}
+
+/// Where points are outside a box: a unit beyond its edges, in units of 1/65536 of 10^-9.
+#[derive(Clone, Copy, Debug, PartialEq, Eq)]
+pub(crate) struct Limits {
+    left: i128,
+    bottom: i128,
+    right: i128,
+    top: i128,
+}
+
+impl Limits {
+    /// Those of a box, if there is one.
+    pub(crate) fn of(font_box: Option<FontBox>) -> Option<Limits>
+        ensures { result ≡ option_map limits_of font_box }
+    {
+        match font_box {
+            Some(font_box) => Some(font_box.limits()),
+            None => None,
+        }
+    }
+
+    fn are_passed(self, point: Point) -> bool
+        ensures { (box : Boxes) → self ≡ limits_of box → result ≡ is_outside box point }
     {
         is_off(self.left, self.right, point.x) | is_off(self.bottom, self.top, point.y)
     }
 }
 
 /// Whether a line or a curve ends a unit or more outside the box, if there is one.
-pub(crate) fn ends_outside(font_box: Option<FontBox>, segment: Segment) -> bool
-    ensures { result ≡ ends_outside font_box segment }
+pub(crate) fn ends_outside(limits: Option<Limits>, segment: Segment) -> bool
+    ensures { (box : Option Boxes) → limits ≡ option_map limits_of box → result ≡ ends_outside box segment }
 {
-    let Some(font_box) = font_box else {
+    let Some(limits) = limits else {
         return false;
     };
     match segment {
-        Segment::Line(end) | Segment::Curve(_, _, end) => font_box.is_outside(end),
+        Segment::Line(end) | Segment::Curve(_, _, end) => limits.are_passed(end),
         _ => false,
     }
 }

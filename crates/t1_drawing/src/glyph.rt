@@ -6,8 +6,9 @@ ghost use Rattle.t1_char.specs.Steps.{StepView};
 ghost use Rattle.t1_char.specs.StepValues.{step_view};
 ghost use Rattle.t1_drawing.specs.declared.font_box.FontBox.{FontBox as Boxes};
 ghost use Rattle.t1_drawing.specs.DrawingRules.{breaks_own, drawing_rules, ends_clockwise, ends_glyph, ends_untouched, is_endchar};
-ghost use Rattle.t1_drawing.specs.Private.Joined.{drawing_faults};
-ghost use Rattle.t1_drawing.specs.Private.Standing.{CanBeSeen, DrawingStandsFor, LatestDrawingStandsFor, SegmentsStandFor, TouchesStandFor};
+ghost use Rattle.t1_drawing.specs.Private.Joined.{are_none, drawing_faults};
+ghost use Rattle.t1_drawing.specs.Private.Plain.{DrawsAlone, is_silent};
+ghost use Rattle.t1_drawing.specs.Private.Standing.{BothStandFor, DrawingStandsFor, LatestDrawingStandsFor, SegmentsStandFor, TouchesStandFor};
 ghost use Rattle.t1_drawing.specs.Strokes.{segments_of};
 ghost use Rattle.t1_rules.specs.Mask.{has};
 ghost use Rattle.t1_rules.specs.Private.Standing.{WatchesStandFor};
@@ -21,7 +22,7 @@ use crate::segments::SegmentWatcher;
 use crate::stem_edges::{sets_adjacent, sets_negative_width};
 use crate::touching::TouchWatcher;
 use t1_char::{CharToken, Command, Step, is_end};
-use t1_outline::{Around, Nib, spoils_flex};
+use t1_outline::{Around, Nib, Segment, spoils_flex};
 use t1_rules::{Mask, Rule, Watch, Watches};
 
 /// Which rules on the drawing a step breaks.
@@ -39,6 +40,21 @@ pub(crate) struct DrawingFaults {
     sets_adjacent: bool,
     /// H10.
     sets_negative_width: bool,
+}
+
+impl DrawingFaults {
+    /// Whether the step breaks none.
+    #[inline(always)]
+    fn are_none(self) -> bool
+        ensures { result ≡ are_none self }
+    {
+        !(self.segments.are_some()
+            | self.ends_clockwise
+            | self.moves_again
+            | self.ends_untouched
+            | self.sets_adjacent
+            | self.sets_negative_width)
+    }
 }
 
 /// Watches for P04 to P11 and H08 to H10, from the first step of a glyph on, beside [`Watches`].
@@ -89,6 +105,65 @@ impl DrawingWatcher {
             (n : ℕ) → has result n
             ≡ (breaks (step_rules edition) n before (step_view step.now) || breaks (drawing_rules box) n before (step_view step.now)) }
     {
+        if watches.is_in_flex() {
+            return self.see_any(watches, step);
+        }
+        if is_silent(step.token) {
+            return watches.see(step);
+        }
+        match self.nib.stroke(step, watches.point()) {
+            Some(segment) => self.see_stroke(watches, step, segment),
+            None => self.see_any(watches, step),
+        }
+    }
+
+    /// The same of a line or a curve that is all that its step draws, outside flex: most steps that draw are such steps.
+    #[inline(always)]
+    fn see_stroke(&mut self, watches: &mut Watches, step: &Step, segment: Segment) -> Mask
+        requires { (edition : Editions) × ((box : Option Boxes) × ((before : List StepView) ×
+            DrawsAlone edition box watches.old self.old before (step_view step.now) segment)) }
+        ensures watches { (edition : Editions) (before : List StepView) →
+            WatchesStandFor edition watches.old before → length before < most_steps →
+            WatchesStandFor edition watches.new (before ++ step_view step.now ∷ []) }
+        ensures stands { (edition : Editions) (box : Option Boxes) (before : List StepView) →
+            DrawsAlone edition box watches.old self.old before (step_view step.now) segment →
+            DrawingStandsFor box self.new (before ++ step_view step.now ∷ []) }
+        ensures answer { (edition : Editions) (box : Option Boxes) (before : List StepView) →
+            DrawsAlone edition box watches.old self.old before (step_view step.now) segment →
+            (n : ℕ) → has result n
+            ≡ (breaks (step_rules edition) n before (step_view step.now) || breaks (drawing_rules box) n before (step_view step.now)) }
+    {
+        let _moves_again = self.moves.see(step, false);
+        let broken = watches.see(step);
+        let drawn = [segment];
+        let segments = self.segments.see(&drawn);
+        self.touches.see(step, &drawn);
+        broken.join(rules_in(DrawingFaults {
+            segments,
+            ends_clockwise: false,
+            moves_again: false,
+            ends_untouched: false,
+            sets_adjacent: false,
+            sets_negative_width: false,
+        }))
+    }
+
+    /// The same of any step.
+    #[inline(never)]
+    fn see_any(&mut self, watches: &mut Watches, step: &Step) -> Mask
+        requires { (edition : Editions) × ((box : Option Boxes) × ((before : List StepView) ×
+            (WatchesStandFor edition watches.old before × (DrawingStandsFor box self.old before × (length before < most_steps))))) }
+        ensures watches { (edition : Editions) (before : List StepView) →
+            WatchesStandFor edition watches.old before → length before < most_steps →
+            WatchesStandFor edition watches.new (before ++ step_view step.now ∷ []) }
+        ensures stands { (edition : Editions) (box : Option Boxes) (before : List StepView) →
+            WatchesStandFor edition watches.old before → DrawingStandsFor box self.old before → length before < most_steps →
+            DrawingStandsFor box self.new (before ++ step_view step.now ∷ []) }
+        ensures answer { (edition : Editions) (box : Option Boxes) (before : List StepView) →
+            WatchesStandFor edition watches.old before → DrawingStandsFor box self.old before → length before < most_steps →
+            (n : ℕ) → has result n
+            ≡ (breaks (step_rules edition) n before (step_view step.now) || breaks (drawing_rules box) n before (step_view step.now)) }
+    {
         let start = watches.point();
         let is_in_flex = watches.is_in_flex();
         let sets_adjacent = sets_adjacent(step, watches.across(), watches.upright());
@@ -122,15 +197,15 @@ impl DrawingWatcher {
     #[inline(always)]
     pub fn see_where(&mut self, draws: bool, watches: &mut Watches, step: &Step) -> Mask
         requires { (edition : Editions) × ((box : Option Boxes) × ((before : List StepView) ×
-            CanBeSeen edition box draws watches.old self.old before)) }
+            (BothStandFor edition box draws watches.old self.old before × (length before < most_steps)))) }
         ensures watches { (edition : Editions) (before : List StepView) →
             WatchesStandFor edition watches.old before → length before < most_steps →
             WatchesStandFor edition watches.new (before ++ step_view step.now ∷ []) }
         ensures stands { (edition : Editions) (box : Option Boxes) (before : List StepView) →
-            CanBeSeen edition box draws watches.old self.old before →
+            BothStandFor edition box draws watches.old self.old before → length before < most_steps →
             LatestDrawingStandsFor edition box self.new (before ++ step_view step.now ∷ []) }
         ensures answer { (edition : Editions) (box : Option Boxes) (before : List StepView) →
-            CanBeSeen edition box draws watches.old self.old before →
+            BothStandFor edition box draws watches.old self.old before → length before < most_steps →
             (n : ℕ) → has result n ≡ breaks_own edition box n before (step_view step.now) }
     {
         if draws {
@@ -164,6 +239,26 @@ fn ends_untouched(step: &Step, touches: &TouchWatcher) -> bool
     ends_glyph(step) && touches.leaves_untouched()
 }
 
+/// Whether a token draws nothing and sets nothing that this watches.
+#[inline(always)]
+fn is_silent(token: CharToken) -> bool
+    ensures { result ≡ is_silent token }
+{
+    match token {
+        CharToken::Number(_) => true,
+        CharToken::Command(command) => match command {
+            Command::Callsubr
+            | Command::Return
+            | Command::Pop
+            | Command::Div
+            | Command::Dotsection
+            | Command::Setcurrentpoint => true,
+            _ => false,
+        },
+        _ => false,
+    }
+}
+
 fn is_endchar(token: CharToken) -> bool
     ensures { result ≡ is_endchar token }
 {
@@ -171,8 +266,22 @@ fn is_endchar(token: CharToken) -> bool
 }
 
 /// The rules that a step breaks.
-#[tactic(auto, unfolding(crate::specs::DrawingRules::drawing_rules))]
+#[inline(always)]
 fn rules_in(faults: DrawingFaults) -> Mask
+    ensures { (box : Option Boxes) (before : List StepView) (step : StepView) → faults ≡ drawing_faults box before step →
+        (n : ℕ) → has result n ≡ breaks (drawing_rules box) n before step }
+{
+    if faults.are_none() {
+        Mask::empty()
+    } else {
+        all_rules_in(faults)
+    }
+}
+
+/// The same, one after another.
+#[inline(never)]
+#[tactic(auto, unfolding(crate::specs::DrawingRules::drawing_rules))]
+fn all_rules_in(faults: DrawingFaults) -> Mask
     ensures { (box : Option Boxes) (before : List StepView) (step : StepView) → faults ≡ drawing_faults box before step →
         (n : ℕ) → has result n ≡ breaks (drawing_rules box) n before step }
 {

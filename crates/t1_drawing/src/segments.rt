@@ -12,7 +12,7 @@ ghost use Rattle.t1_drawing.specs.Private.Standing.{SegmentsStandFor};
 use crate::area::{Area, area_after, is_clockwise};
 use crate::curves::{is_flat, lacks_extreme};
 use crate::faults::SegmentFaults;
-use crate::font_box::{FontBox, ends_outside};
+use crate::font_box::{FontBox, Limits, ends_outside};
 use crate::lines::{goes_straight_on, has_no_length, turns_back};
 use crate::points::{end_of, line_start};
 use t1_outline::Segment;
@@ -21,7 +21,7 @@ use t1_rules::Point;
 /// Watches for P04 to P10, as far as segments alone decide.
 #[derive(Clone, Copy, Debug, PartialEq, Eq)]
 pub(crate) struct SegmentWatcher {
-    font_box: Option<FontBox>,
+    limits: Option<Limits>,
     /// Whether a line or a curve ended outside it.
     was_outside: bool,
     /// Where the last segment ended, unless it is closepath: there the next line or curve begins.
@@ -38,7 +38,7 @@ impl SegmentWatcher {
         ensures { SegmentsStandFor font_box result [] }
     {
         SegmentWatcher {
-            font_box,
+            limits: Limits::of(font_box),
             was_outside: false,
             start: None,
             line_start: None,
@@ -84,7 +84,7 @@ impl SegmentWatcher {
             SegmentsStandFor box self.old before → CanBeDrawn before (segment ∷ []) →
             SegmentsStandFor box self.new (before ++ segment ∷ []) }
     {
-        let ends_outside = ends_outside(self.font_box, segment);
+        let ends_outside = ends_outside(self.limits, segment);
         let faults = SegmentFaults {
             is_outside: ends_outside & !self.was_outside,
             has_no_length: has_no_length(self.start, segment),

@@ -7,7 +7,7 @@ ghost use Rattle.t1_char.specs.Steps.{StepView};
 ghost use Rattle.t1_char.specs.StepValues.{step_view};
 ghost use Rattle.t1_drawing.specs.Touching.{coordinate, curve_extent, extent_by, extent_from, high_edge, is_between, is_near, is_stroke_by, leaves_untouched, line_extent, low_edge, stems_set, touches_edge, touches_one, widened};
 ghost use Rattle.t1_drawing.specs.Private.Standing.{TouchesStandFor};
-ghost use Rattle.t1_drawing.specs.Private.Watching.{draw_on, drawing_in, draws_on, has_edges, point_in, point_on, touched_by, with_edges, with_stem_from, with_stems_from};
+ghost use Rattle.t1_drawing.specs.Private.Watching.{IsDone, draw_on, drawing_in, draws_on, has_edges, point_in, point_on, touched_by, with_edges, with_stem_from, with_stems_from};
 ghost use Rattle.t1_outline.specs.Outlines.{drawn};
 ghost use Rattle.t1_drawing.specs.declared.direction.Direction.TheVariants.{Across, Upright};
 ghost use Rattle.t1_rules.specs.StepRules.Stems.{most_stems, stems_of};
@@ -63,6 +63,8 @@ pub(crate) struct TouchWatcher {
     end: Option<Point>,
     /// Whether a line or a curve was drawn.
     has_strokes: bool,
+    /// Whether all stems are known to be touched. Only speed depends on it.
+    is_done: bool,
 }
 
 fn is_near(one: i64, other: i64) -> bool
@@ -71,7 +73,7 @@ fn is_near(one: i64, other: i64) -> bool
     one.abs_diff(other) <= NEAR
 }
 
-fn is_between(low: i64, place: i64, high: i64) -> bool
+pub(crate) fn is_between(low: i64, place: i64, high: i64) -> bool
     ensures { result ≡ is_between low place high }
 {
     (low <= place) & (place <= high)
@@ -326,6 +328,7 @@ impl TouchWatcher {
             sidebearing: Sidebearing { x: 0, y: 0 },
             end: None,
             has_strokes: false,
+            is_done: true,
         }
     }
 
@@ -338,10 +341,12 @@ impl TouchWatcher {
         self.sidebearing = Sidebearing { x: 0, y: 0 };
         self.end = None;
         self.has_strokes = false;
+        self.is_done = true;
     }
 
     /// Sees the next step, and what it draws.
     pub(crate) fn see(&mut self, step: &Step, segments: &[Segment])
+        requires { IsDone self.old }
         ensures { (before : List StepView) → TouchesStandFor self.old before → segments.now ≡ drawn before (step_view step.now) →
             TouchesStandFor self.new (before ++ step_view step.now ∷ []) }
     {
@@ -360,8 +365,10 @@ impl TouchWatcher {
     }
 
     pub(crate) fn draw_all(&mut self, segments: &[Segment])
+        requires { IsDone self.old }
         ensures drawing { drawing_in self.new ≡ draws_on (drawing_in self.old) segments.now }
         ensures sidebearing { self.new.sidebearing ≡ self.old.sidebearing }
+        ensures done { IsDone self.new }
     {
         for segment in segments {
             self.draw(*segment);
@@ -369,13 +376,33 @@ impl TouchWatcher {
     }
 
     fn draw(&mut self, segment: Segment)
+        requires { IsDone self.old }
         ensures drawing { drawing_in self.new ≡ draw_on (drawing_in self.old) segment }
         ensures sidebearing { self.new.sidebearing ≡ self.old.sidebearing }
+        ensures done { IsDone self.new }
     {
-        touch(&mut self.across, Direction::Across, self.end, segment);
-        touch(&mut self.upright, Direction::Upright, self.end, segment);
+        self.touch(segment);
         self.end = end_of(segment);
         self.has_strokes = self.has_strokes | is_stroke(segment);
+    }
+
+    /// Touches stems with a segment, where one isn't touched yet.
+    fn touch(&mut self, segment: Segment)
+        requires { IsDone self.old }
+        ensures across { self.new.across.items ≡ map (touched_by (extent_by (coordinate Across) self.old.end segment)) self.old.across.items }
+        ensures upright { self.new.upright.items ≡ map (touched_by (extent_by (coordinate Upright) self.old.end segment)) self.old.upright.items }
+        ensures end { self.new.end ≡ self.old.end }
+        ensures has_strokes { self.new.has_strokes ≡ self.old.has_strokes }
+        ensures sidebearing { self.new.sidebearing ≡ self.old.sidebearing }
+        ensures done { IsDone self.new }
+    {
+        if self.is_done {
+            return;
+        }
+        touch(&mut self.across, Direction::Across, self.end, segment);
+        touch(&mut self.upright, Direction::Upright, self.end, segment);
+        self.is_done = !one_is_untouched(self.across.as_slice())
+            && !one_is_untouched(self.upright.as_slice());
     }
 
     fn set(&mut self, step: &Step)
@@ -384,11 +411,14 @@ impl TouchWatcher {
         ensures sidebearing { self.new.sidebearing ≡ self.old.sidebearing }
         ensures end { self.new.end ≡ self.old.end }
         ensures has_strokes { self.new.has_strokes ≡ self.old.has_strokes }
+        ensures done { IsDone self.old → IsDone self.new }
     {
         if lies_across(step.token) {
             add_own(&mut self.across, self.sidebearing.y, step);
+            self.is_done = false;
         } else if stands_upright(step.token) {
             add_own(&mut self.upright, self.sidebearing.x, step);
+            self.is_done = false;
         }
     }
 }

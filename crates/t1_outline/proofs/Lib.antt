@@ -3,9 +3,10 @@ pub mod Flexes
 pub mod Fronts
 pub mod Glyphs
 pub mod LastPlaces
+pub mod LoneStrokes
 pub mod Outlining
-pub mod PictureParts
 pub mod Pens
+pub mod PictureParts
 pub mod Points
 pub mod ShortForms
 pub mod Subpaths

@@ -1,13 +1,15 @@
 //! What steps draw, by what the rules' watchers say of each: Type 1 Font Format 1.1, chapters 6 and 8.
 
-ghost use Rattle.std.specs.Prelude.{◌≡◌, ◌<◌, ◌&&◌, ◌||◌, not, ℕ, List, [], ◌∷◌, ◌++◌};
+ghost use Rattle.std.specs.Prelude.{◌≡◌, ◌<◌, ◌&&◌, ◌||◌, not, false, true, ℕ, IfSome, List, [], ◌∷◌, ◌++◌};
 ghost use Rattle.t1_char.specs.Steps.{StepView};
 ghost use Rattle.t1_char.specs.StepValues.{step_view};
 ghost use Rattle.t1_outline.specs.Nibs.{IsAround};
 ghost use Rattle.t1_outline.specs.Outlines.{drawn, drawn_by, stroke};
 ghost use Rattle.t1_outline.specs.Private.Standing.{NibStandsFor};
 ghost use Rattle.t1_outline.specs.Private.Drawing.{drawn_in, ends_whole, makes_subpath_in, moves_outside};
-ghost use Rattle.t1_rules.specs.StepRules.Tokens.{closes};
+ghost use Rattle.t1_rules.specs.StepRules.Flex.{current_point};
+ghost use Rattle.t1_rules.specs.StepRules.Paths.{in_flex};
+ghost use Rattle.t1_rules.specs.StepRules.Tokens.{closes, is_line};
 ghost use Rattle.t1_rules.specs.Watches.{IsNear, most_steps};
 
 use crate::flex_run::FlexRun;
@@ -47,6 +49,24 @@ impl Nib {
         Nib {
             run: FlexRun::start(),
             has_subpath: false,
+        }
+    }
+
+    /// The line or the curve that the next step draws, given where the current point is before it, where that is all that changes: outside
+    /// flex, and where a subpath was begun. The nib needn't see such a step.
+    #[inline(always)]
+    pub fn stroke(&self, step: &Step, start: Point) -> Option<Segment>
+        requires { (n : ℕ) × (IsNear n start × (n < most_steps)) }
+        ensures line { IfSome result (λ segment. is_line step.now.token ≡ true) }
+        ensures drawn { (before : List StepView) → NibStandsFor self.now before → start ≡ current_point before → in_flex before ≡ false →
+            IfSome result (λ segment. drawn before (step_view step.now) ≡ segment ∷ []) }
+        ensures stands { (before : List StepView) → NibStandsFor self.now before → in_flex before ≡ false →
+            IfSome result (λ segment. NibStandsFor self.now (before ++ step_view step.now ∷ [])) }
+    {
+        if self.has_subpath {
+            stroke(start, step)
+        } else {
+            None
         }
     }
 

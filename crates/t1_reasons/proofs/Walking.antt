@@ -20,7 +20,7 @@ use Rattle.t1_font.specs.Fonts.{FontValue}
 use Rattle.t1_drawing.specs.declared.font_box.FontBox.{FontBox}
 use Rattle.t1_drawing.specs.declared.glyph.DrawingWatcher.{DrawingWatcher}
 use Rattle.t1_drawing.specs.DrawingRules.{box_of, breaks_own, drawing_rules}
-use Rattle.t1_drawing.specs.Private.Standing.{CanBeSeen, LatestDrawingStandsFor}
+use Rattle.t1_drawing.specs.Private.Standing.{BothStandFor, LatestDrawingStandsFor}
 use Rattle.t1_drawing.proofs.RuleNumbers.{drawing_rules_come_last}
 use Rattle.t1_rules.specs.Watches.{most_steps}
 use Rattle.t1_rules.specs.declared.mask.Mask.{Mask}
@@ -108,15 +108,15 @@ told old new same asked =
 pub step_watched : (old new : MachineView) (kept : StepsBefore) (watches seen : Watches) (drawing drawn : DrawingWatcher) (draws : Bool) (broken : Mask)
     → IsOfSameGlyph old new → IsAsked Returned old new (stepped new.step)
     → StepsStandFor old.edition kept (take old.counted (steps_in old))
-    → CanBeSeen old.edition (box_of old.font) draws watches drawing (take old.counted (steps_in old))
+    → BothStandFor old.edition (box_of old.font) draws watches drawing (take old.counted (steps_in old))
     → ((edition : Edition) (before : List StepView) → WatchesStandFor edition watches before → length before < most_steps
     → WatchesStandFor edition seen (before ++ new.step.step ∷ []))
-    → ((edition : Edition) (box : Option FontBox) (before : List StepView) → CanBeSeen edition box draws watches drawing before
+    → ((edition : Edition) (box : Option FontBox) (before : List StepView) → BothStandFor edition box draws watches drawing before → length before < most_steps
     → LatestDrawingStandsFor edition box drawn (before ++ new.step.step ∷ []))
-    → ((edition : Edition) (box : Option FontBox) (before : List StepView) → CanBeSeen edition box draws watches drawing before
+    → ((edition : Edition) (box : Option FontBox) (before : List StepView) → BothStandFor edition box draws watches drawing before → length before < most_steps
     → (n : ℕ) → has broken n ≡ breaks_own edition box n before new.step.step)
     → IsWatched new kept seen drawn broken Step
-step_watched old new kept watches seen drawing drawn draws broken same asked stands can more draws_on breaks =
+step_watched old new kept watches seen drawing drawn draws broken same asked stands both more draws_on breaks =
     let is = told old new same asked in
     let before = take old.counted (steps_in old) in
     let some : 0 < new.counted = omega (arith, is.counted) in
@@ -124,9 +124,9 @@ step_watched old new kept watches seen drawing drawn draws broken same asked sta
     record {
       in_hand = is.in_hand;
       kept = rw (is.before, same.edition) stands;
-      watches = rw (now, same.edition) (more old.edition before can.watched can.short);
-      drawn = rw (now, same.edition, same.font) (draws_on old.edition (box_of old.font) before can);
-      broken = λ few within. rw (is.before, same.edition, same.font) (breaks old.edition (box_of old.font) before can);
+      watches = rw (now, same.edition) (more old.edition before both.watched (few_steps old old.counted));
+      drawn = rw (now, same.edition, same.font) (draws_on old.edition (box_of old.font) before both (few_steps old old.counted));
+      broken = λ few within. rw (is.before, same.edition, same.font) (breaks old.edition (box_of old.font) before both (few_steps old old.counted));
       answer = is.within;
     }
 

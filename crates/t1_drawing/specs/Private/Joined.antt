@@ -1,5 +1,5 @@
 -- What one segment breaks, what several do, and what a step does.
-use Rattle.std.specs.Prelude.{◌||◌, false, Option, List}
+use Rattle.std.specs.Prelude.{◌||◌, not, Bool, false, Option, List}
 use Rattle.t1_char.specs.Steps.{StepView}
 use Rattle.t1_outline.specs.declared.segment.Segment.{Segment}
 use Rattle.t1_outline.specs.Outlines.{drawn}
@@ -54,3 +54,12 @@ drawing_faults box before step = record {
   sets_adjacent = sets_adjacent before step;
   sets_negative_width = sets_negative_width step;
 }
+
+abbrev pub are_some : SegmentFaults → Bool
+are_some faults =
+    faults.is_outside || faults.has_no_length || faults.turns_back || faults.goes_straight_on || faults.is_flat || faults.lacks_extreme
+
+abbrev pub are_none : DrawingFaults → Bool
+are_none faults =
+    not (are_some faults.segments || faults.ends_clockwise || faults.moves_again || faults.ends_untouched || faults.sets_adjacent
+    || faults.sets_negative_width)

@@ -1,5 +1,5 @@
 -- What watchers keep of the segments and the steps that they have seen.
-use Rattle.std.specs.Prelude.{◌≡◌, ◌*◌, ◌<◌, ◌≤◌, ◌+ℤ◌, Bool, false, true, Option, Some, None, IfSome, List, [], ◌++◌, length, map}
+use Rattle.std.specs.Prelude.{◌≡◌, ◌*◌, ◌≤◌, ◌+ℤ◌, Bool, false, true, Option, Some, None, IfSome, List, [], ◌++◌, length, map, option_map}
 use Rattle.std.specs.List.{list_all, list_any}
 use Rattle.t1_char.specs.declared.edition.Edition.{Edition}
 use Rattle.t1_char.specs.Editions.{has_latest_rules}
@@ -8,7 +8,7 @@ use Rattle.t1_outline.specs.declared.segment.Segment.{Segment}
 use Rattle.t1_outline.specs.Private.Standing.{NibStandsFor}
 use Rattle.t1_rules.specs.declared.watches.Watches.{Watches}
 use Rattle.t1_rules.specs.Private.Standing.{WatchesStandFor}
-use Rattle.t1_rules.specs.Watches.{IsNear, IsWithin, most_steps}
+use Rattle.t1_rules.specs.Watches.{IsNear, IsWithin}
 use Rattle.t1_drawing.specs.declared.area.Area.{Area}
 use Rattle.t1_drawing.specs.declared.direction.Direction.TheVariants.{Across, Upright}
 use Rattle.t1_drawing.specs.declared.font_box.FontBox.{FontBox}
@@ -21,7 +21,8 @@ use Rattle.t1_drawing.specs.Bounds.{most_segments, most_ways}
 use Rattle.t1_drawing.specs.FontBoxes.{ends_outside}
 use Rattle.t1_drawing.specs.Moves.{is_only_moved}
 use Rattle.t1_drawing.specs.Private.Areas.{IsClose, most_area}
-use Rattle.t1_drawing.specs.Private.Watching.{point_in, watched}
+use Rattle.t1_drawing.specs.Private.Limits.{limits_of}
+use Rattle.t1_drawing.specs.Private.Watching.{IsDone, point_in, watched}
 use Rattle.t1_drawing.specs.Segments.{line_start_before, start_after}
 use Rattle.t1_drawing.specs.Strokes.{end_of_steps, segments_of, strokes_after}
 use Rattle.t1_drawing.specs.Touching.{is_stroke, sidebearing_point, stems_of_glyph}
@@ -39,7 +40,7 @@ SomeAreaStandsFor None before = list_all is_drawn_close before ≡ false
 SomeAreaStandsFor (Some area) before = (list_all is_drawn_close before ≡ true) × AreaStandsFor area before
 
 pub record SegmentsStandFor (box : Option FontBox) (watcher : SegmentWatcher) (before : List Segment) : Type 0 where
-  pub same_box : watcher.font_box ≡ box
+  pub limits : watcher.limits ≡ option_map limits_of box
   pub outside : watcher.was_outside ≡ list_any (ends_outside box) before
   pub start : watcher.start ≡ start_after before
   pub line_start : watcher.line_start ≡ line_start_before before
@@ -58,6 +59,7 @@ pub record TouchesStandFor (watcher : TouchWatcher) (before : List StepView) : T
   pub sidebearing : point_in watcher.sidebearing ≡ sidebearing_point before
   pub end : watcher.end ≡ end_of_steps before
   pub has_strokes : watcher.has_strokes ≡ list_any is_stroke (strokes_after [] before)
+  pub done : IsDone watcher
 
 pub record DrawingStandsFor (box : Option FontBox) (watcher : DrawingWatcher) (before : List StepView) : Type 0 where
   pub nib : NibStandsFor watcher.nib before
@@ -69,9 +71,8 @@ pub record DrawingStandsFor (box : Option FontBox) (watcher : DrawingWatcher) (b
 abbrev pub LatestDrawingStandsFor : Edition → Option FontBox → DrawingWatcher → List StepView → Type 0
 LatestDrawingStandsFor edition box watcher before = has_latest_rules edition ≡ true → DrawingStandsFor box watcher before
 
--- It and the other watchers can see one step more.
-pub record CanBeSeen (edition : Edition) (box : Option FontBox) (draws : Bool) (watches : Watches) (watcher : DrawingWatcher) (before : List StepView) : Type 0 where
+-- And the other watchers match the steps too.
+pub record BothStandFor (edition : Edition) (box : Option FontBox) (draws : Bool) (watches : Watches) (watcher : DrawingWatcher) (before : List StepView) : Type 0 where
   pub where_drawn : draws ≡ has_latest_rules edition
   pub watched : WatchesStandFor edition watches before
   pub drawn : LatestDrawingStandsFor edition box watcher before
-  pub short : length before < most_steps

@@ -1,5 +1,5 @@
 -- What a watcher of stems keeps, with a segment more and with stems more.
-use Rattle.std.specs.Prelude.{ℤ, ◌&&◌, ◌||◌, nat_le, if◌then◌else◌, Bool, false, Option, List, [], ◌∷◌, ◌++◌, length, map}
+use Rattle.std.specs.Prelude.{◌≡◌, ℤ, ◌&&◌, ◌||◌, nat_le, not, if◌then◌else◌, Bool, true, false, Option, List, [], ◌∷◌, ◌++◌, length, map}
 use Rattle.std.specs.List.{list_any}
 use Rattle.std.specs.Ordering.{int_eq}
 use Rattle.t1_char.specs.Steps.{StepView}
@@ -49,6 +49,14 @@ draw_on d segment = record {
 abbrev pub draws_on : Drawing → List Segment → Drawing
 draws_on d [] = d
 draws_on d (segment ∷ more) = draws_on (draw_on d segment) more
+
+-- Where the watcher says that it is done, each stem is touched.
+abbrev pub all_touched : List WatchedStem → Bool
+all_touched stems = not (list_any (λ stem. not stem.touched) stems)
+
+pub record IsDone (w : TouchWatcher) : Type 0 where
+  pub across : w.is_done ≡ true → all_touched w.across.items ≡ true
+  pub upright : w.is_done ≡ true → all_touched w.upright.items ≡ true
 
 -- Stems more.
 abbrev pub has_edges : ℤ → ℤ → WatchedStem → Bool

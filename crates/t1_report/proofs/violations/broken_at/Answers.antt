@@ -27,7 +27,7 @@ returns-clause-broken c = λ box before next n.
     let short : length before < most_steps = omega (arith, inside, limit_few edition) in
     let drawn = has_latest_rules edition && breaks (drawing_rules box) n before step in
     c.join.ensures n
-    ∙ rw (c.see_where.ensures.answer edition box before (record { where_drawn = c.requires.draws; watched = next.seen; drawn = next.drawn; short = short }) n, c.see_as.ensures before n)
+    ∙ rw (c.see_where.ensures.answer edition box before (record { where_drawn = c.requires.draws; watched = next.seen; drawn = next.drawn }) short n, c.see_as.ensures before n)
     (last_first (breaks (step_rules edition) n before step) drawn (breaks (component_rules components) n before step)
     ∙ ap (λ b. b || drawn) (both_kinds edition components n before step _ _ _ refl refl refl)
     ∙ sym (breaks_both edition components box n before step)
@@ -39,4 +39,4 @@ returns-clause-drawn c = λ box before next few.
     let edition = c.args.sidebearings.now.edition in
     let near = ltb-false (limit_of edition) c.args.step.now.number (sym c.requires.past ∙ c.if-is_past.false) in
     c.see_where.ensures.stands edition box before
-    (record { where_drawn = c.requires.draws; watched = next.seen; drawn = next.drawn; short = omega (arith, near, next.number, limit_few edition) })
+    (record { where_drawn = c.requires.draws; watched = next.seen; drawn = next.drawn }) (omega (arith, near, next.number, limit_few edition))

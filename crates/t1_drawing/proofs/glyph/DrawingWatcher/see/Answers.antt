@@ -1,75 +1,90 @@
-use Rattle.std.proofs.Common.{◌≡◌, [], ◌∷◌, ◌++◌, refl, sym, ap, subst, ◌∙◌}
+use Rattle.std.proofs.Common.{◌≡◌, ◌<◌, ◌||◌, false, true, IfSome, None, Option, Some, List, [], ◌∷◌, ◌++◌, length, refl, sym, ap, ◌∙◌}
+use Rattle.std.proofs.Math.Bool.{or-false}
+use Rattle.t1_char.specs.declared.edition.Edition.{Edition}
+use Rattle.t1_char.specs.Steps.{StepView}
 use Rattle.t1_char.specs.StepValues.{step_view}
-use Rattle.t1_drawing.specs.Bounds.{CanBeDrawn}
-use Rattle.t1_drawing.specs.Drawings.{faults_in}
-use Rattle.t1_drawing.specs.Strokes.{segments_of}
-use Rattle.t1_drawing.specs.Private.Standing.{SegmentsStandFor}
-use Rattle.t1_drawing.proofs.NearLaws.{drawn_segments_can_be_seen, steps_add_what_they_draw}
-use Rattle.t1_drawing.proofs.Spoiled.{spoils_by_steps}
+use Rattle.t1_drawing.specs.declared.font_box.FontBox.{FontBox}
+use Rattle.t1_drawing.specs.declared.glyph.DrawingWatcher.{DrawingWatcher}
+use Rattle.t1_drawing.specs.Private.Plain.{DrawsAlone}
+use Rattle.t1_drawing.specs.Private.Standing.{DrawingStandsFor}
+use Rattle.t1_drawing.proofs.Numbers.{no_fault_at_silent, plain, stays_at_silent, unspoiled_outside}
 use Rattle.t1_drawing.proofs.glyph.DrawingWatcher.see.Goals as goal
-use Rattle.t1_outline.specs.Nibs.{IsAround}
+use Rattle.t1_outline.specs.declared.segment.Segment.{Segment}
 use Rattle.t1_outline.specs.Outlines.{drawn}
+use Rattle.t1_outline.specs.Private.Standing.{NibStandsFor}
+use Rattle.t1_rules.specs.declared.watches.Watches.{Watches}
+use Rattle.t1_rules.specs.Private.Standing.{WatchesStandFor}
+use Rattle.t1_rules.specs.StepRules.{breaks, step_rules}
+use Rattle.t1_rules.specs.StepRules.Paths.{in_flex}
+use Rattle.t1_rules.specs.StepRules.Tokens.{is_line}
+use Rattle.t1_rules.specs.Watches.{most_steps}
 
-pub see-segments-requires : goal.see-segments-requires
-see-segments-requires c =
+-- A line or a curve that is drawn alone.
+draws_alone : (edition : Edition) (box : Option FontBox) (watches : Watches) (w : DrawingWatcher) (before : List StepView) (t : StepView)
+    (result : Option Segment) (segment : Segment) → result ≡ Some segment → WatchesStandFor edition watches before → DrawingStandsFor box w before
+    → length before < most_steps → in_flex before ≡ false → IfSome result (λ s. is_line t.token ≡ true)
+    → IfSome result (λ s. drawn before t ≡ s ∷ []) → IfSome result (λ s. NibStandsFor w.nib (before ++ t ∷ []))
+    → DrawsAlone edition box watches w before t segment
+draws_alone edition box watches w before t None segment is ws st short outside line alone seen = let no : None ≡ Some segment = is in cc
+draws_alone edition box watches w before t (Some s) segment is ws st short outside line alone seen =
+    let same : s ≡ segment = cc in
+    record {
+      watched = ws;
+      stands = st;
+      short = short;
+      outside = outside;
+      line = line;
+      alone = alone ∙ ap (λ x. x ∷ []) same;
+      seen = seen;
+    }
+
+pub returns-then-is_silent-clause-stands : goal.returns-then-is_silent-clause-stands
+returns-then-is_silent-clause-stands c = λ edition box before ws st short.
+    let t = step_view c.args.step.now in
+    let silent = sym c.is_silent.ensures ∙ c.if-is_silent.true in
+    let outside = sym (c.is_in_flex.ensures edition before ws) ∙ c.if-is_in_flex.false in
+    stays_at_silent before t silent (unspoiled_outside before t (plain t (ap (λ b. b || is_line t.token) silent)).start outside) box c.args.self.now st
+
+pub returns-then-is_silent-clause-answer : goal.returns-then-is_silent-clause-answer
+returns-then-is_silent-clause-answer c = λ edition box before ws st short n.
+    let t = step_view c.args.step.now in
+    let silent = sym c.is_silent.ensures ∙ c.if-is_silent.true in
+    c.see.ensures.answer edition before ws short n
+    ∙ sym (ap (λ b. breaks (step_rules edition) n before t || b) (no_fault_at_silent before t silent box n) ∙ or-false (breaks (step_rules edition) n before t))
+
+pub see_stroke-requires : goal.see_stroke-requires
+see_stroke-requires c =
     let edition = c.requires.0 in
+    let box = c.requires.1.0 in
     let before = c.requires.1.1.0 in
     let ws = c.requires.1.1.1.0 in
     let st = c.requires.1.1.1.1.0 in
     let short = c.requires.1.1.1.1.1 in
-    let t = step_view c.args.step.now in
-    let here = c.as_slice.ensures.value ∙ c.draw-drawn.ensures.drawn before st.nib (record {
-      start = c.point-start.ensures.value edition before ws;
-      end = c.point.ensures.value edition (before ++ t ∷ []) (c.see-broken.ensures.stands edition before ws short);
-      inside = c.is_in_flex-is_in_flex.ensures edition before ws;
-      spoils = c.spoils_flex.ensures ∙ spoils_by_steps edition before t c.see-broken.result (c.see-broken.ensures.answer edition before ws short);
-    }) in
-    let can = subst (CanBeDrawn (segments_of before)) (sym here) (drawn_segments_can_be_seen before t short) in
-    (c.requires.1.0, (segments_of before, (st.segments, can)))
+    let outside = sym (c.is_in_flex.ensures edition before ws) ∙ c.if-is_in_flex.false in (
+      edition,
+      (
+        box,
+        (
+          before,
+          draws_alone edition box c.args.watches.now c.args.self.now before (step_view c.args.step.now) c.stroke.result c.in-Some.segment c.in-Some.is ws st short
+              outside c.stroke.ensures.line (c.stroke.ensures.drawn before st.nib (c.point.ensures.value edition before ws) outside)
+              (c.stroke.ensures.stands before st.nib outside),
+        ),
+      ),
+    )
 
-pub returns-clause-stands : goal.returns-clause-stands
-returns-clause-stands c = λ edition box before ws st short.
-    let t = step_view c.args.step.now in
-    let inside = c.is_in_flex-is_in_flex.ensures edition before ws in
-    let around : IsAround before t (record { start = c.point-start.result; end = c.point.result; is_in_flex = c.is_in_flex-is_in_flex.result; spoils_flex = c.spoils_flex.result }) = record {
-      start = c.point-start.ensures.value edition before ws;
-      end = c.point.ensures.value edition (before ++ t ∷ []) (c.see-broken.ensures.stands edition before ws short);
-      inside = inside;
-      spoils = c.spoils_flex.ensures ∙ spoils_by_steps edition before t c.see-broken.result (c.see-broken.ensures.answer edition before ws short);
-    } in
-    let drawing = c.draw-drawn.ensures.drawn before st.nib around in
-    let here = c.as_slice.ensures.value ∙ drawing in
-    let can = subst (CanBeDrawn (segments_of before)) (sym here) (drawn_segments_can_be_seen before t short) in
-    record {
-      nib = c.draw-drawn.ensures.stands before st.nib around;
-      segments = subst (λ ss. SegmentsStandFor box c.see-segments.new.self ss) (ap (λ ss. segments_of before ++ ss) here ∙ sym (steps_add_what_they_draw before t))
-          (c.see-segments.ensures.stands box (segments_of before) st.segments can);
-      moves = c.see-moves_again.ensures.stands before st.moves inside;
-      touches = c.see.ensures before st.touches (c.as_slice-2.ensures.value ∙ drawing);
-    }
+pub returns-in-Some-clause-stands : goal.returns-in-Some-clause-stands
+returns-in-Some-clause-stands c = λ edition box before ws st short.
+    let outside = sym (c.is_in_flex.ensures edition before ws) ∙ c.if-is_in_flex.false in
+    c.see_stroke.ensures.stands edition box before
+    (draws_alone edition box c.args.watches.now c.args.self.now before (step_view c.args.step.now) c.stroke.result c.in-Some.segment c.in-Some.is ws st short
+    outside c.stroke.ensures.line (c.stroke.ensures.drawn before st.nib (c.point.ensures.value edition before ws) outside)
+    (c.stroke.ensures.stands before st.nib outside))
 
-pub returns-clause-answer : goal.returns-clause-answer
-returns-clause-answer c = λ edition box before ws st short n.
-    let t = step_view c.args.step.now in
-    let inside = c.is_in_flex-is_in_flex.ensures edition before ws in
-    let here = c.as_slice.ensures.value ∙ c.draw-drawn.ensures.drawn before st.nib (record {
-      start = c.point-start.ensures.value edition before ws;
-      end = c.point.ensures.value edition (before ++ t ∷ []) (c.see-broken.ensures.stands edition before ws short);
-      inside = inside;
-      spoils = c.spoils_flex.ensures ∙ spoils_by_steps edition before t c.see-broken.result (c.see-broken.ensures.answer edition before ws short);
-    }) in
-    let can = subst (CanBeDrawn (segments_of before)) (sym here) (drawn_segments_can_be_seen before t short) in
-    let segments : c.see-segments.result ≡ faults_in box (segments_of before) (drawn before t) =
-    c.see-segments.ensures.faults box (segments_of before) st.segments can ∙ ap (λ ss. faults_in box (segments_of before) ss) here in
-    c.join.ensures n
-    ∙ rw (
-      c.see-broken.ensures.answer edition before ws short n,
-      c.rules_in.ensures box before t (rw (
-        segments,
-        c.ends_clockwise-ends_clockwise.ensures box before st.segments,
-        c.see-moves_again.ensures.answer before st.moves inside,
-        c.ends_untouched-ends_untouched.ensures before st.touches,
-        c.sets_adjacent-sets_adjacent.ensures before (c.across.ensures edition before ws) (c.upright.ensures edition before ws),
-        c.sets_negative_width.ensures,
-      ) refl) n,
-    ) refl
+pub returns-in-Some-clause-answer : goal.returns-in-Some-clause-answer
+returns-in-Some-clause-answer c = λ edition box before ws st short.
+    let outside = sym (c.is_in_flex.ensures edition before ws) ∙ c.if-is_in_flex.false in
+    c.see_stroke.ensures.answer edition box before
+    (draws_alone edition box c.args.watches.now c.args.self.now before (step_view c.args.step.now) c.stroke.result c.in-Some.segment c.in-Some.is ws st short
+    outside c.stroke.ensures.line (c.stroke.ensures.drawn before st.nib (c.point.ensures.value edition before ws) outside)
+    (c.stroke.ensures.stands before st.nib outside))

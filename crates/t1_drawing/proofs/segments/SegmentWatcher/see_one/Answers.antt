@@ -12,8 +12,8 @@ returns-clause-stands c = λ box before st can.
     let s : Segment = c.args.segment in
     let near : IsDrawnNear s = can.near 0 s (omega arith) in
     record {
-      same_box = st.same_box;
-      outside = rw (st.outside, c.ends_outside-ends_outside.ensures, st.same_box) (sym (any_more (ends_outside box) before s));
+      limits = st.limits;
+      outside = rw (st.outside, c.ends_outside-ends_outside.ensures box st.limits) (sym (any_more (ends_outside box) before s));
       start = c.end_of-self.ensures.value ∙ sym (starts before s);
       line_start = c.line_start-self.ensures.value ∙ ap (λ p. line_start_in p s) st.start ∙ sym (line_starts before s);
       start_near = c.end_of-self.ensures.near near;

@@ -33,4 +33,5 @@ returns c = λ before st here.
       has_strokes = c.set.ensures.has_strokes ∙ ap (λ e. e.has_strokes) c.draw_all.ensures.drawing ∙ d.has_strokes
           ∙ ap (λ b. b || list_any is_stroke (strokes_from old.end c.args.segments.now)) st.has_strokes
           ∙ ap (λ ss. list_any is_stroke (strokes_after [] before) || list_any is_stroke ss) strokes ∙ sym (strokes_more before t);
+      done = let is = c.set.ensures.done c.draw_all.ensures.done in record { across = is.across; upright = is.upright };
     }

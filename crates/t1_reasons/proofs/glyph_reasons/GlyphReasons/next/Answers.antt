@@ -24,12 +24,14 @@ see_where-self-inside-requires c =
         box_of old.font,
         (
           take old.counted (steps_in old),
-          record {
-            where_drawn = c.has_latest_rules-draws.ensures ∙ ap has_latest_rules (sym c.self.invariant.1.edition_is);
-            watched = c.self.invariant.0.watches;
-            drawn = c.self.invariant.0.drawn;
-            short = few_steps old old.counted;
-          },
+          (
+            record {
+              where_drawn = c.has_latest_rules-draws.ensures ∙ ap has_latest_rules (sym c.self.invariant.1.edition_is);
+              watched = c.self.invariant.0.watches;
+              drawn = c.self.invariant.0.drawn;
+            },
+            few_steps old old.counted,
+          ),
         ),
       ),
     )
@@ -51,14 +53,13 @@ invariant_of-self c =
       where_drawn = c.has_latest_rules-draws.ensures ∙ ap has_latest_rules (sym c.self.invariant.1.edition_is);
       watched = c.self.invariant.0.watches;
       drawn = c.self.invariant.0.drawn;
-      short = few_steps old old.counted;
     })
     (λ edition before stands few. subst (λ (s : StepView). WatchesStandFor edition c.see_where-self-inside.new.watches (before ++ s ∷ [])) step
     (c.see_where-self-inside.ensures.watches edition before stands few))
-    (λ edition box before can. subst (λ (s : StepView). LatestDrawingStandsFor edition box c.see_where-self-inside.new.self (before ++ s ∷ [])) step
-    (c.see_where-self-inside.ensures.stands edition box before can))
-    (λ edition box before can. subst (λ (s : StepView). (n : ℕ) → has c.see_where-self-inside.result n ≡ breaks_own edition box n before s) step
-    (c.see_where-self-inside.ensures.answer edition box before can)) in (
+    (λ edition box before both short. subst (λ (s : StepView). LatestDrawingStandsFor edition box c.see_where-self-inside.new.self (before ++ s ∷ [])) step
+    (c.see_where-self-inside.ensures.stands edition box before both short))
+    (λ edition box before both short. subst (λ (s : StepView). (n : ℕ) → has c.see_where-self-inside.result n ≡ breaks_own edition box n before s) step
+    (c.see_where-self-inside.ensures.answer edition box before both short)) in (
       subst (λ (a : Answer). IsWatched new c.see_in_hand.new.before c.see_where-self-inside.new.watches c.see_where-self-inside.new.self c.see_where-self-inside.result a) (sym is) watched,
       begun_on old new _ _ _ same c.self.invariant.1,
     )
