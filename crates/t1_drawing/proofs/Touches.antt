@@ -119,7 +119,10 @@ pub touched_by_none : (direction : Direction) (stems : List WatchedStem) → map
 touched_by_none direction [] = refl
 touched_by_none direction (s ∷ ss) = rw (or-false s.touched, touched_by_none direction ss) refl
 
--- Where all stems are touched, nothing changes them.
+-- A stem that is touched stays so; where all are, nothing changes them.
+pub touched_stays : (e : Option Extent) (s : WatchedStem) → s.touched ≡ true → touched_by e s ≡ s
+touched_stays e s is = ap (λ t. record s { touched = t }) (ap (λ t. t || touches_one e s.low s.high) is ∙ sym is)
+
 pub touched_stay : (e : Option Extent) (stems : List WatchedStem) → all_touched stems ≡ true → map (touched_by e) stems ≡ stems
 touched_stay e [] all = refl
 touched_stay e (s ∷ ss) all = go s.touched refl all (touched_stay e ss)
@@ -128,8 +131,7 @@ touched_stay e (s ∷ ss) all = go s.touched refl all (touched_stay e ss)
         → (all_touched ss ≡ true → map (touched_by e) ss ≡ ss) → map (touched_by e) (s ∷ ss) ≡ s ∷ ss
     go false is all rest = let no : false ≡ true = all in cc
     go true is all rest =
-        let same : touched_by e s ≡ s = ap (λ t. record s { touched = t }) (ap (λ t. t || touches_one e s.low s.high) is ∙ sym is) in
-        rw (same, rest all) refl
+        rw (touched_stays e s is, rest all) refl
 
 -- What is no line and no curve touches nothing.
 pub touched_by_nothing : (stems : List WatchedStem) → map (touched_by None) stems ≡ stems

@@ -37,43 +37,39 @@ impl Area {
         }
     }
 
-    /// After a further segment.
-    fn after(self, segment: Segment) -> Area
-        requires began { IsClose self.began }
-        requires end { IsClose self.end }
-        requires within { IsWithin (most_segments * most_area) self.twentyfold }
+    /// Goes on by a further segment.
+    fn see(&mut self, segment: Segment)
+        requires began { IsClose self.old.began }
+        requires end { IsClose self.old.end }
+        requires within { IsWithin (most_segments * most_area) self.old.twentyfold }
         requires segment { IsDrawnClose segment }
-        ensures { result ≡ area_after self segment }
+        ensures { self.new ≡ area_after self.old segment }
     {
         match segment {
-            Segment::Move(point) => Area {
-                began: point,
-                end: point,
-                twentyfold: self.closed(),
-            },
-            Segment::Line(end) => self.led_to(end, line_area(self.end, end)),
-            Segment::Curve(one, two, end) => {
-                self.led_to(end, curve_area(self.end, one, two, end))
+            Segment::Move(point) => {
+                self.twentyfold = self.closed();
+                self.began = point;
+                self.end = point;
             }
-            Segment::Close => Area {
-                began: self.began,
-                end: self.began,
-                twentyfold: self.closed(),
-            },
+            Segment::Line(end) => self.lead_to(end, line_area(self.end, end)),
+            Segment::Curve(one, two, end) => {
+                self.lead_to(end, curve_area(self.end, one, two, end));
+            }
+            Segment::Close => {
+                self.twentyfold = self.closed();
+                self.end = self.began;
+            }
         }
     }
 
-    /// After a line or a curve to a point, which has so much area.
-    fn led_to(self, end: Point, more: i128) -> Area
-        requires within { IsWithin (most_segments * most_area) self.twentyfold }
+    /// Goes on by a line or a curve to a point, which has so much area.
+    fn lead_to(&mut self, end: Point, more: i128)
+        requires within { IsWithin (most_segments * most_area) self.old.twentyfold }
         requires more { IsWithin most_area more }
-        ensures { result ≡ record { began = self.began; end = end; twentyfold = self.twentyfold +ℤ more } }
+        ensures { self.new ≡ record { began = self.old.began; end = end; twentyfold = self.old.twentyfold +ℤ more } }
     {
-        Area {
-            began: self.began,
-            end,
-            twentyfold: sum(self.twentyfold, more),
-        }
+        self.twentyfold = sum(self.twentyfold, more);
+        self.end = end;
     }
 
     /// Twenty times the area, with the line that closes the last subpath.
@@ -87,19 +83,18 @@ impl Area {
     }
 }
 
-/// The area after a further segment; none once a point is too far from the origin.
-pub(crate) fn area_after(area: Option<Area>, segment: Segment) -> Option<Area>
-    requires { (before : List Segments) × (SomeAreaStandsFor area before × (length before < most_segments)) }
-    ensures { (before : List Segments) → SomeAreaStandsFor area before → length before < most_segments →
-        SomeAreaStandsFor result (before ++ segment ∷ []) }
+/// Goes on by a further segment; there is no area once a point is too far from the origin.
+pub(crate) fn see_in(area: &mut Option<Area>, segment: Segment)
+    requires { (before : List Segments) × (SomeAreaStandsFor area.old before × (length before < most_segments)) }
+    ensures { (before : List Segments) → SomeAreaStandsFor area.old before → length before < most_segments →
+        SomeAreaStandsFor area.new (before ++ segment ∷ []) }
 {
-    let Some(area) = area else {
-        return None;
-    };
-    if is_drawn_close(segment) {
-        Some(area.after(segment))
-    } else {
-        None
+    if !is_drawn_close(segment) {
+        *area = None;
+        return;
+    }
+    if let Some(area) = area {
+        area.see(segment);
     }
 }
 

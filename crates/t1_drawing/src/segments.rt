@@ -9,7 +9,7 @@ ghost use Rattle.t1_drawing.specs.Drawings.{faults_in};
 ghost use Rattle.t1_drawing.specs.Private.Joined.{faults_at};
 ghost use Rattle.t1_drawing.specs.Private.Standing.{SegmentsStandFor};
 
-use crate::area::{Area, area_after, is_clockwise};
+use crate::area::{Area, is_clockwise, see_in};
 use crate::curves::{is_flat, lacks_extreme};
 use crate::faults::SegmentFaults;
 use crate::font_box::{FontBox, Limits, ends_outside};
@@ -96,7 +96,7 @@ impl SegmentWatcher {
         self.was_outside = self.was_outside | ends_outside;
         self.line_start = line_start(self.start, segment);
         self.start = end_of(segment);
-        self.area = area_after(self.area, segment);
+        see_in(&mut self.area, segment);
         faults
     }
 }

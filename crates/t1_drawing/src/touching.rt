@@ -177,7 +177,10 @@ impl WatchedStem {
     fn touched_by(self, extent: Extent) -> WatchedStem
         ensures { result ≡ touched_by (Some extent) self }
     {
-        let touched = self.touched | extent.touches_one(self.low, self.high);
+        if self.touched {
+            return self;
+        }
+        let touched = extent.touches_one(self.low, self.high);
         WatchedStem { touched, ..self }
     }
 

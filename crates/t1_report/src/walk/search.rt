@@ -1,6 +1,6 @@
 //! The places where rules are broken, one after another: those of the font, those of each glyph, then those of the waivers.
 
-ghost use Rattle.std.specs.Prelude.{◌≡◌, ◌≤◌, ◌<◌, ◌+◌, ◌*◌, false, IfSome, MatchOption, length, ◌-◌, ◌&&◌, ℕ, not};
+ghost use Rattle.std.specs.Prelude.{◌≡◌, [], ◌≤◌, ◌<◌, ◌+◌, ◌*◌, false, IfSome, MatchOption, length, ◌-◌, ◌&&◌, ℕ, not};
 ghost use Rattle.t1_font.specs.Fonts.{glyph_name};
 ghost use Rattle.t1_report.specs.Checked.{checked, step_limit};
 ghost use Rattle.t1_report.specs.Reports.{Place, IsTold};
@@ -236,13 +236,22 @@ fn begin<'a>(
     if glyph < count {
         match part {
             Part::Glyph(run) => run.start_again(font, glyph, edition),
-            _ => *part = Part::Glyph(GlyphRun::start(font, glyph, edition)),
+            _ => begin_first(part, font, glyph, edition),
         }
     } else if glyph == count {
         *part = Part::Waivers(step.max(1).min(last));
     } else {
         *part = Part::Over;
     }
+}
+
+/// A glyph before its first step, where no other was under way. It is out of line, since a new run is large.
+#[inline(never)]
+fn begin_first<'a>(part: &mut Part<'a>, font: &'a Font<'a>, glyph: usize, edition: Edition)
+    requires { glyph < length font.now.glyphs }
+    ensures { IsPartBegun (checked font.now edition) [] glyph 0 part.new }
+{
+    *part = Part::Glyph(GlyphRun::start(font, glyph, edition));
 }
 
 /// The rules that are reported of a step of a glyph: those broken there and not waived.

@@ -19,5 +19,5 @@ returns-clause-stands c = λ box before st can.
       start_near = c.end_of-self.ensures.near near;
       line_start_near = c.line_start-self.ensures.near st.start_near;
       few = omega (arith, can.few, length-append before (s ∷ []));
-      area = c.area_after-self.ensures before st.area (omega (arith, can.few));
+      area = c.see_in.ensures before st.area (omega (arith, can.few));
     }
