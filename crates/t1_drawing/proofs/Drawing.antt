@@ -143,3 +143,14 @@ faults_more box before here s = rw (
   one_more is_flat before here s,
   one_more lacks_extreme before here s,
 ) refl
+
+-- What one segment breaks alone.
+pub faults_of_one : (box : Option FontBox) (before : List Segment) (s : Segment) → faults_in box before (s ∷ []) ≡ faults_at box before s
+faults_of_one box before s = rw (
+  or-false (is_first_outside box before s),
+  or-false (has_no_length before s),
+  or-false (turns_back before s),
+  or-false (goes_straight_on before s),
+  or-false (is_flat before s),
+  or-false (lacks_extreme before s),
+) refl

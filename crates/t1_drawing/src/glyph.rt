@@ -135,9 +135,8 @@ impl DrawingWatcher {
     {
         let _moves_again = self.moves.see(step, false);
         let broken = watches.see(step);
-        let drawn = [segment];
-        let segments = self.segments.see(&drawn);
-        self.touches.see(step, &drawn);
+        let segments = self.segments.see_one(segment);
+        self.touches.see_stroke(step, segment);
         broken.join(rules_in(DrawingFaults {
             segments,
             ends_clockwise: false,

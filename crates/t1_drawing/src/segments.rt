@@ -74,7 +74,8 @@ impl SegmentWatcher {
     }
 
     /// Sees one segment.
-    fn see_one(&mut self, segment: Segment) -> SegmentFaults
+    #[inline(always)]
+    pub(crate) fn see_one(&mut self, segment: Segment) -> SegmentFaults
         requires { (box : Option Boxes) × ((before : List Segments) ×
             (SegmentsStandFor box self.old before × CanBeDrawn before (segment ∷ []))) }
         ensures faults { (box : Option Boxes) (before : List Segments) →

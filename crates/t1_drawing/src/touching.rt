@@ -7,7 +7,7 @@ ghost use Rattle.t1_char.specs.Steps.{StepView};
 ghost use Rattle.t1_char.specs.StepValues.{step_view};
 ghost use Rattle.t1_drawing.specs.Touching.{coordinate, curve_extent, extent_by, extent_from, high_edge, is_between, is_near, is_stroke_by, leaves_untouched, line_extent, low_edge, stems_set, touches_edge, touches_one, widened};
 ghost use Rattle.t1_drawing.specs.Private.Standing.{TouchesStandFor};
-ghost use Rattle.t1_drawing.specs.Private.Watching.{IsDone, draw_on, drawing_in, draws_on, has_edges, point_in, point_on, touched_by, with_edges, with_stem_from, with_stems_from};
+ghost use Rattle.t1_drawing.specs.Private.Watching.{IsDone, SetsNothing, draw_on, drawing_in, draws_on, has_edges, point_in, point_on, touched_by, with_edges, with_stem_from, with_stems_from};
 ghost use Rattle.t1_outline.specs.Outlines.{drawn};
 ghost use Rattle.t1_drawing.specs.declared.direction.Direction.TheVariants.{Across, Upright};
 ghost use Rattle.t1_rules.specs.StepRules.Stems.{most_stems, stems_of};
@@ -356,6 +356,16 @@ impl TouchWatcher {
         self.draw_all(segments);
         self.set(step);
         self.sidebearing = self.sidebearing.after(step);
+    }
+
+    /// The same of a step that draws a line or a curve alone, and sets nothing.
+    #[inline(always)]
+    pub(crate) fn see_stroke(&mut self, _step: &Step, segment: Segment)
+        requires { IsDone self.old }
+        ensures { (before : List StepView) → TouchesStandFor self.old before → drawn before (step_view _step.now) ≡ segment ∷ [] →
+            SetsNothing (step_view _step.now) → TouchesStandFor self.new (before ++ step_view _step.now ∷ []) }
+    {
+        self.draw(segment);
     }
 
     /// Whether something is drawn, and a stem isn't touched: at the end of a glyph this breaks H08.

@@ -88,6 +88,7 @@ fn curve(start: Point, one: Way, two: Way, three: Way) -> Segment
 }
 
 /// The line or the curve that a step draws from a point on, if it is one.
+#[inline(always)]
 pub(crate) fn stroke(start: Point, step: &Step) -> Option<Segment>
     requires { (n : ℕ) × (IsNear n start × (n < most_steps)) }
     ensures { result ≡ stroke_at start step.now.stack step.now.token }
@@ -98,6 +99,7 @@ pub(crate) fn stroke(start: Point, step: &Step) -> Option<Segment>
     }
 }
 
+#[inline(always)]
 fn stroke_by(start: Point, command: Command, step: &Step) -> Option<Segment>
     requires { (n : ℕ) × (IsNear n start × (n < most_steps)) }
     ensures { result ≡ stroke_by start step.now.stack command }

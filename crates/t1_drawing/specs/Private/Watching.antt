@@ -9,7 +9,7 @@ use Rattle.t1_drawing.specs.declared.touching.Extent.{Extent}
 use Rattle.t1_drawing.specs.declared.touching.Sidebearing.{Sidebearing}
 use Rattle.t1_drawing.specs.declared.touching.TouchWatcher.{TouchWatcher}
 use Rattle.t1_drawing.specs.declared.touching.WatchedStem.{WatchedStem}
-use Rattle.t1_drawing.specs.Touching.{SetStem, coordinate, extent_by, high_edge, is_stroke_by, is_touched, low_edge, touches_one}
+use Rattle.t1_drawing.specs.Touching.{SetStem, coordinate, extent_by, high_edge, is_stroke_by, is_touched, low_edge, stems_set, touches_one}
 use Rattle.t1_outline.specs.declared.segment.Segment.{Segment}
 use Rattle.t1_outline.specs.Laws.Points.{end_of}
 use Rattle.t1_rules.specs.declared.step_rules.flex.Point.{Point}
@@ -57,6 +57,12 @@ all_touched stems = not (list_any (λ stem. not stem.touched) stems)
 pub record IsDone (w : TouchWatcher) : Type 0 where
   pub across : w.is_done ≡ true → all_touched w.across.items ≡ true
   pub upright : w.is_done ≡ true → all_touched w.upright.items ≡ true
+
+-- The step sets no stem, and no sidebearing.
+pub record SetsNothing (step : StepView) : Type 0 where
+  pub across : stems_set Across step ≡ []
+  pub upright : stems_set Upright step ≡ []
+  pub width : sets_width step.token ≡ false
 
 -- Stems more.
 abbrev pub has_edges : ℤ → ℤ → WatchedStem → Bool

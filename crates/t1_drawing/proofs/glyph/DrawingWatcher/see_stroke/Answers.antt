@@ -6,13 +6,14 @@ use Rattle.t1_drawing.specs.Drawings.{faults_in}
 use Rattle.t1_drawing.specs.Strokes.{segments_of}
 use Rattle.t1_drawing.specs.Private.Plain.{is_silent}
 use Rattle.t1_drawing.specs.Private.Standing.{SegmentsStandFor}
+use Rattle.t1_drawing.proofs.Drawing.{faults_of_one}
 use Rattle.t1_drawing.proofs.NearLaws.{drawn_segments_can_be_seen, steps_add_what_they_draw}
 use Rattle.t1_drawing.proofs.Numbers.{IsPlain, plain}
 use Rattle.t1_drawing.proofs.glyph.DrawingWatcher.see_stroke.Goals as goal
 use Rattle.t1_outline.specs.Outlines.{drawn}
 
-pub see-segments-requires : goal.see-segments-requires
-see-segments-requires c =
+pub see_one-segments-requires : goal.see_one-segments-requires
+see_one-segments-requires c =
     let before = c.requires.1.1.0 in
     let is = c.requires.1.1.1 in
     let can = subst (CanBeDrawn (segments_of before)) is.alone (drawn_segments_can_be_seen before (step_view c.args.step.now) is.short) in
@@ -24,19 +25,21 @@ returns-clause-stands c = λ edition box before is.
     let can = subst (CanBeDrawn (segments_of before)) is.alone (drawn_segments_can_be_seen before t is.short) in
     record {
       nib = is.seen;
-      segments = subst (λ ss. SegmentsStandFor box c.see-segments.new.self ss)
+      segments = subst (λ ss. SegmentsStandFor box c.see_one-segments.new.self ss)
           (ap (λ ss. segments_of before ++ ss) (sym is.alone) ∙ sym (steps_add_what_they_draw before t))
-          (c.see-segments.ensures.stands box (segments_of before) is.stands.segments can);
+          (c.see_one-segments.ensures.stands box (segments_of before) is.stands.segments can);
       moves = c.see-moves_again.ensures.stands before is.stands.moves (sym is.outside);
-      touches = c.see.ensures before is.stands.touches (sym is.alone);
+      touches = let kind = plain t (ap (λ b. is_silent t.token || b) is.line ∙ or-true (is_silent t.token)) in
+          c.see_stroke.ensures before is.stands.touches is.alone (record { across = kind.across; upright = kind.upright; width = kind.width });
     }
 
 pub returns-clause-answer : goal.returns-clause-answer
 returns-clause-answer c = λ edition box before is n.
     let t = step_view c.args.step.now in
     let can = subst (CanBeDrawn (segments_of before)) is.alone (drawn_segments_can_be_seen before t is.short) in
-    let segments : c.see-segments.result ≡ faults_in box (segments_of before) (drawn before t) =
-    c.see-segments.ensures.faults box (segments_of before) is.stands.segments can ∙ ap (λ ss. faults_in box (segments_of before) ss) (sym is.alone) in
+    let segments : c.see_one-segments.result ≡ faults_in box (segments_of before) (drawn before t) =
+    c.see_one-segments.ensures.faults box (segments_of before) is.stands.segments can ∙ sym (faults_of_one box (segments_of before) c.args.segment)
+    ∙ ap (λ ss. faults_in box (segments_of before) ss) (sym is.alone) in
     let kind : IsPlain t = plain t (ap (λ b. is_silent t.token || b) is.line ∙ or-true (is_silent t.token)) in
     c.join.ensures n
     ∙ rw (
