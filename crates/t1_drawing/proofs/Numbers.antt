@@ -8,6 +8,7 @@ use Rattle.t1_char.specs.declared.command.Command.TheVariants.{Callsubr, Div, Do
 use Rattle.t1_char.specs.declared.token.CharToken.{CharToken}
 use Rattle.t1_char.specs.declared.token.CharToken.TheVariants.{Command, Number}
 use Rattle.t1_char.specs.Arguments.{is_flex_end, is_flex_point, is_flex_start}
+use Rattle.t1_char.specs.Arguments.{is_callothersubr}
 use Rattle.t1_char.specs.Steps.{StepView}
 use Rattle.t1_char.proofs.LookingBack.{since_goes_on}
 use Rattle.t1_drawing.specs.declared.direction.Direction.{Direction}
@@ -15,6 +16,7 @@ use Rattle.t1_drawing.specs.declared.direction.Direction.TheVariants.{Across, Up
 use Rattle.t1_drawing.specs.declared.font_box.FontBox.{FontBox}
 use Rattle.t1_drawing.specs.declared.glyph.DrawingWatcher.{DrawingWatcher}
 use Rattle.t1_drawing.specs.declared.moves.MoveWatcher.{MoveWatcher}
+use Rattle.t1_drawing.specs.declared.segments.SegmentWatcher.{SegmentWatcher}
 use Rattle.t1_drawing.specs.declared.touching.TouchWatcher.{TouchWatcher}
 use Rattle.t1_drawing.specs.declared.touching.WatchedStem.{WatchedStem}
 use Rattle.t1_drawing.specs.DrawingRules.{drawing_rules, ends_glyph}
@@ -22,7 +24,7 @@ use Rattle.t1_drawing.specs.Moves.{draws_or_closes}
 use Rattle.t1_drawing.specs.StemEdges.{sets_adjacent, sets_negative_width}
 use Rattle.t1_drawing.specs.Strokes.{end_of_steps, segments_of, strokes_at, strokes_from}
 use Rattle.t1_drawing.specs.Touching.{stems_of_glyph, stems_set}
-use Rattle.t1_drawing.specs.Private.Plain.{is_silent}
+use Rattle.t1_drawing.specs.Private.Plain.{draws_nothing, is_silent}
 use Rattle.t1_drawing.specs.Private.Standing.{DrawingStandsFor, MovesStandFor, SegmentsStandFor, TouchesStandFor}
 use Rattle.t1_drawing.specs.Private.Watching.{watched}
 use Rattle.t1_drawing.proofs.NearLaws.{steps_add_what_they_draw}
@@ -32,8 +34,9 @@ use Rattle.t1_outline.specs.Laws.Points.{last_end}
 use Rattle.t1_outline.specs.Outlines.{begins_flex, drawn, flex_places, has_subpath, is_spoiled, makes_subpath, spoils_flex}
 use Rattle.t1_outline.specs.Private.Standing.{NibStandsFor}
 use Rattle.t1_outline.proofs.Flexes.{places_go_on, spoiled_goes_on}
+use Rattle.t1_outline.proofs.Subpaths.{no_stroke}
 use Rattle.t1_rules.specs.StepRules.{breaks}
-use Rattle.t1_rules.specs.StepRules.Flex.{commands_in_flex, counts_no_pairs, flex_moves, flex_points, miscounts, starts_in_flex}
+use Rattle.t1_rules.specs.StepRules.Flex.{commands_in_flex, counts_no_pairs, current_point, flex_moves, flex_points, miscounts, starts_in_flex}
 use Rattle.t1_rules.specs.StepRules.Paths.{closing_step, in_flex, outer_move}
 use Rattle.t1_rules.specs.StepRules.Tokens.{clears, closes, is_line, is_move, sets_width}
 
@@ -95,23 +98,6 @@ plain t kind = go t.token refl kind
     go _ is kind = let no : false ≡ true = kind in cc
 
 -- One that is silent is no line.
-silent_draws : (t : StepView) → is_silent t.token ≡ true → (before : List StepView) → drawn before t ≡ []
-silent_draws t silent before = go t.token refl silent
-  where
-    by_command : (command : Commands) → t.token ≡ Command command → is_silent (Command command) ≡ true → drawn before t ≡ []
-    by_command Callsubr is silent = rw is refl
-    by_command Return is silent = rw is refl
-    by_command Pop is silent = rw is refl
-    by_command Div is silent = rw is refl
-    by_command Dotsection is silent = rw is refl
-    by_command Setcurrentpoint is silent = rw is refl
-    by_command _ is silent = let no : false ≡ true = silent in cc
-
-    go : (token : CharToken) → t.token ≡ token → is_silent token ≡ true → drawn before t ≡ []
-    go (Number z) is silent = rw is refl
-    go (Command command) is silent = by_command command is silent
-    go _ is silent = let no : false ≡ true = silent in cc
-
 silent_line : (t : StepView) → is_silent t.token ≡ true → is_line t.token ≡ false
 silent_line t silent = go t.token silent
   where
@@ -129,33 +115,79 @@ silent_line t silent = go t.token silent
     go (Command command) silent = by_command command silent
     go _ silent = let no : false ≡ true = silent in cc
 
+-- A step that draws nothing.
+pub record IsUndrawn (t : StepView) : Type 0 where
+  pub move : is_move t.token ≡ false
+  pub line : is_line t.token ≡ false
+  pub closing : closes t.token ≡ false
+  pub start : is_flex_start t ≡ false
+  pub point : is_flex_point t ≡ false
+  pub end : is_flex_end t ≡ false
+
+undrawn_silent : (t : StepView) → is_silent t.token ≡ true → IsUndrawn t
+undrawn_silent t silent =
+    let is = plain t (ap (λ b. b || is_line t.token) silent) in
+    record { move = is.move; line = silent_line t silent; closing = is.closing; start = is.start; point = is.point; end = is.end }
+
+neither : (a b : Bool) → not (a || b) ≡ true → (not a ≡ true) × (b ≡ false)
+neither false false is = (refl, refl)
+neither true b is = let no : false ≡ true = is in cc
+neither false true is = let no : false ≡ true = is in cc
+
+is_not : (a : Bool) → not a ≡ true → a ≡ false
+is_not false is = refl
+is_not true is = let no : false ≡ true = is in cc
+
+pub undrawn : (t : StepView) → draws_nothing t.token ≡ true → IsUndrawn t
+undrawn t nothing =
+    let call = neither (is_move t.token || is_line t.token || closes t.token) (is_callothersubr t.token) nothing in
+    let closing = neither (is_move t.token || is_line t.token) (closes t.token) call.0 in
+    let line = neither (is_move t.token) (is_line t.token) closing.0 in
+    record {
+      move = is_not (is_move t.token) line.0;
+      line = line.1;
+      closing = closing.1;
+      start = rw (call.1) refl;
+      point = rw (call.1) refl;
+      end = rw (call.1) refl;
+    }
+
+module _ (before : List StepView) (t : StepView) (is : IsUndrawn t) where
+  pub undrawn_is : drawn before t ≡ []
+  undrawn_is = rw (is.move, is.end, is.closing, no_stroke (current_point before) t.stack t.token is.line) refl
+
+  pub segments_stay : (box : Option FontBox) (w : SegmentWatcher) → SegmentsStandFor box w (segments_of before)
+      → SegmentsStandFor box w (segments_of (before ++ t ∷ []))
+  segments_stay box w =
+      subst (SegmentsStandFor box w)
+      (sym (steps_add_what_they_draw before t ∙ ap (λ ss. segments_of before ++ ss) undrawn_is ∙ append-nil (segments_of before)))
+
+  pub moves_stay : (w : MoveWatcher) → MovesStandFor w before → MovesStandFor w (before ++ t ∷ [])
+  moves_stay w st =
+      st ∙ sym (since_goes_on outer_move draws_or_closes before t ∙ rw (is.move, is.line, is.end, is.closing) (and-true _))
+
+  pub nib_stays : (nib : Nib) → spoils_flex before t ≡ false → NibStandsFor nib before → NibStandsFor nib (before ++ t ∷ [])
+  nib_stays nib unspoiled st = record {
+    run = record {
+      places = st.run.places ∙ ap (take 8) (sym (places_go_on before t ∙ rw (is.start, is.point) refl));
+      spoiled = st.run.spoiled ∙ sym (spoiled_goes_on before t
+          ∙ ap (λ b. b || (is_spoiled before && not (begins_flex before t))) unspoiled
+          ∙ ap (λ b. is_spoiled before && not (b && not (in_flex before))) is.start
+          ∙ and-true (is_spoiled before));
+    };
+    subpath = st.subpath ∙ sym (since_goes_on makes_subpath closing_step before t
+        ∙ rw (is.move, is.line, is.end, is.closing) (and-true (has_subpath before)));
+  }
+
 module _ (before : List StepView) (t : StepView) (silent : is_silent t.token ≡ true) (unspoiled : spoils_flex before t ≡ false) where
   is_plain : IsPlain t
   is_plain = plain t (ap (λ b. b || is_line t.token) silent)
 
-  draws_nothing : drawn before t ≡ []
-  draws_nothing = silent_draws t silent before
-
-  nib_stays : (nib : Nib) → NibStandsFor nib before → NibStandsFor nib (before ++ t ∷ [])
-  nib_stays nib st = record {
-    run = record {
-      places = st.run.places ∙ ap (take 8) (sym (places_go_on before t ∙ rw (is_plain.start, is_plain.point) refl));
-      spoiled = st.run.spoiled ∙ sym (spoiled_goes_on before t
-          ∙ ap (λ b. b || (is_spoiled before && not (begins_flex before t))) unspoiled
-          ∙ ap (λ b. is_spoiled before && not (b && not (in_flex before))) is_plain.start
-          ∙ and-true (is_spoiled before));
-    };
-    subpath = st.subpath ∙ sym (since_goes_on makes_subpath closing_step before t
-        ∙ rw (is_plain.move, silent_line t silent, is_plain.end, is_plain.closing) (and-true (has_subpath before)));
-  }
-
-  moves_stay : (w : MoveWatcher) → MovesStandFor w before → MovesStandFor w (before ++ t ∷ [])
-  moves_stay w st =
-      st ∙ sym (since_goes_on outer_move draws_or_closes before t
-      ∙ rw (is_plain.move, silent_line t silent, is_plain.end, is_plain.closing) (and-true _))
+  draws_none : drawn before t ≡ []
+  draws_none = undrawn_is before t (undrawn_silent t silent)
 
   no_strokes : strokes_at before t ≡ []
-  no_strokes = ap (strokes_from (end_of_steps before)) draws_nothing
+  no_strokes = ap (strokes_from (end_of_steps before)) draws_none
 
   stems_stay : (direction : Direction) (stems : List WatchedStem) → stems_set direction t ≡ []
       → stems ≡ map (watched direction) (stems_of_glyph direction before)
@@ -170,17 +202,16 @@ module _ (before : List StepView) (t : StepView) (silent : is_silent t.token ≡
     across = stems_stay Across w.across.items is_plain.across st.across;
     upright = stems_stay Upright w.upright.items is_plain.upright st.upright;
     sidebearing = st.sidebearing ∙ sym (point_goes_on before t ∙ rw (is_plain.width) refl);
-    end = st.end ∙ sym (end_on before t ∙ ap (last_end (end_of_steps before)) draws_nothing);
+    end = st.end ∙ sym (end_on before t ∙ ap (last_end (end_of_steps before)) draws_none);
     has_strokes = st.has_strokes ∙ sym (strokes_more before t ∙ rw no_strokes (or-false _));
     done = st.done;
   }
 
   pub stays_at_silent : (box : Option FontBox) (w : DrawingWatcher) → DrawingStandsFor box w before → DrawingStandsFor box w (before ++ t ∷ [])
   stays_at_silent box w st = record {
-    nib = nib_stays w.nib st.nib;
-    segments = subst (SegmentsStandFor box w.segments)
-        (sym (steps_add_what_they_draw before t ∙ ap (λ ss. segments_of before ++ ss) draws_nothing ∙ append-nil (segments_of before))) st.segments;
-    moves = moves_stay w.moves st.moves;
+    nib = nib_stays before t (undrawn_silent t silent) w.nib unspoiled st.nib;
+    segments = segments_stay before t (undrawn_silent t silent) box w.segments st.segments;
+    moves = moves_stay before t (undrawn_silent t silent) w.moves st.moves;
     touches = touches_stay w.touches st.touches;
   }
 
@@ -190,7 +221,7 @@ pub no_fault_at_silent : (before : List StepView) (t : StepView) → is_silent t
 unfolding drawing_rules
 no_fault_at_silent before t silent box n =
     let is = plain t (ap (λ b. b || is_line t.token) silent) in
-    rw (silent_draws t silent before, is.move, is.ends, is.adjacent before, is.negative) refl
+    rw (undrawn_is before t (undrawn_silent t silent), is.move, is.ends, is.adjacent before, is.negative) refl
 
 -- Outside flex nothing spoils one, and a number never does.
 pub unspoiled_outside : (before : List StepView) (t : StepView) → is_flex_start t ≡ false → in_flex before ≡ false → spoils_flex before t ≡ false

@@ -7,7 +7,7 @@ ghost use Rattle.t1_char.specs.StepValues.{step_view};
 ghost use Rattle.t1_drawing.specs.declared.font_box.FontBox.{FontBox as Boxes};
 ghost use Rattle.t1_drawing.specs.DrawingRules.{breaks_own, drawing_rules, ends_clockwise, ends_glyph, ends_untouched, is_endchar};
 ghost use Rattle.t1_drawing.specs.Private.Joined.{are_none, drawing_faults};
-ghost use Rattle.t1_drawing.specs.Private.Plain.{DrawsAlone, is_silent};
+ghost use Rattle.t1_drawing.specs.Private.Plain.{DrawsAlone, SetsAlone, draws_nothing, is_silent};
 ghost use Rattle.t1_drawing.specs.Private.Standing.{BothStandFor, DrawingStandsFor, LatestDrawingStandsFor, SegmentsStandFor, TouchesStandFor};
 ghost use Rattle.t1_drawing.specs.Strokes.{segments_of};
 ghost use Rattle.t1_rules.specs.Mask.{has};
@@ -21,9 +21,9 @@ use crate::moves::MoveWatcher;
 use crate::segments::SegmentWatcher;
 use crate::stem_edges::{sets_adjacent, sets_negative_width};
 use crate::touching::TouchWatcher;
-use t1_char::{CharToken, Command, Step, is_end};
+use t1_char::{CharToken, Command, Step, is_callothersubr, is_end};
 use t1_outline::{Around, Nib, Segment, spoils_flex};
-use t1_rules::{Mask, Rule, Watch, Watches};
+use t1_rules::{Mask, Rule, Watch, Watches, closes, is_line, is_move};
 
 /// Which rules on the drawing a step breaks.
 #[derive(Clone, Copy)]
@@ -113,8 +113,45 @@ impl DrawingWatcher {
         }
         match self.nib.stroke(step, watches.point()) {
             Some(segment) => self.see_stroke(watches, step, segment),
-            None => self.see_any(watches, step),
+            None => {
+                if draws_nothing(step.token) {
+                    self.see_setting(watches, step)
+                } else {
+                    self.see_any(watches, step)
+                }
+            }
         }
+    }
+
+    /// The same of a step that draws nothing, outside flex: it may set stems or a sidebearing, or end the glyph.
+    #[inline(never)]
+    fn see_setting(&mut self, watches: &mut Watches, step: &Step) -> Mask
+        requires { (edition : Editions) × ((box : Option Boxes) × ((before : List StepView) ×
+            SetsAlone edition box watches.old self.old before (step_view step.now))) }
+        ensures watches { (edition : Editions) (before : List StepView) →
+            WatchesStandFor edition watches.old before → length before < most_steps →
+            WatchesStandFor edition watches.new (before ++ step_view step.now ∷ []) }
+        ensures stands { (edition : Editions) (box : Option Boxes) (before : List StepView) →
+            SetsAlone edition box watches.old self.old before (step_view step.now) →
+            DrawingStandsFor box self.new (before ++ step_view step.now ∷ []) }
+        ensures answer { (edition : Editions) (box : Option Boxes) (before : List StepView) →
+            SetsAlone edition box watches.old self.old before (step_view step.now) →
+            (n : ℕ) → has result n
+            ≡ (breaks (step_rules edition) n before (step_view step.now) || breaks (drawing_rules box) n before (step_view step.now)) }
+    {
+        let sets_adjacent = sets_adjacent(step, watches.across(), watches.upright());
+        let ends_clockwise = ends_clockwise(step, &self.segments);
+        let ends_untouched = ends_untouched(step, &self.touches);
+        let broken = watches.see(step);
+        self.touches.see(step, &[]);
+        broken.join(rules_in(DrawingFaults {
+            segments: SegmentFaults::none(),
+            ends_clockwise,
+            moves_again: false,
+            ends_untouched,
+            sets_adjacent,
+            sets_negative_width: sets_negative_width(step),
+        }))
     }
 
     /// The same of a line or a curve that is all that its step draws, outside flex: most steps that draw are such steps.
@@ -256,6 +293,13 @@ fn is_silent(token: CharToken) -> bool
         },
         _ => false,
     }
+}
+
+/// Whether a token draws nothing, and calls no OtherSubr.
+fn draws_nothing(token: CharToken) -> bool
+    ensures { result ≡ draws_nothing token }
+{
+    !(is_move(token) | is_line(token) | closes(token) | is_callothersubr(token))
 }
 
 fn is_endchar(token: CharToken) -> bool

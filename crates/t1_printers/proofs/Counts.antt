@@ -32,12 +32,16 @@ count_cons rule l held = elim (cases_Bool (number_of l.rule == number_of rule)) 
   | inr not ↦ rw not (omega arith)
 ]
 
+-- The sums over all rules are too long to be looked into.
+one_more : (all here rest count : ℕ) → all ≡ here + rest → here ≡ 1 → rest ≡ count → all ≡ count + 1
+one_more all here rest count both one so_far = omega (arith, both, one, so_far)
+
 pub counts_sum : CountsSumToLines
 counts_sum [] = sum_zero (λ rule. length (units_of rule [])) rules (λ rule. refl)
 counts_sum (l ∷ held) =
     let both = sum_both (λ rule. cond (number_of l.rule == number_of rule) 1 0) (λ rule. length (units_of rule held))
     (λ rule. length (units_of rule (l ∷ held))) rules (λ rule. count_cons rule l held) in
-    omega (arith, both, one_rule_counts l.rule, counts_sum held)
+    one_more _ _ _ (length held) both (one_rule_counts l.rule) (counts_sum held) ∙ omega arith
 
 lines_split : (before after : List HeldLine) (l : HeldLine)
     → lines_of l.rule (before ++ l ∷ after) ≡ lines_of l.rule before ++ l ∷ lines_of l.rule after

@@ -1,10 +1,11 @@
 -- Steps that draw nothing, and those that draw a line or a curve and nothing else.
-use Rattle.std.specs.Prelude.{◌≡◌, ◌<◌, Bool, true, false, Option, List, [], ◌∷◌, ◌++◌, length}
+use Rattle.std.specs.Prelude.{◌≡◌, ◌<◌, ◌||◌, not, Bool, true, false, Option, List, [], ◌∷◌, ◌++◌, length}
 use Rattle.t1_char.specs.declared.command.Command.{Command as Commands}
 use Rattle.t1_char.specs.declared.command.Command.TheVariants.{Callsubr, Div, Dotsection, Pop, Return, Setcurrentpoint}
 use Rattle.t1_char.specs.declared.edition.Edition.{Edition}
 use Rattle.t1_char.specs.declared.token.CharToken.{CharToken}
 use Rattle.t1_char.specs.declared.token.CharToken.TheVariants.{Command, Number}
+use Rattle.t1_char.specs.Arguments.{is_callothersubr}
 use Rattle.t1_char.specs.Steps.{StepView}
 use Rattle.t1_drawing.specs.declared.font_box.FontBox.{FontBox}
 use Rattle.t1_drawing.specs.declared.glyph.DrawingWatcher.{DrawingWatcher}
@@ -15,7 +16,7 @@ use Rattle.t1_outline.specs.Private.Standing.{NibStandsFor}
 use Rattle.t1_rules.specs.declared.watches.Watches.{Watches}
 use Rattle.t1_rules.specs.Private.Standing.{WatchesStandFor}
 use Rattle.t1_rules.specs.StepRules.Paths.{in_flex}
-use Rattle.t1_rules.specs.StepRules.Tokens.{is_line}
+use Rattle.t1_rules.specs.StepRules.Tokens.{closes, is_line, is_move}
 use Rattle.t1_rules.specs.Watches.{most_steps}
 
 abbrev pub is_silent_command : Commands → Bool
@@ -41,3 +42,14 @@ pub record DrawsAlone (edition : Edition) (box : Option FontBox) (watches : Watc
   pub line : is_line step.token ≡ true
   pub alone : drawn before step ≡ segment ∷ []
   pub seen : NibStandsFor watcher.nib (before ++ step ∷ [])
+
+abbrev pub draws_nothing : CharToken → Bool
+draws_nothing token = not (is_move token || is_line token || closes token || is_callothersubr token)
+
+-- The step draws nothing, outside flex.
+pub record SetsAlone (edition : Edition) (box : Option FontBox) (watches : Watches) (watcher : DrawingWatcher) (before : List StepView) (step : StepView) : Type 0 where
+  pub watched : WatchesStandFor edition watches before
+  pub stands : DrawingStandsFor box watcher before
+  pub short : length before < most_steps
+  pub outside : in_flex before ≡ false
+  pub nothing : draws_nothing step.token ≡ true

@@ -73,6 +73,47 @@ see_stroke-requires c =
       ),
     )
 
+pub see_setting-requires : goal.see_setting-requires
+see_setting-requires c =
+    let edition = c.requires.0 in
+    let before = c.requires.1.1.0 in
+    let ws = c.requires.1.1.1.0 in (
+      edition,
+      (
+        c.requires.1.0,
+        (
+          before,
+          record {
+            watched = ws;
+            stands = c.requires.1.1.1.1.0;
+            short = c.requires.1.1.1.1.1;
+            outside = sym (c.is_in_flex.ensures edition before ws) ∙ c.if-is_in_flex.false;
+            nothing = sym c.draws_nothing.ensures ∙ c.if-draws_nothing.true;
+          },
+        ),
+      ),
+    )
+
+pub returns-then-draws_nothing-clause-stands : goal.returns-then-draws_nothing-clause-stands
+returns-then-draws_nothing-clause-stands c = λ edition box before ws st short.
+    c.see_setting.ensures.stands edition box before (record {
+      watched = ws;
+      stands = st;
+      short = short;
+      outside = sym (c.is_in_flex.ensures edition before ws) ∙ c.if-is_in_flex.false;
+      nothing = sym c.draws_nothing.ensures ∙ c.if-draws_nothing.true;
+    })
+
+pub returns-then-draws_nothing-clause-answer : goal.returns-then-draws_nothing-clause-answer
+returns-then-draws_nothing-clause-answer c = λ edition box before ws st short.
+    c.see_setting.ensures.answer edition box before (record {
+      watched = ws;
+      stands = st;
+      short = short;
+      outside = sym (c.is_in_flex.ensures edition before ws) ∙ c.if-is_in_flex.false;
+      nothing = sym c.draws_nothing.ensures ∙ c.if-draws_nothing.true;
+    })
+
 pub returns-in-Some-clause-stands : goal.returns-in-Some-clause-stands
 returns-in-Some-clause-stands c = λ edition box before ws st short.
     let outside = sym (c.is_in_flex.ensures edition before ws) ∙ c.if-is_in_flex.false in
