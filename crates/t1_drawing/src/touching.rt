@@ -64,7 +64,7 @@ pub(crate) struct TouchWatcher {
     /// Whether a line or a curve was drawn.
     has_strokes: bool,
     /// Whether all stems are known to be touched. Only speed depends on it.
-    is_done: bool,
+    pub(crate) is_done: bool,
 }
 
 fn is_near(one: i64, other: i64) -> bool
