@@ -465,7 +465,7 @@ while IFS= read -r word; do
         *) fail "specs/Private/Standing: $word is no relation of a watcher or a pen" ;;
     esac
 done <"$scratch/relations"
-[ "$(wc -l <"$scratch/relations")" -eq 18 ] || fail "the relations of watchers and pens aren't read"
+[ "$(wc -l <"$scratch/relations")" -eq 21 ] || fail "the relations of watchers and pens aren't read"
 
 # The README's lines for an editor are in the example.
 sed -n '/^## As a library$/,/^## /s/^    //p' "$top/README.md" >"$scratch/editor"
