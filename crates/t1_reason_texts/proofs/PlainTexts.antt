@@ -21,7 +21,7 @@ use Rattle.t1_reason_texts.specs.FontTexts.{absent_needed, count_needed, entry_n
 use Rattle.t1_reason_texts.specs.Laws.{AreOneLine, is_plain}
 use Rattle.t1_reason_texts.specs.SeacTexts.{code_text, name_words}
 use Rattle.t1_reason_texts.specs.StepTexts.{against_words, call_words, comes_next, is_there, middles_text, needed_pairs, or_more, since_after, since_before, since_none, stems_text, token_text, widths_text}
-use Rattle.t1_reason_texts.specs.Texts.{font_reason_text, reason_text}
+use Rattle.t1_reason_texts.specs.Texts.{font_reason_text, numbers_reason_text, outline_reason_text, reason_text}
 use Rattle.t1_reason_texts.specs.ZoneTexts.{below_one, height_text, number_text, would_do, zones_text}
 use Rattle.t1_reason_texts.proofs.PlainParts.{plain, plain_by, plain_command, plain_decimal, plain_name, plain_signed}
 
@@ -163,7 +163,7 @@ plain_number _ number = plain_by 1000000000 number
 ruleset worded = (plain, plain_more, plain_token, plain_is_there, plain_comes, plain_needed_pairs, plain_before, plain_after, plain_none, plain_stems, plain_widths, plain_middles, plain_call_words, plain_does, plain_code, plain_entry, plain_found, plain_subr_entry, plain_number, plain_zones, plain_height, plain_below_one)
 
 pub are_one_line : AreOneLine
-unfolding reason_text font_reason_text
+unfolding reason_text outline_reason_text font_reason_text numbers_reason_text
 are_one_line font rule Nothing = refl
 are_one_line font rule (Since None) = simp worded
 are_one_line font rule (Form NoEncoding) = refl

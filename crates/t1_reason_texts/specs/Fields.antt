@@ -1,7 +1,7 @@
 -- The fields of a reason with their names, as forms that other programs read write them.
 use Rattle.std.specs.Prelude.{ℕ, ℤ, Option, Some, None, List, [], ◌∷◌, codes}
 use Rattle.t1_reasons.specs.declared.reason.Reason.{Reason}
-use Rattle.t1_reasons.specs.declared.reason.Reason.TheVariants.{Argument, Arguments, Behind, Code, Codes, Corners, Count, Depth, Ending, Entry, Following, Features, Form, Full, Gap, Glyph, Glyphs, Ids, Kind, LastToken, Length, Limit, Miss, Nothing, Number, Numbers, Open, Othersubr, Pairs, Quotient, Sidebearings, Since, Stem, Stems, Subr, SubrEntry, Token, TooMany, Triple, Waiver, Width, Zone, Zones}
+use Rattle.t1_reasons.specs.declared.reason.Reason.TheVariants.{Argument, Arguments, Behind, Code, Codes, Corners, Count, Depth, Ending, Entry, Following, Features, Form, Full, Gap, Glyph, Glyphs, Ids, Kind, LastToken, Length, Limit, Miss, Number, Numbers, Open, Othersubr, Pairs, Quotient, Sidebearings, Since, Stem, Stems, Subr, SubrEntry, Token, TooMany, Triple, Width, Zone, Zones}
 use Rattle.t1_reason_texts.specs.declared.fields.Field.{Field}
 use Rattle.t1_reason_texts.specs.declared.fields.Field.TheVariants.{CodeName, Command, Count as Counted, Decimal, Edges, Encoding, Found, GlyphName, Holds, Integer, Point, Stem as OneStem, Token as OneToken, Wanted}
 use Rattle.t1_reason_texts.specs.declared.fields.Fields.{Fields}
@@ -25,9 +25,32 @@ coordinate_field number = Decimal (coordinate_of number)
 abbrev pub value_field : ℤ → Field
 value_field number = Decimal (value_of number)
 
+-- Of a reason that speaks of the font and its entries, of a charstring as a whole, or of a waiver.
+unfoldable pub font_fields_of : Reason → List NamedField
+font_fields_of (Limit steps) = (codes "steps", Counted steps) ∷ []
+font_fields_of (Entry found) = (codes "found", Found found) ∷ []
+font_fields_of (Ids clear private) = (codes "clear", value_field clear) ∷ (codes "private", value_field private) ∷ []
+font_fields_of (Features found one two) = (codes "found", Found found) ∷ (codes "one", value_field one) ∷ (codes "two", value_field two) ∷ []
+font_fields_of (Glyphs count) = (codes "glyphs", Counted count) ∷ []
+font_fields_of (Form encoding) = (codes "form", Encoding encoding) ∷ []
+font_fields_of (SubrEntry number twice size) = (codes "number", Counted number) ∷ (codes "twice", Holds twice) ∷ (codes "size", Counted size) ∷ []
+font_fields_of (Kind found wanted) = (codes "found", Found found) ∷ (codes "wanted", Wanted wanted) ∷ []
+font_fields_of (TooMany count most) = (codes "count", Counted count) ∷ (codes "most", Counted most) ∷ []
+font_fields_of (Numbers count) = (codes "count", Counted count) ∷ []
+font_fields_of (Glyph glyph) = (codes "name", GlyphName glyph) ∷ []
+font_fields_of (Code code) = (codes "code", Counted code) ∷ (codes "name", CodeName code) ∷ []
+font_fields_of (Corners first last) = (codes "first", value_field first) ∷ (codes "last", value_field last) ∷ []
+font_fields_of (Number number) = (codes "number", value_field number) ∷ []
+font_fields_of (LastToken None) = []
+font_fields_of (LastToken (Some token)) = (codes "token", OneToken token) ∷ []
+font_fields_of (Following before number) = (codes "before", value_field before) ∷ (codes "number", value_field number) ∷ []
+font_fields_of (Gap upper lower distance) = (codes "upper", value_field upper) ∷ (codes "lower", value_field lower) ∷ (codes "distance", value_field distance) ∷ []
+font_fields_of (Zones own other distance) = (codes "own", Edges own) ∷ (codes "other", Edges other) ∷ (codes "distance", value_field distance) ∷ []
+font_fields_of (Zone lower upper scale) = (codes "lower", value_field lower) ∷ (codes "upper", value_field upper) ∷ (codes "scale", value_field scale) ∷ []
+font_fields_of (Width width nearest) = (codes "width", value_field width) ∷ (codes "nearest", value_field nearest) ∷ []
+font_fields_of _ = []
+
 unfoldable pub fields_of : Reason → List NamedField
-fields_of Nothing = []
-fields_of (Waiver unused) = []
 fields_of (Count command taken there) = (codes "command", Command command) ∷ (codes "taken", Counted taken) ∷ (codes "there", Counted there) ∷ []
 fields_of (Full token there) = (codes "token", OneToken token) ∷ (codes "there", Counted there) ∷ []
 fields_of (Length bytes len_iv) = (codes "bytes", Counted bytes) ∷ (codes "lenIV", Integer len_iv) ∷ []
@@ -50,24 +73,4 @@ fields_of (Othersubr number count) = (codes "number", coordinate_field number) �
 fields_of (Arguments count there) = (codes "count", coordinate_field count) ∷ (codes "there", Counted there) ∷ []
 fields_of (Codes base accent) = (codes "base", coordinate_field base) ∷ (codes "accent", coordinate_field accent) ∷ []
 fields_of (Sidebearings told own) = (codes "told", coordinate_field told) ∷ (codes "own", coordinate_field own) ∷ []
-fields_of (Limit steps) = (codes "steps", Counted steps) ∷ []
-fields_of (Entry found) = (codes "found", Found found) ∷ []
-fields_of (Ids clear private) = (codes "clear", value_field clear) ∷ (codes "private", value_field private) ∷ []
-fields_of (Features found one two) = (codes "found", Found found) ∷ (codes "one", value_field one) ∷ (codes "two", value_field two) ∷ []
-fields_of (Glyphs count) = (codes "glyphs", Counted count) ∷ []
-fields_of (Form encoding) = (codes "form", Encoding encoding) ∷ []
-fields_of (SubrEntry number twice size) = (codes "number", Counted number) ∷ (codes "twice", Holds twice) ∷ (codes "size", Counted size) ∷ []
-fields_of (Kind found wanted) = (codes "found", Found found) ∷ (codes "wanted", Wanted wanted) ∷ []
-fields_of (TooMany count most) = (codes "count", Counted count) ∷ (codes "most", Counted most) ∷ []
-fields_of (Numbers count) = (codes "count", Counted count) ∷ []
-fields_of (Glyph glyph) = (codes "name", GlyphName glyph) ∷ []
-fields_of (Code code) = (codes "code", Counted code) ∷ (codes "name", CodeName code) ∷ []
-fields_of (Corners first last) = (codes "first", value_field first) ∷ (codes "last", value_field last) ∷ []
-fields_of (Number number) = (codes "number", value_field number) ∷ []
-fields_of (LastToken None) = []
-fields_of (LastToken (Some token)) = (codes "token", OneToken token) ∷ []
-fields_of (Following before number) = (codes "before", value_field before) ∷ (codes "number", value_field number) ∷ []
-fields_of (Gap upper lower distance) = (codes "upper", value_field upper) ∷ (codes "lower", value_field lower) ∷ (codes "distance", value_field distance) ∷ []
-fields_of (Zones own other distance) = (codes "own", Edges own) ∷ (codes "other", Edges other) ∷ (codes "distance", value_field distance) ∷ []
-fields_of (Zone lower upper scale) = (codes "lower", value_field lower) ∷ (codes "upper", value_field upper) ∷ (codes "scale", value_field scale) ∷ []
-fields_of (Width width nearest) = (codes "width", value_field width) ∷ (codes "nearest", value_field nearest) ∷ []
+fields_of reason = font_fields_of reason

@@ -22,7 +22,22 @@ use Rattle.t1_reason_texts.specs.ZoneTexts.{from_zero, gap_text, needed_text, nu
 use Rattle.t1_rules.specs.declared.rule.Rule.{Rule}
 use Rattle.t1_rules.specs.StepRules.Stems.{lower, upper}
 
--- Of a reason that speaks of the font and the numbers of its entries, of a charstring as a whole, or of a waiver.
+-- Of a reason that speaks of the numbers of an entry.
+unfoldable pub numbers_reason_text : FontValue → Rule → Reason → List ℕ
+numbers_reason_text font rule (TooMany count most) = numbers_text count ++ (codes ", " ++ (decimal most ++ codes " at most"))
+numbers_reason_text font rule (Numbers count) = numbers_text count
+numbers_reason_text font rule (Corners first last) = value_text first ++ (codes " is above " ++ value_text last)
+numbers_reason_text font rule (Number number) = number_text rule number
+numbers_reason_text font rule (Following before number) =
+    if says_twice rule then value_text number ++ codes " comes twice" else value_text number ++ (codes " comes after " ++ value_text before)
+numbers_reason_text font rule (Gap upper lower distance) = gap_text upper lower distance ++ would_do (codes "BlueFuzz") (from_zero (fuzz_for_all font))
+numbers_reason_text font rule (Zones own other distance) =
+    zones_text own other ++ (needed_text distance ++ would_do (codes "BlueFuzz") (from_zero (fuzz_for_both font)))
+numbers_reason_text font rule (Zone lower upper scale) = zone_text lower upper scale ++ would_do (codes "BlueScale") (from_zero (scale_for_all font))
+numbers_reason_text font rule (Width width nearest) = width_text width nearest
+numbers_reason_text font rule _ = []
+
+-- Of a reason that speaks of the font and its entries, of a charstring as a whole, or of a waiver.
 unfoldable pub font_reason_text : FontValue → Rule → Reason → List ℕ
 font_reason_text font rule (Limit steps) = codes "more than " ++ (decimal steps ++ codes " steps")
 -- What an entry is, and what it should be; of MinFeature its numbers where there are two.
@@ -47,18 +62,30 @@ font_reason_text font rule (LastToken (Some Short)) = codes "it is shorter than 
 font_reason_text font rule (LastToken (Some token)) = codes "it ends with " ++ token_text token
 font_reason_text font rule (Waiver NoGlyph) = codes "no glyph has this name"
 font_reason_text font rule (Waiver (Unbroken glyph)) = codes "no step of the glyph breaks this rule"
-font_reason_text font rule (TooMany count most) = numbers_text count ++ (codes ", " ++ (decimal most ++ codes " at most"))
-font_reason_text font rule (Numbers count) = numbers_text count
-font_reason_text font rule (Corners first last) = value_text first ++ (codes " is above " ++ value_text last)
-font_reason_text font rule (Number number) = number_text rule number
-font_reason_text font rule (Following before number) =
-    if says_twice rule then value_text number ++ codes " comes twice" else value_text number ++ (codes " comes after " ++ value_text before)
-font_reason_text font rule (Gap upper lower distance) = gap_text upper lower distance ++ would_do (codes "BlueFuzz") (from_zero (fuzz_for_all font))
-font_reason_text font rule (Zones own other distance) =
-    zones_text own other ++ (needed_text distance ++ would_do (codes "BlueFuzz") (from_zero (fuzz_for_both font)))
-font_reason_text font rule (Zone lower upper scale) = zone_text lower upper scale ++ would_do (codes "BlueScale") (from_zero (scale_for_all font))
-font_reason_text font rule (Width width nearest) = width_text width nearest
-font_reason_text font rule _ = []
+font_reason_text font rule reason = numbers_reason_text font rule reason
+
+-- Of one that speaks of points, of stems or of an accented character.
+unfoldable pub outline_reason_text : FontValue → Rule → Reason → List ℕ
+outline_reason_text font rule (Pairs moves points ends) =
+    counted_text moves (codes "move") ++ (codes " and " ++ (counted_text points (codes "point") ++ needed_pairs ends (nat_lt points moves)))
+outline_reason_text font rule (Open start pen) =
+    if are_same_points start pen then codes "ends where it began, without closepath"
+    else codes "from " ++ (point_text start ++ (codes " to " ++ point_text pen))
+outline_reason_text font rule (Stems own other) = stems_text rule own other
+outline_reason_text font rule (Stem stem) =
+    if says_width rule then codes "the stem from " ++ (span_text stem ++ (codes " is " ++ (text_in Coordinate (upper stem -ℤ lower stem) ++ codes " wide")))
+    else codes "the stem is at " ++ coordinate_text stem.position
+outline_reason_text font rule (Triple one two three) =
+    codes "widths " ++ (widths_text one two three ++ (codes ", middles " ++ (middles_text one two three
+    ++ (off_words one two three ++ would_do (codes "middle") (middle_that_does one three)))))
+outline_reason_text font rule (Miss named pen) = codes "the pen is at " ++ (point_text pen ++ (codes ", the end names " ++ point_text named))
+-- Of the code that the rule means, as far as the font tells it, or of both.
+outline_reason_text font rule (Codes base accent) =
+    if is_meant font rule base && not (is_meant font rule accent) then codes "the base's " ++ code_text rule base
+    else (if is_meant font rule accent && not (is_meant font rule base) then codes "the accent's " ++ code_text rule accent
+    else codes "the base's " ++ (code_text rule base ++ (codes " and the accent's " ++ code_text rule accent)))
+outline_reason_text font rule (Sidebearings told own) = sidebearings_text told own
+outline_reason_text font rule reason = font_reason_text font rule reason
 
 unfoldable pub reason_text : FontValue → Rule → Reason → List ℕ
 -- How many numbers a command takes, and how many are on the stack; then a token that comes to a full stack.
@@ -81,27 +108,7 @@ reason_text font rule (Since None) = since_none rule
 reason_text font rule (Othersubr number count) =
     codes "OtherSubr " ++ (coordinate_text number ++ (codes " with " ++ (arguments_text count ++ call_words rule number)))
 reason_text font rule (Arguments count there) = codes "the count is " ++ (coordinate_text count ++ (codes ", " ++ (are_text there ++ codes " there")))
--- Of points, of stems and of an accented character.
-reason_text font rule (Pairs moves points ends) =
-    counted_text moves (codes "move") ++ (codes " and " ++ (counted_text points (codes "point") ++ needed_pairs ends (nat_lt points moves)))
-reason_text font rule (Open start pen) =
-    if are_same_points start pen then codes "ends where it began, without closepath"
-    else codes "from " ++ (point_text start ++ (codes " to " ++ point_text pen))
-reason_text font rule (Stems own other) = stems_text rule own other
-reason_text font rule (Stem stem) =
-    if says_width rule then codes "the stem from " ++ (span_text stem ++ (codes " is " ++ (text_in Coordinate (upper stem -ℤ lower stem) ++ codes " wide")))
-    else codes "the stem is at " ++ coordinate_text stem.position
-reason_text font rule (Triple one two three) =
-    codes "widths " ++ (widths_text one two three ++ (codes ", middles " ++ (middles_text one two three
-    ++ (off_words one two three ++ would_do (codes "middle") (middle_that_does one three)))))
-reason_text font rule (Miss named pen) = codes "the pen is at " ++ (point_text pen ++ (codes ", the end names " ++ point_text named))
--- Of the code that the rule means, as far as the font tells it, or of both.
-reason_text font rule (Codes base accent) =
-    if is_meant font rule base && not (is_meant font rule accent) then codes "the base's " ++ code_text rule base
-    else (if is_meant font rule accent && not (is_meant font rule base) then codes "the accent's " ++ code_text rule accent
-    else codes "the base's " ++ (code_text rule base ++ (codes " and the accent's " ++ code_text rule accent)))
-reason_text font rule (Sidebearings told own) = sidebearings_text told own
-reason_text font rule reason = font_reason_text font rule reason
+reason_text font rule reason = outline_reason_text font rule reason
 
 -- Whether a reason has a text.
 abbrev pub says_more : Reason → Bool

@@ -1,7 +1,7 @@
 //! The fields of a reason as data, for forms that other programs read.
 
 ghost use Rattle.std.specs.Prelude.{◌≡◌};
-ghost use Rattle.t1_reason_texts.specs.Fields.{coordinate_field, fields_of, listed, value_field};
+ghost use Rattle.t1_reason_texts.specs.Fields.{coordinate_field, fields_of, font_fields_of, listed, value_field};
 
 use crate::decimals::{Exact, Unit, coordinate, value};
 use Field::{CodeName, Count, GlyphName, Holds};
@@ -74,7 +74,6 @@ pub fn fields_of(reason: Reason) -> Fields
     ensures { listed result ≡ fields_of reason }
 {
     match reason {
-        Reason::Nothing | Reason::Waiver { .. } => Fields::Nothing,
         Reason::Count {
             command,
             taken,
@@ -113,12 +112,9 @@ pub fn fields_of(reason: Reason) -> Fields
         ),
         Reason::Depth { calls } => One(("calls", Count(calls as u64))),
         Reason::Subr { number, found } => Two(("number", at(number)), ("found", Holds(found))),
-        Reason::Token { token } | Reason::LastToken { token: Some(token) } => One((
-            "token",
-            Field::Token(token),
-        )),
+        Reason::Token { token } => One(("token", Field::Token(token))),
         Reason::Since { step: Some(step) } => One(("step", Count(step as u64))),
-        Reason::Since { step: None } | Reason::LastToken { token: None } => Fields::Nothing,
+        Reason::Since { step: None } => Fields::Nothing,
         Reason::Open { start, pen } => Two(
             ("start", Field::Point(start)),
             ("pen", Field::Point(pen)),
@@ -151,6 +147,16 @@ pub fn fields_of(reason: Reason) -> Fields
             ("told", at(i64::from(told))),
             ("own", at(i64::from(own))),
         ),
+        _ => font_fields_of(reason),
+    }
+}
+
+/// Those of a reason that speaks of the font and its entries, of a charstring as a whole, or of a waiver.
+#[tactic(auto, unfolding(crate::specs::Fields::font_fields_of))]
+fn font_fields_of(reason: Reason) -> Fields
+    ensures { listed result ≡ font_fields_of reason }
+{
+    match reason {
         Reason::Limit { steps } => One(("steps", Count(steps as u64))),
         Reason::Entry { found } => One(("found", Field::Found(found))),
         Reason::Ids { clear, private } => Two(("clear", of(clear)), ("private", of(private))),
@@ -181,6 +187,8 @@ pub fn fields_of(reason: Reason) -> Fields
         Reason::Numbers { count } => One(("count", Count(count as u64))),
         Reason::Glyph { glyph } => One(("name", GlyphName(glyph))),
         Reason::Code { code } => Two(("code", Count(code as u64)), ("name", CodeName(code))),
+        Reason::LastToken { token: Some(token) } => One(("token", Field::Token(token))),
+        Reason::LastToken { token: None } => Fields::Nothing,
         Reason::Corners { first, last } => Two(("first", of(first)), ("last", of(last))),
         Reason::Number { number } => One(("number", of(number))),
         Reason::Following { before, number } => Two(("before", of(before)), ("number", of(number))),
@@ -212,5 +220,28 @@ pub fn fields_of(reason: Reason) -> Fields
             ("scale", of(scale)),
         ),
         Reason::Width { width, nearest } => Two(("width", of(width)), ("nearest", of(nearest))),
+        Reason::Nothing
+        | Reason::Waiver { .. }
+        | Reason::Count { .. }
+        | Reason::Full { .. }
+        | Reason::Length { .. }
+        | Reason::Ending { .. }
+        | Reason::Behind { .. }
+        | Reason::Pairs { .. }
+        | Reason::Argument { .. }
+        | Reason::Quotient { .. }
+        | Reason::Depth { .. }
+        | Reason::Subr { .. }
+        | Reason::Token { .. }
+        | Reason::Since { .. }
+        | Reason::Open { .. }
+        | Reason::Stems { .. }
+        | Reason::Stem { .. }
+        | Reason::Triple { .. }
+        | Reason::Miss { .. }
+        | Reason::Othersubr { .. }
+        | Reason::Arguments { .. }
+        | Reason::Codes { .. }
+        | Reason::Sidebearings { .. } => Fields::Nothing,
     }
 }

@@ -1,7 +1,7 @@
 //! The text of a reason.
 
 ghost use Rattle.std.specs.Prelude.{◌≡◌, Some, IfOk, option_map};
-ghost use Rattle.t1_reason_texts.specs.Texts.{font_reason_text, reason_text, says_more, shown_text};
+ghost use Rattle.t1_reason_texts.specs.Texts.{font_reason_text, numbers_reason_text, outline_reason_text, reason_text, says_more, shown_text};
 
 use crate::decimals::{Coordinates, coordinate, value};
 use crate::font_texts::{EntryText, FoundText, SubrEntryText, encoded_name, has_two};
@@ -155,6 +155,25 @@ impl fmt::Display for ReasonText<'_, '_> {
                 let are = Are(there);
                 write!(f, "the count is {count}, {are} there")
             }
+            _ => {
+                let text = OutlineReasonText(*self);
+                write!(f, "{text}")
+            }
+        }
+    }
+}
+
+/// The text of a reason that speaks of points, of stems or of an accented character, or of a later one.
+#[derive(Clone, Copy)]
+struct OutlineReasonText<'a, 'b>(ReasonText<'a, 'b>);
+
+impl fmt::Display for OutlineReasonText<'_, '_> {
+    ghost output = { λ t. Some (outline_reason_text t.0.font.now t.0.rule t.0.reason) };
+
+    #[tactic(auto, unfolding(crate::specs::Texts::outline_reason_text))]
+    fn fmt<W: fmt::Write>(&self, f: &mut fmt::Formatter<W>) -> fmt::Result {
+        let ReasonText { font, rule, reason } = self.0;
+        match reason {
             Reason::Pairs {
                 moves,
                 points,
@@ -201,8 +220,8 @@ impl fmt::Display for ReasonText<'_, '_> {
                 write!(f, "the pen is at {pen}, the end names {named}")
             }
             Reason::Codes { base, accent } => {
-                let is_base = is_meant(self.font, rule, base);
-                let is_accent = is_meant(self.font, rule, accent);
+                let is_base = is_meant(font, rule, base);
+                let is_accent = is_meant(font, rule, accent);
                 let base = CodeText(rule, base);
                 let accent = CodeText(rule, accent);
                 if is_base && !is_accent {
@@ -218,14 +237,14 @@ impl fmt::Display for ReasonText<'_, '_> {
                 write!(f, "{text}")
             }
             _ => {
-                let text = FontReasonText(*self);
+                let text = FontReasonText(self.0);
                 write!(f, "{text}")
             }
         }
     }
 }
 
-/// The text of a reason that speaks of the font and the numbers of its entries, of a charstring as a whole, or of a waiver.
+/// The text of a reason that speaks of the font and its entries, of a charstring as a whole, or of a waiver, or of a later one.
 #[derive(Clone, Copy)]
 struct FontReasonText<'a, 'b>(ReasonText<'a, 'b>);
 
@@ -316,6 +335,25 @@ impl fmt::Display for FontReasonText<'_, '_> {
                 Unused::NoGlyph => write!(f, "no glyph has this name"),
                 Unused::Unbroken { .. } => write!(f, "no step of the glyph breaks this rule"),
             },
+            _ => {
+                let text = NumbersReasonText(self.0);
+                write!(f, "{text}")
+            }
+        }
+    }
+}
+
+/// The text of a reason that speaks of the numbers of an entry.
+#[derive(Clone, Copy)]
+struct NumbersReasonText<'a, 'b>(ReasonText<'a, 'b>);
+
+impl fmt::Display for NumbersReasonText<'_, '_> {
+    ghost output = { λ t. Some (numbers_reason_text t.0.font.now t.0.rule t.0.reason) };
+
+    #[tactic(auto, unfolding(crate::specs::Texts::numbers_reason_text))]
+    fn fmt<W: fmt::Write>(&self, f: &mut fmt::Formatter<W>) -> fmt::Result {
+        let ReasonText { font, rule, reason } = self.0;
+        match reason {
             Reason::TooMany { count, most } => {
                 let numbers = Counted(count, "number");
                 write!(f, "{numbers}, {most} at most")
@@ -403,7 +441,19 @@ impl fmt::Display for FontReasonText<'_, '_> {
             | Reason::Triple { .. }
             | Reason::Miss { .. }
             | Reason::Codes { .. }
-            | Reason::Sidebearings { .. } => Ok(()),
+            | Reason::Sidebearings { .. }
+            | Reason::Limit { .. }
+            | Reason::Entry { .. }
+            | Reason::Ids { .. }
+            | Reason::Features { .. }
+            | Reason::Glyphs { .. }
+            | Reason::Form { .. }
+            | Reason::SubrEntry { .. }
+            | Reason::Kind { .. }
+            | Reason::Glyph { .. }
+            | Reason::Code { .. }
+            | Reason::LastToken { .. }
+            | Reason::Waiver { .. } => Ok(()),
         }
     }
 }

@@ -1,12 +1,13 @@
 //! Reasons at the entries of a font: Type 1 Font Format 1.1, chapters 2 and 5.
 
+use crate::places::entry_reason;
 use std::alloc::Global;
+use std::process::Abort;
 use std::test::Fail;
 use t1_char::Edition;
-use t1_font::Encoding;
+use t1_font::{Encoding, Font};
 use t1_reasons::{
-    EntryKind, Found, Reason, Unused, font_reason, fuzz_across, fuzz_that_does, scale_that_does,
-    unused_reason,
+    EntryKind, Found, Reason, Unused, fuzz_across, fuzz_that_does, scale_that_does, unused_reason,
 };
 use t1_rules::{Edges, Rule};
 use t1_samples::{NOTDEF, Sample, font_of, opened};
@@ -339,9 +340,7 @@ fn reason_of(
     index: u32,
 ) -> Result<Option<Reason>, Fail> {
     let sample = Sample::new(alloc)?.key(lines.as_bytes())?;
-    let mut file = opened(alloc, &sample)?;
-    let font = font_of(alloc, &mut file)?;
-    Ok(font_reason(&font, rule, key, index, Edition::One))
+    entry_reason(alloc, &sample, rule, key, index, Edition::One)
 }
 
 #[test]
@@ -473,21 +472,33 @@ const CLEAR_ENTRIES: &[ClearRow] = &[
     ("", "", Rule::F09, 21, 0, None),
 ];
 
-#[test]
-fn reasons_of_what_the_clear_text_says(rt: HostRuntime) -> Result<(), Fail> {
-    for (clear, lines, rule, key, index, reason) in CLEAR_ENTRIES {
-        let sample = Sample::new(rt.alloc())?
+/// The font of a row.
+fn sample_of(alloc: Global, clear: &str, lines: &str) -> Result<Sample, Fail> {
+    Ok(
+        Sample::new(alloc)?
             .encoding(clear.as_bytes())?
             .key(lines.as_bytes())?
             .subr(5, b"\x0b")?
             .subr(5, b"\x0b")?
             .subr(6, b"\x0b")?
             .glyph(b"B", NOTDEF)?
-            .glyph(b"B", NOTDEF)?;
-        let mut file = opened(rt.alloc(), &sample)?;
-        let font = font_of(rt.alloc(), &mut file)?;
-        let found = font_reason(&font, *rule, *key, *index, Edition::One);
-        assert!(rt; found == *reason, "{clear} {lines}");
+            .glyph(b"B", NOTDEF)?,
+    )
+}
+
+/// A font of a row has its reason.
+fn assert_clear(rt: &impl Abort, alloc: Global, row: &ClearRow) -> Result<(), Fail> {
+    let (clear, lines, rule, key, index, reason) = *row;
+    let sample = sample_of(alloc, clear, lines)?;
+    let found = entry_reason(alloc, &sample, rule, key, index, Edition::One)?;
+    assert!(rt; found == reason, "{clear} {lines}");
+    Ok(())
+}
+
+#[test]
+fn reasons_of_what_the_clear_text_says(rt: HostRuntime) -> Result<(), Fail> {
+    for row in CLEAR_ENTRIES {
+        assert_clear(&rt, rt.alloc(), row)?;
     }
     Ok(())
 }
@@ -528,20 +539,27 @@ const REMEDIES: &[(&str, Option<i64>, Option<i64>, Option<i64>)] = &[
     ),
 ];
 
+/// What would do for the zones of a font.
+fn assert_remedies(
+    rt: &impl Abort,
+    font: &Font<'_>,
+    remedies: (Option<i64>, Option<i64>, Option<i64>),
+) {
+    let (scale, fuzz, across) = remedies;
+    assert_eq!(rt; scale_that_does(font), scale);
+    assert_eq!(rt; fuzz_that_does(font), fuzz);
+    assert_eq!(rt; fuzz_across(font), across);
+    assert_eq!(rt; unused_reason(font, b"A"), Unused::NoGlyph);
+    assert_eq!(rt; unused_reason(font, b".notdef"), Unused::Unbroken { glyph: 0 });
+}
+
 #[test]
 fn what_would_do(rt: HostRuntime) -> Result<(), Fail> {
     for (lines, scale, fuzz, across) in REMEDIES {
         let sample = Sample::new(rt.alloc())?.key(lines.as_bytes())?;
         let mut file = opened(rt.alloc(), &sample)?;
         let font = font_of(rt.alloc(), &mut file)?;
-        assert_eq!(rt; scale_that_does(&font), *scale, "{lines}");
-        assert_eq!(rt; fuzz_that_does(&font), *fuzz, "{lines}");
-        assert_eq!(rt; fuzz_across(&font), *across, "{lines}");
-        assert_eq!(rt; unused_reason(&font, b"A"), Unused::NoGlyph);
-        assert_eq!(rt;
-            unused_reason(&font, b".notdef"),
-            Unused::Unbroken { glyph: 0 }
-        );
+        assert_remedies(&rt, &font, (*scale, *fuzz, *across));
     }
     Ok(())
 }

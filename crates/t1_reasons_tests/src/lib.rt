@@ -9,12 +9,15 @@
 //! | `steps` | reasons at the steps of a glyph, by both editions, in any order |
 //! | `entries` | reasons at the entries of a font |
 //! | `third_edition` | reasons of the rules that the third edition adds |
+//! | `places` | what these share |
 //! | `texts` | the texts of reasons |
 //! | `refusals` | the texts of refusals, and of errors of t1_seal and t1_font, which derive them |
 #![tactic(auto)]
 
 #[cfg(test)]
 mod entries;
+#[cfg(test)]
+mod places;
 #[cfg(test)]
 mod refusals;
 #[cfg(test)]

@@ -1,12 +1,12 @@
 //! Reasons at the steps of a glyph: Type 1 Font Format 1.1, chapters 6 and 8.
 
+use crate::places::step_reason;
 use std::alloc::Global;
 use std::test::Fail;
 use t1_char::{CharToken, Command, Edition};
-use t1_font::Font;
-use t1_reasons::{GlyphReasons, Reason, SetStem};
-use t1_rules::{Point, Rule, Sidebearings, Stem};
-use t1_samples::{Sample, assembled, font_of, opened};
+use t1_reasons::{Reason, SetStem};
+use t1_rules::{Point, Rule, Stem};
+use t1_samples::{Sample, assembled};
 
 /// One, in units of 1/65536.
 const ONE: i64 = 65_536;
@@ -913,30 +913,7 @@ fn sample_of(alloc: Global, glyphs: &str) -> Result<Sample, Fail> {
     Ok(sample)
 }
 
-/// The reason at a step of a font's last glyph.
-fn reason_in(
-    alloc: Global,
-    font: &Font<'_>,
-    edition: Edition,
-    step: u32,
-    rule: Rule,
-) -> Result<Option<Reason>, Fail> {
-    let count = font.glyphs().len();
-    if count == 0 {
-        return Err(Fail::from("a glyph"));
-    }
-    let sidebearings = Sidebearings::prepare(alloc, font, edition)?;
-    let mut reasons = GlyphReasons::start(&*font, count - 1, edition);
-    // Asked for a later step before, and for the same again, it says the same.
-    let _later = reasons.reason(&sidebearings, step.saturating_add(3), rule);
-    let found = reasons.reason(&sidebearings, step, rule);
-    if reasons.reason(&sidebearings, step, rule) != found {
-        return Err(Fail::from("the same reason again"));
-    }
-    Ok(found)
-}
-
-/// The same of these glyphs.
+/// The reason at a step of the last of these glyphs.
 fn reason_of(
     alloc: Global,
     glyphs: &str,
@@ -945,9 +922,7 @@ fn reason_of(
     rule: Rule,
 ) -> Result<Option<Reason>, Fail> {
     let sample = sample_of(alloc, glyphs)?;
-    let mut file = opened(alloc, &sample)?;
-    let font = font_of(alloc, &mut file)?;
-    reason_in(alloc, &font, edition, step, rule)
+    step_reason(alloc, &sample, step, rule, edition)
 }
 
 #[test]

@@ -2,13 +2,14 @@
 //!
 //! Each row is asked for in all three editions: the first two have none of these reasons.
 
+use crate::places::{entry_reason, step_reason};
 use std::alloc::Global;
+use std::process::Abort;
 use std::test::Fail;
 use t1_char::{CharToken, Command, Edition};
-use t1_font::Font;
-use t1_reasons::{Found, GlyphReasons, Reason, SetStem, font_reason};
-use t1_rules::{Rule, Sidebearings, Stem};
-use t1_samples::{Sample, assembled, font_of, opened};
+use t1_reasons::{Found, Reason, SetStem};
+use t1_rules::{Rule, Stem};
+use t1_samples::{Sample, assembled};
 
 /// One, in units of 10^-9.
 const ONE: i64 = 1_000_000_000;
@@ -658,112 +659,76 @@ const STEPS: &[StepRow] = &[
     ),
 ];
 
-/// The reason at an entry of a font with these lines.
-fn entry_reason(
-    alloc: Global,
-    clear: &str,
-    lines: &str,
-    rule: Rule,
-    key: u8,
-    index: u32,
-    edition: Edition,
-) -> Result<Option<Reason>, Fail> {
+/// The editions before the third, and the third.
+const EDITIONS: [Edition; 3] = [Edition::One, Edition::Two, Edition::Three];
+
+/// A reason that the third edition alone has.
+fn from_the_third(edition: Edition, reason: Option<Reason>) -> Option<Reason> {
+    match edition {
+        Edition::One | Edition::Two => None,
+        Edition::Three | Edition::Four => reason,
+    }
+}
+
+/// A font with the Subrs.
+fn with_subrs(mut sample: Sample) -> Result<Sample, Fail> {
+    for (number, bytes) in SUBR_BYTES {
+        sample = sample.subr(number, bytes)?;
+    }
+    Ok(sample)
+}
+
+/// A font with these lines.
+fn sample_of(alloc: Global, clear: &str, lines: &str) -> Result<Sample, Fail> {
     let encoding = format!(in alloc; "/Encoding StandardEncoding def\n{clear}\n")?;
-    let mut sample = Sample::new(alloc)?
-        .encoding(encoding.as_bytes())?
-        .key(lines.as_bytes())?;
-    for (number, bytes) in SUBR_BYTES {
-        sample = sample.subr(number, bytes)?;
-    }
-    let mut file = opened(alloc, &sample)?;
-    let font = font_of(alloc, &mut file)?;
-    Ok(font_reason(&font, rule, key, index, edition))
+    with_subrs(
+        Sample::new(alloc)?
+            .encoding(encoding.as_bytes())?
+            .key(lines.as_bytes())?,
+    )
 }
 
-/// The reason at a step of the glyph T.
-fn step_reason(
-    alloc: Global,
-    words: &str,
-    step: u32,
-    rule: Rule,
-    edition: Edition,
-) -> Result<Option<Reason>, Fail> {
-    let mut sample = Sample::new(alloc)?;
-    for (number, bytes) in SUBR_BYTES {
-        sample = sample.subr(number, bytes)?;
+/// A font with these lines has its reason at an entry in the third edition alone.
+fn assert_entry(rt: &impl Abort, alloc: Global, row: &EntryRow) -> Result<(), Fail> {
+    let (clear, lines, rule, key, index, want) = *row;
+    let sample = sample_of(alloc, clear, lines)?;
+    for edition in EDITIONS {
+        let reason = entry_reason(alloc, &sample, rule, key, index, edition)?;
+        assert!(rt; reason == from_the_third(edition, want), "{clear} {lines}");
     }
-    let sample = sample.glyph(b"T", assembled(alloc, words)?.as_slice())?;
-    let mut file = opened(alloc, &sample)?;
-    let font = font_of(alloc, &mut file)?;
-    last_glyph_reason(alloc, &font, step, rule, edition)
+    Ok(())
 }
 
-/// The same of a font's last glyph.
-fn last_glyph_reason(
-    alloc: Global,
-    font: &Font<'_>,
-    step: u32,
-    rule: Rule,
-    edition: Edition,
-) -> Result<Option<Reason>, Fail> {
-    let count = font.glyphs().len();
-    if count == 0 {
-        return Err(Fail::from("a glyph"));
+/// The glyph T of a row has its reason in the third edition alone.
+fn assert_step(rt: &impl Abort, alloc: Global, row: &StepRow) -> Result<(), Fail> {
+    let (words, step, rule, want) = *row;
+    let sample = with_subrs(Sample::new(alloc)?)?.glyph(b"T", assembled(alloc, words)?.as_slice())?;
+    for edition in EDITIONS {
+        let reason = step_reason(alloc, &sample, step, rule, edition)?;
+        assert!(rt; reason == from_the_third(edition, want), "{words}");
     }
-    let sidebearings = Sidebearings::prepare(alloc, font, edition)?;
-    let mut reasons = GlyphReasons::start(&*font, count - 1, edition);
-    Ok(reasons.reason(&sidebearings, step, rule))
+    Ok(())
 }
 
 #[test]
 fn entries_have_reasons(rt: HostRuntime) -> Result<(), Fail> {
     for (clear, lines, rule, key, found) in FOUND {
-        let reason = entry_reason(rt.alloc(), clear, lines, *rule, *key, 0, Edition::Three)?;
         let want = match found {
             Some(found) => Some(Reason::Entry { found: *found }),
             None => None,
         };
-        assert!(rt; reason == want, "{clear} {lines}");
+        assert_entry(&rt, rt.alloc(), &(*clear, *lines, *rule, *key, 0, want))?;
     }
-    for (clear, lines, rule, key, index, want) in ENTRIES {
-        let reason = entry_reason(
-            rt.alloc(),
-            clear,
-            lines,
-            *rule,
-            *key,
-            *index,
-            Edition::Three,
-        )?;
-        assert!(rt; reason == *want, "{clear} {lines}");
+    for row in ENTRIES {
+        assert_entry(&rt, rt.alloc(), row)?;
     }
     Ok(())
 }
 
 #[test]
 fn steps_have_reasons(rt: HostRuntime) -> Result<(), Fail> {
-    for (words, step, rule, want) in STEPS {
-        let reason = step_reason(rt.alloc(), words, *step, *rule, Edition::Three)?;
-        assert!(rt; reason == *want, "{words}");
-    }
-    Ok(())
-}
-
-#[test]
-fn earlier_editions_have_none(rt: HostRuntime) -> Result<(), Fail> {
-    for edition in [Edition::One, Edition::Two] {
-        for (clear, lines, rule, key, _found) in FOUND {
-            let reason = entry_reason(rt.alloc(), clear, lines, *rule, *key, 0, edition)?;
-            assert!(rt; reason == None, "{clear} {lines}");
-        }
-        for (clear, lines, rule, key, index, _want) in ENTRIES {
-            let reason = entry_reason(rt.alloc(), clear, lines, *rule, *key, *index, edition)?;
-            assert!(rt; reason == None, "{clear} {lines}");
-        }
-        for (words, step, rule, _want) in STEPS {
-            let reason = step_reason(rt.alloc(), words, *step, *rule, edition)?;
-            assert!(rt; reason == None, "{words}");
-        }
+    for row in STEPS {
+        assert_step(&rt, rt.alloc(), row)?;
     }
     Ok(())
 }

@@ -26,15 +26,17 @@ pub(super) fn assert_texts(rt: &impl Abort, alloc: Global, rows: &[Row]) -> Resu
     let file = FontFile::of(CLEAR.as_bytes(), PRIVATE.as_bytes()).pfb(alloc)?;
     let mut opened = OpenFont::open(alloc, file.as_slice())?;
     let font = font_of(alloc, &mut opened)?;
-    for (rule, reason, want) in rows {
-        let text = text_of(alloc, &font, *rule, *reason)?;
-        assert_eq!(rt; text.as_str(), *want);
-        assert!(rt; says_more(*reason) != want.is_empty());
+    for row in rows {
+        assert_text(rt, alloc, &font, row)?;
     }
     Ok(())
 }
 
-fn text_of(alloc: Global, font: &Font<'_>, rule: Rule, reason: Reason) -> Result<String, Fail> {
+fn assert_text(rt: &impl Abort, alloc: Global, font: &Font<'_>, row: &Row) -> Result<(), Fail> {
+    let (rule, reason, want) = *row;
+    assert!(rt; says_more(reason) != want.is_empty());
     let text = ReasonText { font, rule, reason };
-    Ok(format!(in alloc; "{text}")?)
+    let found = format!(in alloc; "{text}")?;
+    assert_eq!(rt; found.as_str(), want);
+    Ok(())
 }
