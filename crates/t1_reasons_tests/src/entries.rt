@@ -550,7 +550,10 @@ fn assert_remedies(
     assert_eq!(rt; fuzz_that_does(font), fuzz);
     assert_eq!(rt; fuzz_across(font), across);
     assert_eq!(rt; unused_reason(font, b"A"), Unused::NoGlyph);
-    assert_eq!(rt; unused_reason(font, b".notdef"), Unused::Unbroken { glyph: 0 });
+    assert_eq!(rt;
+        unused_reason(font, b".notdef"),
+        Unused::Unbroken { glyph: 0 }
+    );
 }
 
 #[test]

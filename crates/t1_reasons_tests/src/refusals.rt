@@ -34,7 +34,10 @@ const OF_BYTES: &[(SealError, RefusalCode, &str)] = &[
 /// The error says what a line says behind its number.
 fn assert_told(rt: &impl Abort, alloc: Global, error: SealError, line: &str) -> Result<(), Fail> {
     let told = format!(in alloc; "{error}")?;
-    assert_eq!(rt; line.split_once(' ').map_or("", |parts| parts.1), told.as_str());
+    assert_eq!(rt;
+        line.split_once(' ').map_or("", |parts| parts.1),
+        told.as_str()
+    );
     Ok(())
 }
 

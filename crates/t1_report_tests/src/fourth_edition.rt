@@ -77,21 +77,37 @@ fn with_changes(alloc: Global, text: &[u8], changes: &[Change]) -> Result<Vec<u8
     Ok(all)
 }
 
-/// A font of a row has its faults, as a PFA and as a PFB file.
+/// A file has the faults of a row by both editions.
+fn assert_file(rt: &impl Abort, alloc: Global, bytes: &[u8], row: &InBoth) -> Result<(), Fail> {
+    let (_changes, third, fourth) = *row;
+    for (edition, faults) in [(Edition::Three, third), (Edition::Four, fourth)] {
+        let asked = Asked::Report(edition);
+        let found = answer_to(alloc, bytes, "", asked);
+        assert_answer(rt, found, faults, asked, fourth, third)?;
+    }
+    Ok(())
+}
+
+/// A font of these texts has the faults of a row, as a PFA and as a PFB file.
+fn assert_texts(
+    rt: &impl Abort,
+    alloc: Global,
+    clear: &[u8],
+    private: &[u8],
+    row: &InBoth,
+) -> Result<(), Fail> {
+    let file = FontFile::of(clear, private);
+    assert_file(rt, alloc, file.pfa(alloc)?.as_slice(), row)?;
+    assert_file(rt, alloc, file.pfb(alloc)?.as_slice(), row)
+}
+
+/// A font of a row has its faults.
 fn assert_row(rt: &impl Abort, alloc: Global, row: &InBoth) -> Result<(), Fail> {
-    let (changes, third, fourth) = *row;
+    let (changes, _third, _fourth) = *row;
     let sound = sound(alloc)?;
     let clear = with_changes(alloc, sound.clear()?.as_slice(), changes)?;
     let private = with_changes(alloc, sound.private()?.as_slice(), changes)?;
-    let file = FontFile::of(clear.as_slice(), private.as_slice());
-    for bytes in [file.pfa(alloc)?, file.pfb(alloc)?] {
-        for (edition, faults) in [(Edition::Three, third), (Edition::Four, fourth)] {
-            let asked = Asked::Report(edition);
-            let found = answer_to(alloc, bytes.as_slice(), "", asked);
-            assert_answer(rt, found, faults, asked, fourth, third)?;
-        }
-    }
-    Ok(())
+    assert_texts(rt, alloc, clear.as_slice(), private.as_slice(), row)
 }
 
 /// What the clear text says, and which entries are given twice.
