@@ -21,7 +21,7 @@ wanted <<'END'
 t1check-all: --only wants codes of rules or their letters, as H02,Z
 t1check-all: 't1check-all --help' says how it is used
 END
-for codes in E03 E H08 '' ','; do
+for codes in E03 E H11 '' ','; do
     try "codes '$codes'" 3 "$all" --only "$codes" .
 done
 

@@ -86,7 +86,7 @@ const CHOICES: &[Case] = &[
         CODES,
     ),
     (&["t1check-all", "--only", "E05", "a.pfb"], CODES),
-    (&["t1check-all", "--only", "H08", "a.pfb"], CODES),
+    (&["t1check-all", "--only", "H11", "a.pfb"], CODES),
     (&["t1check-all", "--only", "H0", "a.pfb"], CODES),
     (
         &["t1check-all", "--except", "e", "a.pfb"],
