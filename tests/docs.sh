@@ -208,6 +208,7 @@ fi
 
 # The places in which each rule is.
 specs=$top/crates/t1_rules/specs
+drawing=$top/crates/t1_drawing
 told=$top/crates/t1_report/specs/Reports.antt
 tests=$top/crates/t1_report_tests/src
 cut -d ' ' -f 1 "$scratch/book" >"$scratch/codes"
@@ -231,14 +232,14 @@ codes_in() {
 
 # The rows of the tables of specs/, each with the comment above it, in one line.
 list_rows() {
-    awk '/^ *(∷ )?(font_row|row|of_step|later_row edition) [A-Z]+[0-9]+ / {
+    awk '/^ *(∷ )?(font_row|row|of_step|of_segments|later_row edition) [A-Z]+[0-9]+ / {
             sub(/^ *(∷ )?/, "")
             sub(/^later_row edition/, "row")
             print above
             print
         }
         !/^ *-- / { above = "" }
-        /^ *-- / { sub(/^ *-- /, above == "" ? "-- " : ""); above = above (above == "" ? "" : " ") $0 }' "$specs/FontRules.antt" "$specs/StepRules.antt"
+        /^ *-- / { sub(/^ *-- /, above == "" ? "-- " : ""); above = above (above == "" ? "" : " ") $0 }' "$specs/FontRules.antt" "$specs/StepRules.antt" "$drawing/specs/DrawingRules.antt"
 }
 
 # What says where a rule is violated: its row, and of L01 and U01 the definition that names it.
@@ -275,7 +276,7 @@ list_row_words() {
             for (i = 1; i <= count; i++) if (parts[i] in cited) print file, parts[i]
         }
         /^[a-z]+ pub [a-z_]+ :/ && $3 in cited { print own, $3 }
-    ' "$specs/FontRules.antt" "$specs/StepRules.antt" "$told"
+    ' "$specs/FontRules.antt" "$specs/StepRules.antt" "$drawing/specs/DrawingRules.antt" "$told"
 }
 
 # The rules of the contents of docs/RULES.md, with those between `C01 to C09`.
@@ -309,7 +310,7 @@ sed -n '/^rules =$/,/\[\]$/p' "$specs/Book.antt" | grep -o '[A-Z]*[0-9][0-9]' >"
 compare_codes 'crates/t1_rules/specs/Book.antt, rules' codes <"$scratch/list"
 list_breaches >"$scratch/breaches"
 cut -d ' ' -f 1 "$scratch/breaches" | sort >"$scratch/list"
-compare_codes 'crates/t1_rules/specs: FontRules.antt, StepRules.antt; crates/t1_report/specs/Reports.antt' sorted <"$scratch/list"
+compare_codes 'crates/t1_rules/specs: FontRules.antt, StepRules.antt; crates/t1_drawing/specs/DrawingRules.antt; crates/t1_report/specs/Reports.antt' sorted <"$scratch/list"
 # Each rule is in the table, its page has its level and the source that is above its row, and its examples are as they say.
 {
     list_rows | sed -n '/^ *-- /{
@@ -344,9 +345,9 @@ done <"$scratch/levels"
     is_to_come "${code%.*}" || try_example "$example" "${code%.*}"
 done
 grep -oh 'Rule::[A-Z]*[0-9][0-9]' "$top"/crates/t1_rules/src/font_rules/*.rt "$top"/crates/t1_rules/src/step_rules/*.rt \
-    "$top/crates/t1_rules/src/sidebearings.rt" "$top/crates/t1_report/src/violations.rt" "$top/crates/t1_report/src/usage.rt" |
+    "$drawing"/src/*.rt "$top/crates/t1_rules/src/sidebearings.rt" "$top/crates/t1_report/src/violations.rt" "$top/crates/t1_report/src/usage.rt" |
     sed 's/^Rule:://' | sort -u >"$scratch/list"
-compare_codes 'the code in crates/t1_rules/src and crates/t1_report/src' sorted <"$scratch/list"
+compare_codes 'the code in crates/t1_rules/src, crates/t1_drawing/src and crates/t1_report/src' sorted <"$scratch/list"
 find "$tests" -name '*.rt' ! -name book.rt ! -name mask.rt ! -name faults.rt -exec cat {} + | codes_in >"$scratch/list"
 compare_codes 'the tests in crates/t1_report_tests/src' sorted <"$scratch/list"
 sed -n 's/^| \([A-Z]*[0-9][0-9]\) | .* | .* | .* | .* |$/\1/p' "$rules" >"$scratch/list"
