@@ -58,10 +58,10 @@ t1check,f:font.pfb
 t1check,tw:two words.PFA
 t1check,--waive,f:
 t1check-all,--u:--update-baseline
-t1check-all,--only,h0:H01,H02,H03,H04,H05,H06,H07
+t1check-all,--only,h0:H01,H02,H03,H04,H05,H06,H07,H08,H09
 t1check-all,--only,=,H02,Z1:H02,Z10,H02,Z11,H02,Z12,H02,Z13,H02,Z14,H02,Z15,H02,Z16,H02,Z17,H02,Z18,H02,Z19
 t1check-all,--except,L:L,L01
-t1explain,H0:H01,H02,H03,H04,H05,H06,H07
+t1explain,H0:H01,H02,H03,H04,H05,H06,H07,H08,H09
 $prefix/bin/t1explain,H02,e0:E01,E02,E03,E04,E05,E06,E07,E08,E09
 t1check-all,--format,s:sarif
 t1check-all,--format,=,:jsonl,sarif,github,junit
@@ -123,6 +123,8 @@ H04	unequal stem3 (should)
 H05	stem below half a unit (should)
 H06	stem beside stem3 (must)
 H07	another stem3 (must)
+H08	stem that nothing touches (should)
+H09	stems share an edge (tidy)
 github	Write lines in a form for other programs
 jsonl	Write lines in a form for other programs
 junit	Write lines in a form for other programs
