@@ -539,16 +539,17 @@ const REMEDIES: &[(&str, Option<i64>, Option<i64>, Option<i64>)] = &[
     ),
 ];
 
-/// What would do for the zones of a font.
+/// What would do for the zones of a font with these lines.
 fn assert_remedies(
     rt: &impl Abort,
     font: &Font<'_>,
+    lines: &str,
     remedies: (Option<i64>, Option<i64>, Option<i64>),
 ) {
     let (scale, fuzz, across) = remedies;
-    assert_eq!(rt; scale_that_does(font), scale);
-    assert_eq!(rt; fuzz_that_does(font), fuzz);
-    assert_eq!(rt; fuzz_across(font), across);
+    assert_eq!(rt; scale_that_does(font), scale, "{lines}");
+    assert_eq!(rt; fuzz_that_does(font), fuzz, "{lines}");
+    assert_eq!(rt; fuzz_across(font), across, "{lines}");
     assert_eq!(rt; unused_reason(font, b"A"), Unused::NoGlyph);
     assert_eq!(rt;
         unused_reason(font, b".notdef"),
@@ -562,7 +563,7 @@ fn what_would_do(rt: HostRuntime) -> Result<(), Fail> {
         let sample = Sample::new(rt.alloc())?.key(lines.as_bytes())?;
         let mut file = opened(rt.alloc(), &sample)?;
         let font = font_of(rt.alloc(), &mut file)?;
-        assert_remedies(&rt, &font, (*scale, *fuzz, *across));
+        assert_remedies(&rt, &font, lines, (*scale, *fuzz, *across));
     }
     Ok(())
 }

@@ -36,7 +36,8 @@ fn assert_told(rt: &impl Abort, alloc: Global, error: SealError, line: &str) -> 
     let told = format!(in alloc; "{error}")?;
     assert_eq!(rt;
         line.split_once(' ').map_or("", |parts| parts.1),
-        told.as_str()
+        told.as_str(),
+        "{line}"
     );
     Ok(())
 }
