@@ -45,7 +45,7 @@ both() {
 }
 
 fonts=0
-for edition in 1 2 3; do
+for edition in 1 2 3 4; do
     : >"$scratch/known"
     for form in '' --reasons '--format jsonl' '--format sarif' '--format github' '--format junit' '--format jsonl --reasons'; do
         # shellcheck disable=SC2086

@@ -121,9 +121,9 @@ done
 
 made=0 taken=0 added=0
 for font in "${chosen[@]}"; do
-    for edition in 1 2 3; do
+    for edition in 1 2 3 4; do
         check_font "$font"
     done
 done
-printf '%d of %d fonts with lines of glyphs, by three editions: %d waivers, %d taken away, %d added\n' \
+printf '%d of %d fonts with lines of glyphs, by four editions: %d waivers, %d taken away, %d added\n' \
     "${#chosen[@]}" "${#faulty[@]}" "$made" "$taken" "$added"

@@ -53,7 +53,7 @@ _t1check() {
         t1check--after | t1check--max | t1check--trace | t1check--waive | t1draw--waive | t1draw--step | t1draw--fault) ;;
         t1check-all--baseline | t1check-all--files-from | t1check-all--exclude | t1draw-o) ;;
         t1check-all--shard | t1check-all--docs | t1check-all--columns) ;;
-        t1check--edition | t1check-all--edition | t1draw--edition) _t1check_take < <(compgen -W '1 2 3' -- "$word") ;;
+        t1check--edition | t1check-all--edition | t1draw--edition) _t1check_take < <(compgen -W '1 2 3 4' -- "$word") ;;
         t1check-all--only | t1check-all--except) _t1check_rules "$1" "$word" ;;
         t1check-all--level | t1check-all--fail-on) _t1check_take < <(compgen -W 'must should tidy' -- "$word") ;;
         t1check-all--format) _t1check_take < <(compgen -W 'jsonl sarif github junit' -- "$word") ;;

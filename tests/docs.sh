@@ -2,7 +2,7 @@
 # Compares the pages of docs/ and the README with the program. Names what differs; the last line counts both.
 #
 # - Of each example below a rule's heading in docs/RULES.md a font is made (tests/make.awk), and t1check-all reports its lines with the reasons
-#   below them; of the mended example it reports nothing. Rules of an edition that it doesn't take yet are left out.
+#   below them; of the mended example it reports nothing.
 # - Each rule and each refusal has its text in its heading, and each rule in the table too; the texts of refusals are those of
 #   t1_font, in code and definition. Each rule's page has its level, and the source that specs/ names. The pages of t1_pages are those of
 #   docs/RULES.md.
@@ -86,25 +86,24 @@ make_font() {
     { [ "${1#K}" = "$1" ] || echo 'B: 7 500 hsbw endchar'; cat "$2"; } | awk -f "$top/tests/eexec.awk" -f "$top/tests/make.awk" >"$scratch/run/font.pfb"
 }
 
-# Whether a rule is of an edition that the programs don't take yet.
-is_to_come() {
-    sed '1,/^W03$/d' "$scratch/codes" | grep -qx -e "$1"
-}
-
 # The lines of the report on that font with their reasons, by the edition that first has the rule.
 report_with_reasons() {
     edition=1
     ! sed '1,/^U01$/d' "$scratch/codes" | grep -qx -e "$1" || edition=3
+    ! sed '1,/^W03$/d' "$scratch/codes" | grep -qx -e "$1" || edition=4
     (cd "$scratch/run" && exec "$top/bin/t1check-all" -q --long --no-settings --reasons --edition "$edition" font.pfb </dev/null) |
         sed 's/^font\.pfb: //'
 }
 
-# What is changed in the mended font: a line of the mended example takes the place of those that begin as it does.
+# What is changed in the mended font: a line of the mended example takes the place of those that begin as it does. Where the faulty font has a line of
+# text, as tests/make.awk says, the mended example has what comes in its place.
 merge() {
     awk '
         function label() {
+            if ($0 !~ /^\/|^dup [0-9]|^[^%\/ ]+: |^Subr [0-9]|^% .* without \//) return "text"
             return $1 ($1 == "Subr" || $1 == "dup" && !/put$/ ? " " $2 : "") (/% in Private$/ ? " of Private" : "")
         }
+        BEGIN { is_mended["text"] = 1 }
         !/^   / { at = label() }
         FILENAME == ARGV[1] { is_mended[at] = 1 }
         FILENAME == ARGV[2] && !(at in is_mended)
@@ -296,7 +295,6 @@ list_contents() {
 list_cases() {
     while read -r code text; do
         case=$cases/$code.case
-        ! is_to_come "$code" || echo "$code"
         [ -f "$cases/fonts/$code.pfb" ] && grep -qx "word: $code.pfb" "$case" &&
             sed -n 's/^out: [0-9][0-9]*: .* \([A-Z][A-Z]*[0-9][0-9] .*\)/\1/p' "$case" | grep -qxF "$code $text" && echo "$code"
     done <"$scratch/book"
@@ -311,6 +309,11 @@ compare_codes 'crates/t1_rules/specs/Book.antt, rules' codes <"$scratch/list"
 list_breaches >"$scratch/breaches"
 cut -d ' ' -f 1 "$scratch/breaches" | sort >"$scratch/list"
 compare_codes 'crates/t1_rules/specs: FontRules.antt, StepRules.antt; crates/t1_drawing/specs/DrawingRules.antt; crates/t1_report/specs/Reports.antt' sorted <"$scratch/list"
+# A rule's page: what is below its heading.
+page_of() {
+    awk -v code="$1" '/^##/ { within = $1 == "###" && $2 == code; next } within' "$rules"
+}
+
 # Each rule is in the table, its page has its level and the source that is above its row, and its examples are as they say.
 {
     list_rows | sed -n '/^ *-- /{
@@ -332,8 +335,10 @@ while read -r code level text; do
         fail "docs/RULES.md: no row of the table says $code $text, $level"
     elif ! grep -qxF "### $code $text" "$rules"; then
         fail "docs/RULES.md: no heading says $code $text"
-    elif ! sed -n "/^### $code /,/^Level/p" "$rules" | grep -q "^Level \*$level\* ($source): "; then
-        fail "docs/RULES.md: the page of $code doesn't begin with its level and its source, $level ($source)"
+    elif ! page_of "$code" | sed -n 2p | grep -q "^Level \*$level\*\( ($source)\)\{0,1\}: "; then
+        fail "docs/RULES.md: the page of $code doesn't begin with its level, $level"
+    elif ! page_of "$code" | grep -q "^Level [^:]* ($source): \|^Source: $source\.$"; then
+        fail "docs/RULES.md: the page of $code doesn't name its source, $source"
     elif [ ! -s "$scratch/examples/$code.1" ]; then
         fail "docs/RULES.md: $code has no example"
     else
@@ -342,7 +347,7 @@ while read -r code level text; do
 done <"$scratch/levels"
 [ -z "$many_built" ] || for example in "$scratch"/examples/*.[1-9]; do
     code=${example##*/}
-    is_to_come "${code%.*}" || try_example "$example" "${code%.*}"
+    try_example "$example" "${code%.*}"
 done
 grep -oh 'Rule::[A-Z]*[0-9][0-9]' "$top"/crates/t1_rules/src/font_rules/*.rt "$top"/crates/t1_rules/src/step_rules/*.rt \
     "$drawing"/src/*.rt "$top/crates/t1_rules/src/sidebearings.rt" "$top/crates/t1_report/src/violations.rt" "$top/crates/t1_report/src/usage.rt" |

@@ -1,6 +1,7 @@
 # Writes a font, a PFA, after eexec.awk: a sound one with the changes of standard input, a line each, as examples of docs/RULES.md have them.
 #
-#   /StdHW [20] def            an entry in the place of that of its name, or one more; `% in Private` may say in which dictionary
+#   /StdHW [20] def            an entry in the place of that of its name, or one more; `% in Private` may say in which dictionary. A second line of
+#                              one name is one entry more
 #   % Private without /KEY     takes an entry away
 #   Subr 5: TOKENS, A: TOKENS  Subr 5, glyph A; blank-B is a glyph whose name has a blank before its slash
 #   /A 9 RD … ND               the font has these glyphs alone; with fewer bytes than lenIV says the charstring has zeros
@@ -9,6 +10,9 @@
 #   10 20 … (thirteen times)   tokens that occur so often, from the line's beginning; a line that begins with three blanks goes on with the tokens
 #   3*0, #0C63                 tokens: three times 0, two bytes
 #   unknown 15                 a token: that byte; `, and the bytes 255 0` are bytes at the end
+#   dup /Privat 8 dict dup begin    how the private text begins
+#   %!FontType1-1.0: T         the first line
+#   20}dict begin, % Ren\351   all else is a line of text, behind the first one; \351 in it is a byte, in octal
 
 # Puts a token's bytes at the end of the charstring `out`.
 function add(token,    i) {
@@ -89,8 +93,16 @@ function set_subr(number, tokens) {
 function set_entry(where, line,    name) {
     name = line
     sub(/ .*/, "", name)
-    if (!((where, name) in place)) place[where, name] = ++entries[where]
+    if (!((where, name) in place) || (where, name) in given) place[where, name] = ++entries[where]
     entry[where, place[where, name]] = line "\n"
+}
+
+# The text with its bytes in octal as bytes.
+function with_bytes(text,    at) {
+    while ((at = match(text, /\\[0-3][0-7][0-7]/)) > 0)
+        text = substr(text, 1, at - 1) sprintf("%c", 64 * substr(text, at + 1, 1) + 8 * substr(text, at + 2, 1) + substr(text, at + 3, 1)) \
+            substr(text, at + 4)
+    return text
 }
 
 # Takes an entry of Private away.
@@ -118,6 +130,9 @@ BEGIN {
     set_entry("clear", "/FontMatrix [0.001 0 0 0.001 0 0] def")
     set_entry("clear", "/FontBBox {0 0 1000 1000} def")
     set_entry("clear", "/Encoding StandardEncoding def")
+    set_entry("private", "/RD {string currentfile exch readstring pop} executeonly def")
+    set_entry("private", "/ND {noaccess def} executeonly def")
+    set_entry("private", "/NP {noaccess put} executeonly def")
     set_entry("private", "/password 5839 def")
     set_entry("private", "/MinFeature {16 16} def")
     set_entry("private", "/BlueValues [] def")
@@ -125,6 +140,8 @@ BEGIN {
     set_glyph(".notdef", sound)
     set_glyph("A", sound)
     size_of_subrs = 6
+    first_line = "%!PS-AdobeFont-1.0: T"
+    beginning = "dup /Private 8 dict dup begin"
 }
 /^   / {
     text = " " spread(substr($0, 4))
@@ -133,6 +150,7 @@ BEGIN {
     next
 }
 /^% .* without \// { remove($NF); next }
+/^%!/ { first_line = $0; next }
 /^blank-/ { sub(/^blank-/, " ") }
 /^Subr [0-9]+: / { label = "Subr " $2 + 0; set_subr($2 + 0, spread(substr($0, length($1 $2) + 3))); next }
 /^ ?[^\/ ]+: / { label = substr($0, 1, index($0, ":") - 1); set_glyph(label, spread(substr($0, index($0, ":") + 2))); next }
@@ -148,18 +166,21 @@ BEGIN {
 /^dup [0-9]+ [0-9]+ RD … NP$/ { set_subr($2, "return"); next }
 /^dup [0-9]+ \/[^ ]+ put$/ { rows = rows $0 "\n"; next }
 /^\// {
-    where = /% in the clear text$/ || (!/% in Private$/ && $1 ~ /^\/(FontType|PaintType|UniqueID|Encoding|FontMatrix|FontBBox|XUID)$/) ? "clear" : "private"
+    where = /% in the clear text$/ || (!/% in Private$/ && $1 ~ /^\/(version|FontType|PaintType|UniqueID|Encoding|FontMatrix|FontBBox|XUID)$/) ? "clear" : "private"
     sub(/ +%.*/, "")
     # One that is later in the line takes the place of the empty one, too.
     if (/ \/BlueValues/) remove("/BlueValues")
     set_entry(where, spread($0))
+    given[where, $1] = 1
+    next
 }
+/^dup \/[^ ]+ [0-9]+ dict dup begin$/ { beginning = $0; next }
+{ lines = lines with_bytes($0) "\n" }
 END {
     if (rows != "") set_entry("clear", "/Encoding 256 array\n" rows "readonly def")
-    printf "%s%s%s", "%!PS-AdobeFont-1.0: T\n", written("clear"), "currentfile eexec\n"
+    printf "%s\n%s%scurrentfile eexec\n", first_line, lines, written("clear")
     begin_section()
-    put_text("dup /Private 8 dict dup begin\n/RD {string currentfile exch readstring pop} executeonly def\n")
-    put_text(written("private"))
+    put_text(beginning "\n" written("private"))
     put_text("/Subrs " size_of_subrs " array\n")
     for (i = 0; i <= most; i++) if (i in subr) put_charstring("dup " i, subr[i], " NP")
     put_text("ND\n2 index /CharStrings " glyphs " dict dup begin\n")

@@ -172,6 +172,7 @@ same t1check --nosuch
 same t1check one two
 same t1check H02.pfb
 same t1check --edition 4 H02.pfb
+same t1check --edition 5 H02.pfb
 same t1check --trace A H02.pfb
 same t1check --max 1 --waive nosuch H02.pfb
 same t1check E03.bin

@@ -69,6 +69,7 @@ wanted <<'END'
 ./share/doc/t1check/README.md
 ./share/doc/t1check/copyright
 ./share/doc/t1check/docs/BROWSER.md
+./share/doc/t1check/docs/DESIGNERS.md
 ./share/doc/t1check/docs/GUIDE.md
 ./share/doc/t1check/docs/RECIPES.md
 ./share/doc/t1check/docs/REFERENCE.md

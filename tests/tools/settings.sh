@@ -133,7 +133,7 @@ wrong ':3: not TOML' 'only = [
 "H"
 edition = 1'
 wrong ': unknown key jobs' 'jobs = 2'
-wrong ': edition wants 1, 2 or 3' 'edition = 4'
+wrong ': edition wants 1, 2, 3 or 4' 'edition = 5'
 wrong ': level wants levels, as ["must", "should"]' 'level = 1'
 wrong ': --only wants codes of rules or their letters, as H02,Z' 'only = ["H02", "E03"]'
 wrong ': --level wants must, should or tidy' 'level = "all"'

@@ -18,8 +18,8 @@ usage 'no font is named'
 usage 'no font is named' -q
 usage 'no font is named' --exclude 'a*'
 usage '-j is gone; --shard I/N splits a list for several processes' -j0 glyphs.pfb
-usage '-j is gone; --shard I/N splits a list for several processes' -q -j 2 --edition 4 glyphs.pfb
-usage '--edition wants 1, 2 or 3' --edition 4 glyphs.pfb
+usage '-j is gone; --shard I/N splits a list for several processes' -q -j 2 --edition 5 glyphs.pfb
+usage '--edition wants 1, 2, 3 or 4' --edition 5 glyphs.pfb
 usage '--shard wants I/N, I from 1 to N' --shard 3/2 glyphs.pfb
 usage '--shard wants I/N, I from 1 to N' --shard 2 glyphs.pfb
 usage '--update-baseline wants --baseline' --update-baseline glyphs.pfb

@@ -10,7 +10,7 @@ import { finish, fontOfTests, fontsOfTests, formWords, run, same, test, top } fr
 
 const [file, folder] = process.argv.slice(2);
 const module = await host.compile(fs.readFileSync(file));
-const EDITIONS = [1, 2, 3];
+const EDITIONS = [1, 2, 3, 4];
 const NONE = new Uint8Array();
 // Of each font so many pictures are compared.
 const PICTURES_A_FONT = 3;

@@ -14,9 +14,9 @@ use t1_run::{Argument, ArgumentKind, UsageError, edition, number, owned, parse, 
 
 const ABOUT: &str = "\
 Lists every rule of the book that an Adobe Type 1 font (PFA or PFB) breaks. The book
-has 70 rules, in edition 3 it has 93: on the file, on the font's dictionaries, on
-charstrings, of which the first 100,000 steps are checked, in editions 2 and 3 the first
-1,000,000, and on waivers.";
+has 70 rules, in edition 3 it has 93, in edition 4 112: on the file, on the font's
+dictionaries, on charstrings, of which the first 100,000 steps are checked, in editions
+2 to 4 the first 1,000,000, on the drawing, and on waivers.";
 
 const AFTER_HELP: &str = "\
 A line of the report:
@@ -63,7 +63,7 @@ const ARGUMENTS: &[Argument<'static>] = &[
         name: "edition",
         kind: ArgumentKind::Edition,
         value: "N",
-        help: "Checks by edition 1, 2 or 3 of the rule book [default: 1]",
+        help: "Checks by edition 1, 2, 3 or 4 of the rule book [default: 1]",
     },
     Argument {
         name: "waive",

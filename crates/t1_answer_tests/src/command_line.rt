@@ -8,9 +8,9 @@ use t1_run::UsageError;
 
 pub(crate) const HELP: &str = "\
 Lists every rule of the book that an Adobe Type 1 font (PFA or PFB) breaks. The book
-has 70 rules, in edition 3 it has 93: on the file, on the font's dictionaries, on
-charstrings, of which the first 100,000 steps are checked, in editions 2 and 3 the first
-1,000,000, and on waivers.
+has 70 rules, in edition 3 it has 93, in edition 4 112: on the file, on the font's
+dictionaries, on charstrings, of which the first 100,000 steps are checked, in editions
+2 to 4 the first 1,000,000, on the drawing, and on waivers.
 
 Usage: t1check [OPTIONS] [FILE]
 
@@ -21,7 +21,7 @@ Options:
       --after <K>     Leaves the first K lines of the report out [default: 0]
       --max <M>       Writes at most M of the other lines
       --trace <NAME>  Writes the steps of the glyph NAME in place of the report, STEP PATH TOKEN a line
-      --edition <N>   Checks by edition 1, 2 or 3 of the rule book [default: 1]
+      --edition <N>   Checks by edition 1, 2, 3 or 4 of the rule book [default: 1]
       --waive <FILE>  Leaves the faults out that FILE waives by its lines, NAME RULE each
   -h, --help          Print help
 

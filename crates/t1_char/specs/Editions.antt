@@ -29,8 +29,7 @@ abbrev pub has_latest_rules : Edition → Bool
 has_latest_rules Four = true
 has_latest_rules _ = false
 
--- The number of an edition, the same as it is written, and the edition of a number, if it can be asked for. The fourth
--- can't be yet: its rules on what is drawn are to come.
+-- The number of an edition, the same as it is written, and the edition of a number, if there is one.
 abbrev pub number_of_edition : Edition → ℕ
 number_of_edition One = 1
 number_of_edition Two = 2
@@ -44,4 +43,4 @@ digit_of Three = codes "3"
 digit_of Four = codes "4"
 
 abbrev pub edition_numbered : ℕ → Option Edition
-edition_numbered n = if n == 1 then Some One else (if n == 2 then Some Two else (if n == 3 then Some Three else None))
+edition_numbered n = if n == 1 then Some One else (if n == 2 then Some Two else (if n == 3 then Some Three else (if n == 4 then Some Four else None)))

@@ -16,8 +16,7 @@ pub enum Edition {
 }
 
 impl Edition {
-    /// The edition of a number, if it can be asked for: the first has the number 1. The fourth can't be yet, since
-    /// its rules on what is drawn are to come.
+    /// The edition of a number, if there is one: the first has the number 1.
     pub fn numbered(number: u64) -> Option<Edition>
         ensures { result ≡ edition_numbered number }
     {
@@ -25,6 +24,7 @@ impl Edition {
             1 => Some(Edition::One),
             2 => Some(Edition::Two),
             3 => Some(Edition::Three),
+            4 => Some(Edition::Four),
             _ => None,
         }
     }

@@ -7,7 +7,7 @@ use Rattle.t1_rules.specs.Watches.{IsWithin, reach}
 use Rattle.t1_drawing.specs.Areas.{widest}
 use Rattle.t1_drawing.specs.Bounds.{most_ways}
 use Rattle.t1_drawing.specs.Points.{cross}
-use Rattle.t1_drawing.specs.Private.Areas.{IsClose, most_cross}
+use Rattle.t1_drawing.specs.Private.Areas.{IsClose, IsWide, most_cross, most_wide_cross}
 
 magnitude : (n : ℕ) (z : ℤ) → IsWithin n z → unsigned_abs z ≤ n
 magnitude n (pos k) within = omega (arith, ints, within.high)
@@ -30,7 +30,7 @@ pub product_of_ways : (a b : ℤ) → IsWithin (2 * most_ways * reach) a → IsW
 product_of_ways a b first second =
     wider ((2 * most_ways * reach) * (2 * most_ways * reach)) (2 ^ 120) (a *ℤ b) (omega arith) (product_within _ _ a b first second)
 
-twice_within : (n : ℕ) (a b : ℤ) → IsWithin n a → IsWithin n b → IsWithin (2 * n) (a -ℤ b)
+pub twice_within : (n : ℕ) (a b : ℤ) → IsWithin n a → IsWithin n b → IsWithin (2 * n) (a -ℤ b)
 twice_within n a b first second = record {
   low = omega (arith, ints, first.low, second.high);
   high = omega (arith, ints, first.high, second.low);
@@ -41,3 +41,9 @@ unfolding cross
 cross_within p q first second =
     twice_within (widest * widest) (p.x *ℤ q.y) (p.y *ℤ q.x)
     (product_within widest widest p.x q.y first.x second.y) (product_within widest widest p.y q.x first.y second.x)
+
+pub wide_cross_within : (p q : Point) → IsWide 4 p → IsWide 4 q → IsWithin most_wide_cross (cross p q)
+unfolding cross
+wide_cross_within p q first second =
+    twice_within ((4 * widest) * (4 * widest)) (p.x *ℤ q.y) (p.y *ℤ q.x)
+    (product_within (4 * widest) (4 * widest) p.x q.y first.x second.y) (product_within (4 * widest) (4 * widest) p.y q.x first.y second.x)

@@ -1,5 +1,5 @@
 -- What is known after a further segment, by what was known before it.
-use Rattle.std.proofs.Common.{◌≡◌, ◌<◌, ◌+◌, ℕ, ℤ, ◌+ℤ◌, ◌&&◌, ◌||◌, Bool, true, Option, Some, List, [], ◌∷◌, ◌++◌, length, take, get_or, refl, sym, subst, ap, ◌∙◌, append_assoc, arith}
+use Rattle.std.proofs.Common.{◌≡◌, ◌<◌, ◌+◌, suc, ℕ, ℤ, ◌+ℤ◌, ◌&&◌, ◌||◌, Bool, true, Option, Some, List, [], ◌∷◌, ◌++◌, length, take, get_or, refl, sym, subst, ap, ◌∙◌, append_assoc, arith}
 use Rattle.std.proofs.Math.Bool.{and-true, or-false, or_assoc}
 use Rattle.std.proofs.lemmas.Int.{ints}
 use Rattle.std.proofs.lemmas.List.{append-nil, length-append, length-take-le, reverse-append}
@@ -17,11 +17,11 @@ use Rattle.t1_drawing.specs.declared.font_box.FontBox.{FontBox}
 use Rattle.t1_drawing.specs.Areas.{area_from, area_of, curve_area, is_drawn_close, line_area}
 use Rattle.t1_drawing.specs.Bounds.{CanBeDrawn, IsDrawnNear}
 use Rattle.t1_drawing.specs.Curves.{is_flat, lacks_extreme}
-use Rattle.t1_drawing.specs.Drawings.{faults_in}
+use Rattle.t1_drawing.specs.Drawings.{faults_at, faults_in, traced, traced_at}
 use Rattle.t1_drawing.specs.FontBoxes.{is_first_outside}
 use Rattle.t1_drawing.specs.Lines.{goes_straight_on, has_no_length, turns_back}
 use Rattle.t1_drawing.specs.Private.Areas.{IsClose, IsDrawnClose, area_after, most_area}
-use Rattle.t1_drawing.specs.Private.Joined.{faults_at, joined}
+use Rattle.t1_drawing.specs.Private.Joined.{joined}
 use Rattle.t1_drawing.specs.Private.Standing.{AreaStandsFor, SomeAreaStandsFor}
 use Rattle.t1_drawing.specs.Segments.{line_start_before, line_start_in, start_after, Test, one_in}
 use Rattle.t1_drawing.proofs.Bounding.{cross_within}
@@ -56,7 +56,7 @@ line_within p q first second = let few = cross_within p q first second in record
   high = omega (arith, ints, few.high);
 }
 
-curve_within : (p a b q : Point) → IsClose p → IsClose a → IsClose b → IsClose q → IsWithin most_area (curve_area p a b q)
+pub curve_within : (p a b q : Point) → IsClose p → IsClose a → IsClose b → IsClose q → IsWithin most_area (curve_area p a b q)
 unfolding curve_area
 curve_within p a b q start one two end =
     let c1 = cross_within p a start one in
@@ -154,3 +154,16 @@ faults_of_one box before s = rw (
   or-false (is_flat before s),
   or-false (lacks_extreme before s),
 ) refl
+
+-- Each of them with what is before it.
+pub traced_more : (box : Option FontBox) (before here : List Segment) (s : Segment)
+    → traced box before (here ++ s ∷ []) ≡ traced box before here ++ traced_at box (before ++ here) s ∷ []
+traced_more box before [] s = ap (λ ss. traced_at box ss s ∷ []) (sym (append-nil before))
+traced_more box before (t ∷ here) s =
+    ap (λ more. traced_at box before t ∷ more)
+    (traced_more box (before ++ t ∷ []) here s
+    ∙ ap (λ ss. traced box (before ++ t ∷ []) here ++ traced_at box ss s ∷ []) (append_assoc before (t ∷ []) here))
+
+pub traced_length : (box : Option FontBox) (before here : List Segment) → length (traced box before here) ≡ length here
+traced_length box before [] = refl
+traced_length box before (s ∷ here) = ap suc (traced_length box (before ++ s ∷ []) here)

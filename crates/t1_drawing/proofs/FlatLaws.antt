@@ -11,10 +11,10 @@ use borrow.Author.Differences.{down, product_is, sum_is_lem, up}
 
 -- ---- products of whole numbers
 
-over_sum : (a b c : ℤ) → a *ℤ (b +ℤ c) ≡ (a *ℤ b) +ℤ (a *ℤ c)
+pub over_sum : (a b c : ℤ) → a *ℤ (b +ℤ c) ≡ (a *ℤ b) +ℤ (a *ℤ c)
 over_sum a b c = omega (arith, ints, ap (λ n. up a * n) (sum_is_lem b c), ap (λ n. down a * n) (sum_is_lem b c))
 
-over_difference : (a b c : ℤ) → a *ℤ (b -ℤ c) ≡ (a *ℤ b) -ℤ (a *ℤ c)
+pub over_difference : (a b c : ℤ) → a *ℤ (b -ℤ c) ≡ (a *ℤ b) -ℤ (a *ℤ c)
 over_difference a b c =
     let whole : ((b -ℤ c) +ℤ c) ≡ b = omega (arith, ints) in
     omega (arith, ints, over_sum a (b -ℤ c) c, ap (λ z. a *ℤ z) whole)

@@ -1,5 +1,6 @@
 pub mod AreaLaws
 pub mod Bounding
+pub mod CurveAreas
 pub mod CurveLaws
 pub mod Drawing
 pub mod FlatLaws

@@ -1,9 +1,9 @@
 -- What one step more changes for the stems of a glyph and what is drawn beside them.
-use Rattle.std.proofs.Common.{◌≡◌, ℤ, ◌||◌, not, nat_le, if◌then◌else◌, Bool, true, false, Option, None, List, [], ◌∷◌, ◌++◌, length, map, refl, sym, ap, ◌∙◌, append_assoc, append-nil, arith}
+use Rattle.std.proofs.Common.{◌≡◌, ◌+◌, ℕ, ℤ, Some, option_map, ◌||◌, not, nat_le, if◌then◌else◌, Bool, true, false, Option, None, List, [], ◌∷◌, ◌++◌, length, map, refl, sym, ap, ◌∙◌, append_assoc, append-nil, arith}
 use Rattle.std.proofs.Math.Bool.{or-false, or_assoc}
 use Rattle.std.proofs.lemmas.List.{length-map, map-append}
 use Rattle.std.proofs.lemmas.List.Folds.{list_any-append}
-use Rattle.std.specs.List.{list_any}
+use Rattle.std.specs.List.{count_by, find, fold, list_any}
 use Rattle.t1_char.specs.Steps.{StepView}
 use Rattle.t1_char.proofs.LookingBack.{last_goes_on}
 use Rattle.t1_drawing.specs.declared.direction.Direction.{Direction}
@@ -11,8 +11,8 @@ use Rattle.t1_drawing.specs.declared.direction.Direction.TheVariants.{Across, Up
 use Rattle.t1_drawing.specs.declared.touching.Extent.{Extent}
 use Rattle.t1_drawing.specs.declared.touching.WatchedStem.{WatchedStem}
 use Rattle.t1_drawing.specs.Strokes.{Stroke, end_of_steps, segments_of, strokes_after, strokes_at, strokes_from}
-use Rattle.t1_drawing.specs.Touching.{SetStem, coordinate, extent_by, has_edges_of, is_stroke, is_touched, set_after, set_at, set_from, setting_width, sidebearing_point, stems_of_glyph, stems_set, touches, touches_one, with_stem, with_stems}
-use Rattle.t1_drawing.specs.Private.Watching.{Drawing, all_touched, draw_on, draws_on, has_edges, point_on, touched_by, watched, with_stem_from, with_stems_from}
+use Rattle.t1_drawing.specs.Touching.{SetStem, coordinate, extent_by, has_edges_of, is_stroke, is_touched, is_untouched, set_after, set_at, set_from, setting_width, sidebearing_point, stems_of_glyph, stems_set, touches, touches_one, untouched_of, with_stem, with_stems}
+use Rattle.t1_drawing.specs.Private.Watching.{Drawing, all_touched, draw_on, draws_on, has_edges, is_left, left_as, point_on, touched_by, watched, with_stem_from, with_stems_from}
 use Rattle.t1_drawing.proofs.NearLaws.{steps_add_what_they_draw}
 use Rattle.t1_outline.specs.declared.segment.Segment.{Segment}
 use Rattle.t1_outline.specs.Laws.Points.{end_of, last_end}
@@ -205,3 +205,26 @@ pub untouched_watched : (direction : Direction) (stems : List SetStem)
     → list_any (λ stem. not stem.touched) (map (watched direction) stems) ≡ list_any (λ stem. not (is_touched direction stem)) stems
 untouched_watched direction stems =
     any_mapped (λ stem. not stem.touched) (λ stem. not (is_touched direction stem)) (watched direction) stems (λ x. refl)
+
+counted_from : (direction : Direction) (k : ℕ) (stems : List SetStem)
+    → fold (λ n stem. n + (if is_left stem then 1 else 0)) k (map (watched direction) stems)
+    ≡ fold (λ n stem. n + (if is_untouched direction stem then 1 else 0)) k stems
+counted_from direction k [] = refl
+counted_from direction k (stem ∷ stems) = counted_from direction (k + (if is_untouched direction stem then 1 else 0)) stems
+
+pub counted_watched : (direction : Direction) (stems : List SetStem)
+    → count_by is_left (map (watched direction) stems) ≡ count_by (is_untouched direction) stems
+counted_watched direction stems = counted_from direction 0 stems
+
+pub found_watched : (direction : Direction) (count : ℕ) (stems : List SetStem)
+    → option_map (left_as direction count) (find is_left (map (watched direction) stems))
+    ≡ option_map (untouched_of direction count) (find (is_untouched direction) stems)
+found_watched direction count [] = refl
+found_watched direction count (stem ∷ stems) = either_way (is_untouched direction stem) (found_watched direction count stems)
+  where
+    either_way : (b : Bool) → option_map (left_as direction count) (find is_left (map (watched direction) stems))
+        ≡ option_map (untouched_of direction count) (find (is_untouched direction) stems)
+        → option_map (left_as direction count) (if b then Some (watched direction stem) else find is_left (map (watched direction) stems))
+        ≡ option_map (untouched_of direction count) (if b then Some stem else find (is_untouched direction) stems)
+    either_way true later = refl
+    either_way false later = later

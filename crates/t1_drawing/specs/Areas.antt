@@ -1,5 +1,5 @@
 -- The signed area of a drawing: above 0 where its subpaths run anticlockwise, as outer contours do. Type 1 Font Format 1.1, chapter 3 (direction).
-use Rattle.std.specs.Prelude.{ℕ, ℤ, pos, negsuc, ◌+ℤ◌, ◌*ℤ◌, ◌*◌, ◌-◌, ◌&&◌, int_le, int_lt, Bool, true, List, [], ◌∷◌}
+use Rattle.std.specs.Prelude.{ℕ, ℤ, pos, negsuc, ◌+ℤ◌, ◌*ℤ◌, ◌*◌, ◌-◌, ◌&&◌, int_le, int_lt, if◌then◌else◌, Bool, true, Option, Some, None, List, [], ◌∷◌}
 use Rattle.std.specs.List.{list_all}
 use Rattle.t1_outline.specs.declared.segment.Segment.{Segment}
 use Rattle.t1_outline.specs.declared.segment.Segment.TheVariants.{Move, Line, Curve, Close}
@@ -46,6 +46,10 @@ is_drawn_close (Move p) = is_close p
 is_drawn_close (Line end) = is_close end
 is_drawn_close (Curve one two end) = is_close one && is_close two && is_close end
 is_drawn_close Close = true
+
+-- The area, where it is asked for.
+abbrev pub drawn_area : List Segment → Option ℤ
+drawn_area segments = if list_all is_drawn_close segments then Some (area_of segments) else None
 
 -- P05: the subpaths together run clockwise.
 abbrev pub runs_clockwise : List Segment → Bool

@@ -23,8 +23,11 @@ pub record AreCoordinates (start one two end : ℤ) : Type 0 where
   pub last : IsWithin (most_ways * reach) end
 
 -- A step draws at most three segments.
+abbrev pub most_drawn : ℕ
+most_drawn = 3
+
 abbrev pub most_segments : ℕ
-most_segments = 3 * most_steps
+most_segments = most_drawn * most_steps
 
 -- What steps can draw after other segments.
 pub record CanBeDrawn (before here : List Segment) : Type 0 where

@@ -1,8 +1,9 @@
 -- Stems that nothing touches, H08: hints tell which strokes of a glyph are to be kept even, so an edge of each stem lies where something is
 -- drawn. Type 1 Font Format 1.1, chapter 5. Ten units, and the first 96 stems of a direction, are this project's own.
-use Rattle.std.specs.Prelude.{ℕ, ℤ, ◌+ℤ◌, ◌-ℤ◌, ◌*◌, unsigned_abs, ◌&&◌, ◌||◌, not, int_le, nat_le, if◌then◌else◌, Bool, true, false, Option, Some, None, List, [], ◌∷◌, ◌++◌, length, map}
+use Rattle.std.specs.Prelude.{ℕ, ℤ, ◌+◌, ◌-◌, ◌+ℤ◌, ◌-ℤ◌, ◌*◌, unsigned_abs, ◌&&◌, ◌||◌, not, int_le, nat_le, if◌then◌else◌, Bool, true, false, Option, Some, None, List, [], ◌∷◌, ◌++◌, count_by, find, length, map, option_map}
 use Rattle.std.specs.Int.{int_max, int_min}
 use Rattle.std.specs.List.{list_any}
+use Rattle.std.specs.Option.{option_or}
 use Rattle.std.specs.Ordering.{int_eq}
 use Rattle.t1_char.specs.Numbers.{unit}
 use Rattle.t1_char.specs.Since.{last_of}
@@ -10,6 +11,7 @@ use Rattle.t1_char.specs.Steps.{StepView}
 use Rattle.t1_drawing.specs.declared.direction.Direction.{Direction}
 use Rattle.t1_drawing.specs.declared.direction.Direction.TheVariants.{Across, Upright}
 use Rattle.t1_drawing.specs.declared.touching.Extent.{Extent}
+use Rattle.t1_drawing.specs.declared.touching.UntouchedStem.{UntouchedStem}
 use Rattle.t1_drawing.specs.Strokes.{Stroke, strokes_after}
 use Rattle.t1_outline.specs.declared.segment.Segment.{Segment}
 use Rattle.t1_outline.specs.declared.segment.Segment.TheVariants.{Line, Curve}
@@ -124,6 +126,24 @@ is_touched direction stem = list_any (touches direction stem.low stem.high) stem
 
 abbrev pub has_untouched : Direction → List StepView → Bool
 has_untouched direction steps = list_any (λ stem. not (is_touched direction stem)) (stems_of_glyph direction steps)
+
+-- The stems that nothing touches, in order: those that lie across the glyph first. Then the first of them, and how many more there are.
+abbrev pub is_untouched : Direction → SetStem → Bool
+is_untouched direction stem = not (is_touched direction stem)
+
+abbrev pub first_in : Direction → List StepView → Option SetStem
+first_in direction steps = find (is_untouched direction) (stems_of_glyph direction steps)
+
+abbrev pub count_in : Direction → List StepView → ℕ
+count_in direction steps = count_by (is_untouched direction) (stems_of_glyph direction steps)
+
+abbrev pub untouched_of : Direction → ℕ → SetStem → UntouchedStem
+untouched_of direction count stem = record { direction = direction; low = stem.low; high = stem.high; more = count - 1 }
+
+abbrev pub first_untouched : List StepView → Option UntouchedStem
+first_untouched steps =
+    let count = count_in Across steps + count_in Upright steps in
+    option_or (option_map (untouched_of Across count) (first_in Across steps)) (option_map (untouched_of Upright count) (first_in Upright steps))
 
 -- A line or a curve.
 abbrev pub is_stroke_by : Segment → Bool

@@ -1,15 +1,15 @@
 //! The signed area of a drawing, segment by segment: Type 1 Font Format 1.1, chapter 3.
 
-ghost use Rattle.std.specs.Prelude.{◌≡◌, ◌*◌, ◌<◌, ◌≤◌, ◌+ℤ◌, ◌*ℤ◌, pos, true, List, [], ◌∷◌, ◌++◌, length};
+ghost use Rattle.std.specs.Prelude.{◌≡◌, ◌*◌, ◌<◌, ◌≤◌, ◌+ℤ◌, true, List, [], ◌∷◌, ◌++◌, length};
 ghost use Rattle.t1_outline.specs.declared.segment.Segment.{Segment as Segments};
 ghost use Rattle.t1_rules.specs.Watches.{IsWithin};
-ghost use Rattle.t1_drawing.specs.Areas.{curve_area, is_close, is_close_coordinate, is_drawn_close, line_area, runs_clockwise};
+ghost use Rattle.t1_drawing.specs.Areas.{curve_area, drawn_area, is_close, is_close_coordinate, is_drawn_close, line_area, runs_clockwise, widest};
 ghost use Rattle.t1_drawing.specs.Bounds.{most_segments};
-ghost use Rattle.t1_drawing.specs.Points.{cross};
-ghost use Rattle.t1_drawing.specs.Private.Areas.{AreClose, IsClose, IsDrawnClose, area_after, most_area, most_cross};
+ghost use Rattle.t1_drawing.specs.Points.{cross, way};
+ghost use Rattle.t1_drawing.specs.Private.Areas.{AreClose, IsClose, IsDrawnClose, IsWide, area_after, beyond_chord, most_area, most_cross, most_wide_cross, together};
 ghost use Rattle.t1_drawing.specs.Private.Standing.{AreaStandsFor, SomeAreaStandsFor};
 
-use crate::points::cross;
+use crate::points::{cross, way};
 use t1_char::GREATEST;
 use t1_outline::{ORIGIN, Segment};
 use t1_rules::Point;
@@ -98,6 +98,18 @@ pub(crate) fn see_in(area: &mut Option<Area>, segment: Segment)
     }
 }
 
+/// Twenty times the area of all segments, if all points are close enough to the origin.
+pub(crate) fn drawn_area(area: Option<Area>) -> Option<i128>
+    requires { (before : List Segments) × (SomeAreaStandsFor area before × (length before ≤ most_segments)) }
+    ensures { (before : List Segments) → SomeAreaStandsFor area before → length before ≤ most_segments →
+        result ≡ drawn_area before }
+{
+    match area {
+        Some(area) => Some(area.closed()),
+        None => None,
+    }
+}
+
 /// P05: whether there is an area, and it is below 0.
 pub(crate) fn is_clockwise(area: Option<Area>) -> bool
     requires { (before : List Segments) × (SomeAreaStandsFor area before × (length before ≤ most_segments)) }
@@ -166,30 +178,88 @@ fn line_area(start: Point, end: Point) -> i128
     10 * close_cross(start, end)
 }
 
-/// Twenty times the area between the origin and a curve.
-#[tactic(auto, unfolding(crate::specs::Areas::curve_area))]
+/// Twenty times the area between the origin and a curve: that of its chord, and that between the two, which takes fewer products
+/// than the sum by the points themselves.
 fn curve_area(start: Point, one: Point, two: Point, end: Point) -> i128
     requires { AreClose start one two end }
     ensures value { result ≡ curve_area start one two end }
     ensures within { IsWithin most_area result }
 {
-    outer(start, one, two, end) + inner(start, one, two, end) + close_cross(start, end)
+    sum(beyond_chord_of(start, one, two, end), line_area(start, end))
 }
 
-/// Of its formula what is taken six times.
-fn outer(start: Point, one: Point, two: Point, end: Point) -> i128
+/// Twenty times the area between a curve and its chord.
+fn beyond_chord_of(start: Point, one: Point, two: Point, end: Point) -> i128
     requires { AreClose start one two end }
-    ensures value { result ≡ pos 6 *ℤ (cross start one +ℤ cross two end) }
-    ensures within { IsWithin (12 * most_cross) result }
+    ensures value { result ≡ beyond_chord (way start one) (way start two) (way start end) }
+    ensures within { IsWithin (6 * most_wide_cross) result }
 {
-    6 * (close_cross(start, one) + close_cross(two, end))
+    beyond_chord(
+        close_way(start, one),
+        close_way(start, two),
+        close_way(start, end),
+    )
 }
 
-/// What is taken three times.
-fn inner(start: Point, one: Point, two: Point, end: Point) -> i128
-    requires { AreClose start one two end }
-    ensures value { result ≡ pos 3 *ℤ ((cross start two +ℤ cross one two) +ℤ cross one end) }
-    ensures within { IsWithin (9 * most_cross) result }
+/// The same by the ways from the curve's start to its other points.
+fn beyond_chord(one: Point, two: Point, end: Point) -> i128
+    requires one { IsWide 2 one }
+    requires two { IsWide 2 two }
+    requires end { IsWide 2 end }
+    ensures value { result ≡ beyond_chord one two end }
+    ensures within { IsWithin (6 * most_wide_cross) result }
 {
-    3 * (close_cross(start, two) + close_cross(one, two) + close_cross(one, end))
+    3 * (cross_of_sum(one, two, end) + cross_of_sum(two, end, end))
+}
+
+/// The way between two points that are close to the origin.
+fn close_way(start: Point, end: Point) -> Point
+    requires start { IsClose start }
+    requires end { IsClose end }
+    ensures value { result ≡ way start end }
+    ensures wide { IsWide 2 result }
+{
+    way(start, end)
+}
+
+/// Two ways, one after the other.
+fn together(one: Point, other: Point) -> Point
+    requires one { IsWide 2 one }
+    requires other { IsWide 2 other }
+    ensures value { result ≡ together one other }
+    ensures wide { IsWide 4 result }
+{
+    Point {
+        x: plus(one.x, other.x),
+        y: plus(one.y, other.y),
+    }
+}
+
+fn plus(one: i64, other: i64) -> i64
+    requires one { IsWithin (2 * widest) one }
+    requires other { IsWithin (2 * widest) other }
+    ensures value { result ≡ one +ℤ other }
+    ensures within { IsWithin (4 * widest) result }
+{
+    one + other
+}
+
+/// The cross product of a way and two others together.
+fn cross_of_sum(way: Point, one: Point, other: Point) -> i128
+    requires way { IsWide 2 way }
+    requires one { IsWide 2 one }
+    requires other { IsWide 2 other }
+    ensures value { result ≡ cross way (together one other) }
+    ensures within { IsWithin most_wide_cross result }
+{
+    wide_cross(way, together(one, other))
+}
+
+fn wide_cross(one: Point, other: Point) -> i128
+    requires one { IsWide 4 one }
+    requires other { IsWide 4 other }
+    ensures value { result ≡ cross one other }
+    ensures within { IsWithin most_wide_cross result }
+{
+    cross(one, other)
 }

@@ -7,7 +7,7 @@ use t1_rules::Point;
 
 /// Which way stems lie.
 #[derive(Clone, Copy, Debug, PartialEq, Eq)]
-pub(crate) enum Direction {
+pub enum Direction {
     /// Across the glyph, as hstem and hstem3 set them.
     Across,
     /// Upright, as vstem and vstem3 set them.

@@ -1,7 +1,8 @@
 //! The steps of a glyph, one after another: what each breaks of the rules on the drawing.
 
-ghost use Rattle.std.specs.Prelude.{◌≡◌, ◌<◌, ◌||◌, ℕ, Option, List, [], ◌∷◌, ◌++◌, length};
+ghost use Rattle.std.specs.Prelude.{◌≡◌, ◌<◌, ◌||◌, true, ℕ, Option, List, [], ◌∷◌, ◌++◌, length};
 ghost use Rattle.t1_char.specs.declared.edition.Edition.{Edition as Editions};
+ghost use Rattle.t1_char.specs.Editions.{has_latest_rules};
 ghost use Rattle.t1_char.specs.Steps.{StepView};
 ghost use Rattle.t1_char.specs.StepValues.{step_view};
 ghost use Rattle.t1_drawing.specs.declared.font_box.FontBox.{FontBox as Boxes};
@@ -9,7 +10,11 @@ ghost use Rattle.t1_drawing.specs.DrawingRules.{breaks_own, drawing_rules, ends_
 ghost use Rattle.t1_drawing.specs.Private.Joined.{are_none, drawing_faults};
 ghost use Rattle.t1_drawing.specs.Private.Plain.{DrawsAlone, SetsAlone, draws_nothing, is_silent};
 ghost use Rattle.t1_drawing.specs.Private.Standing.{BothStandFor, DrawingStandsFor, LatestDrawingStandsFor, SegmentsStandFor, TouchesStandFor};
+ghost use Rattle.t1_drawing.specs.Areas.{drawn_area};
+ghost use Rattle.t1_drawing.specs.Drawings.{traced};
+ghost use Rattle.t1_drawing.specs.Touching.{first_untouched};
 ghost use Rattle.t1_drawing.specs.Strokes.{segments_of};
+ghost use Rattle.t1_outline.specs.Outlines.{drawn};
 ghost use Rattle.t1_rules.specs.Mask.{has};
 ghost use Rattle.t1_rules.specs.Private.Standing.{WatchesStandFor};
 ghost use Rattle.t1_rules.specs.StepRules.{breaks, step_rules};
@@ -18,9 +23,9 @@ ghost use Rattle.t1_rules.specs.Watches.{most_steps};
 use crate::faults::SegmentFaults;
 use crate::font_box::FontBox;
 use crate::moves::MoveWatcher;
-use crate::segments::SegmentWatcher;
+use crate::segments::{SegmentWatcher, TracedSegments};
 use crate::stem_edges::{sets_adjacent, sets_negative_width};
-use crate::touching::TouchWatcher;
+use crate::touching::{TouchWatcher, UntouchedStem};
 use t1_char::{CharToken, Command, Step, is_callothersubr, is_end};
 use t1_outline::{Around, Nib, Segment, spoils_flex};
 use t1_rules::{Mask, Rule, Watch, Watches, closes, is_line, is_move};
@@ -55,6 +60,15 @@ impl DrawingFaults {
             | self.sets_adjacent
             | self.sets_negative_width)
     }
+}
+
+/// What a step breaks, and what it draws.
+#[derive(Drop)]
+pub struct TracedStep {
+    /// The rules that it breaks.
+    pub broken: Mask,
+    /// Its segments, each with what it breaks.
+    pub segments: TracedSegments,
 }
 
 /// Watches for P04 to P11 and H08 to H10, from the first step of a glyph on, beside [`Watches`].
@@ -106,7 +120,7 @@ impl DrawingWatcher {
             ≡ (breaks (step_rules edition) n before (step_view step.now) || breaks (drawing_rules box) n before (step_view step.now)) }
     {
         if watches.is_in_flex() {
-            return self.see_any(watches, step);
+            return self.trace(watches, step).broken;
         }
         if is_silent(step.token) {
             return watches.see(step);
@@ -117,7 +131,7 @@ impl DrawingWatcher {
                 if draws_nothing(step.token) {
                     self.see_setting(watches, step)
                 } else {
-                    self.see_any(watches, step)
+                    self.trace(watches, step).broken
                 }
             }
         }
@@ -184,9 +198,9 @@ impl DrawingWatcher {
         }))
     }
 
-    /// The same of any step.
+    /// The same, with what the step draws.
     #[inline(never)]
-    fn see_any(&mut self, watches: &mut Watches, step: &Step) -> Mask
+    pub fn trace(&mut self, watches: &mut Watches, step: &Step) -> TracedStep
         requires { (edition : Editions) × ((box : Option Boxes) × ((before : List StepView) ×
             (WatchesStandFor edition watches.old before × (DrawingStandsFor box self.old before × (length before < most_steps))))) }
         ensures watches { (edition : Editions) (before : List StepView) →
@@ -197,8 +211,11 @@ impl DrawingWatcher {
             DrawingStandsFor box self.new (before ++ step_view step.now ∷ []) }
         ensures answer { (edition : Editions) (box : Option Boxes) (before : List StepView) →
             WatchesStandFor edition watches.old before → DrawingStandsFor box self.old before → length before < most_steps →
-            (n : ℕ) → has result n
+            (n : ℕ) → has result.broken n
             ≡ (breaks (step_rules edition) n before (step_view step.now) || breaks (drawing_rules box) n before (step_view step.now)) }
+        ensures traced { (edition : Editions) (box : Option Boxes) (before : List StepView) →
+            WatchesStandFor edition watches.old before → DrawingStandsFor box self.old before → length before < most_steps →
+            result.segments.items ≡ traced box (segments_of before) (drawn before (step_view step.now)) }
     {
         let start = watches.point();
         let is_in_flex = watches.is_in_flex();
@@ -214,20 +231,43 @@ impl DrawingWatcher {
             spoils_flex: spoils_flex(broken),
         };
         let drawn = self.nib.draw(step, around);
-        let segments = self.segments.see(drawn.as_slice());
+        let trace = self.segments.see(drawn.as_slice());
         self.touches.see(step, drawn.as_slice());
-        broken.join(rules_in(DrawingFaults {
-            segments,
+        let own = rules_in(DrawingFaults {
+            segments: trace.faults,
             ends_clockwise,
             moves_again,
             ends_untouched,
             sets_adjacent,
             sets_negative_width: sets_negative_width(step),
-        }))
+        });
+        TracedStep {
+            broken: broken.join(own),
+            segments: trace.segments,
+        }
     }
 }
 
 impl DrawingWatcher {
+    /// Twenty times the signed area of what the steps so far draw, in squares of 1/65536: P05 asks for it at the end of a glyph. None where a
+    /// coordinate is farther from 0 than 32000 units.
+    pub fn area(&self) -> Option<i128>
+        requires { (box : Option Boxes) × ((before : List StepView) × DrawingStandsFor box self.now before) }
+        ensures { (box : Option Boxes) (before : List StepView) → DrawingStandsFor box self.now before →
+            result ≡ drawn_area (segments_of before) }
+    {
+        self.segments.area()
+    }
+
+    /// The first stem so far that nothing touches, those that lie across before upright ones, and how many more there are: H08 asks for
+    /// it at the end of a glyph.
+    pub fn untouched(&self) -> Option<UntouchedStem>
+        ensures { (box : Option Boxes) (before : List StepView) → DrawingStandsFor box self.now before →
+            result ≡ first_untouched before }
+    {
+        self.touches.first_untouched()
+    }
+
     /// The same as [`DrawingWatcher::see`] where `draws` says that the edition has rules on the drawing; else shows the step to the other
     /// watchers alone.
     #[inline(always)]
@@ -248,6 +288,34 @@ impl DrawingWatcher {
             self.see(watches, step)
         } else {
             watches.see_as(step.token, step)
+        }
+    }
+
+    /// The same as [`DrawingWatcher::trace`] where `draws` says that the edition has rules on the drawing; else shows the step to the other
+    /// watchers alone, and no segments.
+    pub fn trace_where(&mut self, draws: bool, watches: &mut Watches, step: &Step) -> TracedStep
+        requires { (edition : Editions) × ((box : Option Boxes) × ((before : List StepView) ×
+            (BothStandFor edition box draws watches.old self.old before × (length before < most_steps)))) }
+        ensures watches { (edition : Editions) (before : List StepView) →
+            WatchesStandFor edition watches.old before → length before < most_steps →
+            WatchesStandFor edition watches.new (before ++ step_view step.now ∷ []) }
+        ensures stands { (edition : Editions) (box : Option Boxes) (before : List StepView) →
+            BothStandFor edition box draws watches.old self.old before → length before < most_steps →
+            LatestDrawingStandsFor edition box self.new (before ++ step_view step.now ∷ []) }
+        ensures answer { (edition : Editions) (box : Option Boxes) (before : List StepView) →
+            BothStandFor edition box draws watches.old self.old before → length before < most_steps →
+            (n : ℕ) → has result.broken n ≡ breaks_own edition box n before (step_view step.now) }
+        ensures traced { (edition : Editions) (box : Option Boxes) (before : List StepView) →
+            BothStandFor edition box draws watches.old self.old before → length before < most_steps → has_latest_rules edition ≡ true →
+            result.segments.items ≡ traced box (segments_of before) (drawn before (step_view step.now)) }
+    {
+        if draws {
+            self.trace(watches, step)
+        } else {
+            TracedStep {
+                broken: watches.see(step),
+                segments: TracedSegments::new(),
+            }
         }
     }
 }

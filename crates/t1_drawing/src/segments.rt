@@ -1,21 +1,21 @@
 //! The segments of a glyph, those of one step after another.
 
-ghost use Rattle.std.specs.Prelude.{◌≡◌, Option, List, [], ◌∷◌, ◌++◌};
+ghost use Rattle.std.specs.Prelude.{◌≡◌, ◌<◌, ◌≤◌, Option, List, [], ◌∷◌, ◌++◌, length};
 ghost use Rattle.t1_outline.specs.declared.segment.Segment.{Segment as Segments};
 ghost use Rattle.t1_drawing.specs.declared.font_box.FontBox.{FontBox as Boxes};
-ghost use Rattle.t1_drawing.specs.Areas.{runs_clockwise};
-ghost use Rattle.t1_drawing.specs.Bounds.{CanBeDrawn};
-ghost use Rattle.t1_drawing.specs.Drawings.{faults_in};
-ghost use Rattle.t1_drawing.specs.Private.Joined.{faults_at};
+ghost use Rattle.t1_drawing.specs.Areas.{drawn_area, runs_clockwise};
+ghost use Rattle.t1_drawing.specs.Bounds.{CanBeDrawn, most_drawn};
+ghost use Rattle.t1_drawing.specs.Drawings.{faults_at, faults_in, traced};
 ghost use Rattle.t1_drawing.specs.Private.Standing.{SegmentsStandFor};
 
-use crate::area::{Area, is_clockwise, see_in};
+use crate::area::{Area, drawn_area, is_clockwise, see_in};
 use crate::curves::{is_flat, lacks_extreme};
 use crate::faults::SegmentFaults;
 use crate::font_box::{FontBox, Limits, ends_outside};
 use crate::lines::{goes_straight_on, has_no_length, turns_back};
 use crate::points::{end_of, line_start};
-use t1_outline::Segment;
+use arrayvec::ArrayVec;
+use t1_outline::{MOST_SEGMENTS, Segment};
 use t1_rules::Point;
 
 /// Watches for P04 to P10, as far as segments alone decide.
@@ -32,6 +32,36 @@ pub(crate) struct SegmentWatcher {
     area: Option<Area>,
 }
 
+/// A segment that a step draws, where it and the line right before it begin, and which rules it breaks.
+#[derive(Clone, Copy, Debug, Default, PartialEq, Eq)]
+pub struct TracedSegment {
+    /// Where the line right before it begins, if there is one.
+    pub line_start: Option<Point>,
+    /// Where it begins, if something that isn't closepath is right before it.
+    pub start: Option<Point>,
+    pub segment: Segment,
+    pub faults: SegmentFaults,
+}
+
+/// What a step draws, in order.
+pub type TracedSegments = ArrayVec<TracedSegment, MOST_SEGMENTS>;
+
+/// What a step draws, and what it breaks.
+#[derive(Drop)]
+pub(crate) struct Trace {
+    pub(crate) faults: SegmentFaults,
+    pub(crate) segments: TracedSegments,
+}
+
+/// Keeps a further segment, as far as a step draws so many.
+fn keep(segments: &mut TracedSegments, segment: TracedSegment)
+    ensures { length segments.old.items < most_drawn → segments.new.items ≡ segments.old.items ++ segment ∷ [] }
+{
+    if segments.len() < MOST_SEGMENTS {
+        segments.push(segment);
+    }
+}
+
 impl SegmentWatcher {
     /// Before the first segment. Without a box nothing is outside.
     pub(crate) fn start(font_box: Option<FontBox>) -> SegmentWatcher
@@ -46,22 +76,36 @@ impl SegmentWatcher {
         }
     }
 
-    /// Sees what a step draws, given that it saw what the steps before drew. Returns what the step breaks.
-    pub(crate) fn see(&mut self, here: &[Segment]) -> SegmentFaults
+    /// Sees what a step draws, given that it saw what the steps before drew. Returns what the step breaks, and what each of its segments does;
+    /// of more segments than a step draws the first ones.
+    pub(crate) fn see(&mut self, here: &[Segment]) -> Trace
         requires { (box : Option Boxes) × ((before : List Segments) ×
             (SegmentsStandFor box self.old before × CanBeDrawn before here.now)) }
         ensures faults { (box : Option Boxes) (before : List Segments) →
             SegmentsStandFor box self.old before → CanBeDrawn before here.now →
-            result ≡ faults_in box before here.now }
+            result.faults ≡ faults_in box before here.now }
+        ensures traced { (box : Option Boxes) (before : List Segments) →
+            SegmentsStandFor box self.old before → CanBeDrawn before here.now → length here.now ≤ most_drawn →
+            result.segments.items ≡ traced box before here.now }
         ensures stands { (box : Option Boxes) (before : List Segments) →
             SegmentsStandFor box self.old before → CanBeDrawn before here.now →
             SegmentsStandFor box self.new (before ++ here.now) }
     {
         let mut faults = SegmentFaults::none();
+        let mut segments = ArrayVec::new();
         for segment in here {
-            faults = faults.join(self.see_one(*segment));
+            let (line_start, start) = (self.line_start, self.start);
+            let own = self.see_one(*segment);
+            faults = faults.join(own);
+            let here = TracedSegment {
+                line_start,
+                start,
+                segment: *segment,
+                faults: own,
+            };
+            keep(&mut segments, here);
         }
-        faults
+        Trace { faults, segments }
     }
 
     /// P05: whether the subpaths together run clockwise, at the end of the glyph.
@@ -71,6 +115,15 @@ impl SegmentWatcher {
             SegmentsStandFor box self.now before → result ≡ runs_clockwise before }
     {
         is_clockwise(self.area)
+    }
+
+    /// Twenty times the signed area, if all points are close enough to the origin.
+    pub(crate) fn area(&self) -> Option<i128>
+        requires { (box : Option Boxes) × ((before : List Segments) × SegmentsStandFor box self.now before) }
+        ensures { (box : Option Boxes) (before : List Segments) →
+            SegmentsStandFor box self.now before → result ≡ drawn_area before }
+    {
+        drawn_area(self.area)
     }
 
     /// Sees one segment.

@@ -32,8 +32,8 @@ fn ends_at(one: Stem, other: Stem) -> bool
     one.upper() == other.lower()
 }
 
-/// Whether one of two stems ends where the other begins.
-fn are_adjacent(one: Stem, other: Stem) -> bool
+/// Whether one of two stems ends where the other begins, as H09 asks: both have two edges, so their widths aren't 0, -20 or -21.
+pub fn are_adjacent(one: Stem, other: Stem) -> bool
     ensures { result ≡ are_adjacent one other }
 {
     (has_two_edges(one) & has_two_edges(other)) & (ends_at(one, other) | ends_at(other, one))
@@ -94,7 +94,8 @@ pub(crate) fn sets_adjacent(step: &Step, across: &[Stem], upright: &[Stem]) -> b
         || (stands_upright(step.token) && own_are_adjacent(step, upright))
 }
 
-fn has_negative_width(stem: Stem) -> bool
+/// Whether a stem has a width below 0 that isn't -20 or -21, as H10 asks.
+pub fn has_negative_width(stem: Stem) -> bool
     ensures { result ≡ has_negative_width stem }
 {
     (stem.width < 0) & !stem.has_one_edge()

@@ -97,7 +97,8 @@ fn lines_without_a_start(rt: HostRuntime) {
 fn stems_are_touched_after_they_were_set(rt: HostRuntime) {
     let mut watcher = TouchWatcher::start();
     add(&mut watcher.across, units(100), units(200));
-    watcher.is_done = false;
+    watcher.across_done = false;
+    watcher.upright_done = false;
     // Nothing is drawn yet.
     assert!(rt; !watcher.leaves_untouched());
     watcher.draw_all(&[Segment::Move(at(100, 300)), Segment::Line(at(100, 400))]);
@@ -106,7 +107,8 @@ fn stems_are_touched_after_they_were_set(rt: HostRuntime) {
     assert!(rt; !watcher.leaves_untouched());
     // A stem that is set later isn't touched by what was drawn before, but by the next line from there.
     add(&mut watcher.upright, units(100), units(150));
-    watcher.is_done = false;
+    watcher.across_done = false;
+    watcher.upright_done = false;
     assert!(rt; watcher.leaves_untouched());
     watcher.draw_all(&[Segment::Line(at(300, 195))]);
     assert!(rt; !watcher.leaves_untouched());

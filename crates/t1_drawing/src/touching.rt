@@ -1,13 +1,13 @@
 //! Stems that nothing touches, H08: Type 1 Font Format 1.1, chapter 5.
 
-ghost use Rattle.std.specs.Prelude.{◌≡◌, ◌||◌, ◌+ℤ◌, nat_le, length, Some, List, [], ◌∷◌, ◌++◌, map, not};
+ghost use Rattle.std.specs.Prelude.{◌≡◌, ◌+◌, ◌≤◌, true, count_by, find, option_map, ◌||◌, ◌+ℤ◌, nat_le, length, Some, List, [], ◌∷◌, ◌++◌, map, not};
 ghost use Rattle.std.specs.Int.{int_max, int_min};
 ghost use Rattle.std.specs.List.{list_any};
 ghost use Rattle.t1_char.specs.Steps.{StepView};
 ghost use Rattle.t1_char.specs.StepValues.{step_view};
-ghost use Rattle.t1_drawing.specs.Touching.{coordinate, curve_extent, extent_by, extent_from, high_edge, is_between, is_near, is_stroke_by, leaves_untouched, line_extent, low_edge, stems_set, touches_edge, touches_one, widened};
+ghost use Rattle.t1_drawing.specs.Touching.{coordinate, curve_extent, extent_by, extent_from, first_untouched, high_edge, is_between, is_near, is_stroke_by, leaves_untouched, line_extent, low_edge, stems_set, touches_edge, touches_one, widened};
 ghost use Rattle.t1_drawing.specs.Private.Standing.{TouchesStandFor};
-ghost use Rattle.t1_drawing.specs.Private.Watching.{IsDone, SetsNothing, draw_on, drawing_in, draws_on, has_edges, point_in, point_on, touched_by, with_edges, with_stem_from, with_stems_from};
+ghost use Rattle.t1_drawing.specs.Private.Watching.{IsDone, SetsNothing, all_touched, draw_on, drawing_in, draws_on, has_edges, is_left, left_as, point_in, point_on, touched_by, with_edges, with_stem_from, with_stems_from};
 ghost use Rattle.t1_outline.specs.Outlines.{drawn};
 ghost use Rattle.t1_drawing.specs.declared.direction.Direction.TheVariants.{Across, Upright};
 ghost use Rattle.t1_rules.specs.StepRules.Stems.{most_stems, stems_of};
@@ -43,6 +43,16 @@ pub(crate) struct WatchedStem {
     touched: bool,
 }
 
+/// A stem that nothing touches, by its edges in units of 1/65536.
+#[derive(Clone, Copy, Debug, PartialEq, Eq)]
+pub struct UntouchedStem {
+    pub direction: Direction,
+    pub low: i64,
+    pub high: i64,
+    /// How many more such stems the glyph has.
+    pub more: usize,
+}
+
 /// Stems of one direction.
 pub(crate) type WatchedStems = ArrayVec<WatchedStem, MOST_STEMS>;
 
@@ -63,8 +73,9 @@ pub(crate) struct TouchWatcher {
     end: Option<Point>,
     /// Whether a line or a curve was drawn.
     has_strokes: bool,
-    /// Whether all stems are known to be touched. Only speed depends on it.
-    pub(crate) is_done: bool,
+    /// Whether all stems that lie across are known to be touched, and all upright ones. Only speed depends on it.
+    pub(crate) across_done: bool,
+    pub(crate) upright_done: bool,
 }
 
 fn is_near(one: i64, other: i64) -> bool
@@ -210,6 +221,26 @@ fn touch(stems: &mut WatchedStems, direction: Direction, start: Option<Point>, s
     }
 }
 
+/// The same where stems may be known to be touched, and what is known after it.
+#[inline(always)]
+fn touch_on(
+    stems: &mut WatchedStems,
+    are_done: &mut bool,
+    direction: Direction,
+    start: Option<Point>,
+    segment: Segment,
+)
+    requires { are_done.old ≡ true → all_touched stems.old.items ≡ true }
+    ensures stems { stems.new.items ≡ map (touched_by (extent_by (coordinate direction) start segment)) stems.old.items }
+    ensures done { are_done.new ≡ true → all_touched stems.new.items ≡ true }
+{
+    if *are_done {
+        return;
+    }
+    touch(stems, direction, start, segment);
+    *are_done = !one_is_untouched(stems.as_slice());
+}
+
 fn is_stroke(segment: Segment) -> bool
     ensures { result ≡ is_stroke_by segment }
 {
@@ -331,7 +362,8 @@ impl TouchWatcher {
             sidebearing: Sidebearing { x: 0, y: 0 },
             end: None,
             has_strokes: false,
-            is_done: true,
+            across_done: true,
+            upright_done: true,
         }
     }
 
@@ -344,7 +376,8 @@ impl TouchWatcher {
         self.sidebearing = Sidebearing { x: 0, y: 0 };
         self.end = None;
         self.has_strokes = false;
-        self.is_done = true;
+        self.across_done = true;
+        self.upright_done = true;
     }
 
     /// Sees the next step, and what it draws.
@@ -375,6 +408,21 @@ impl TouchWatcher {
         let across = one_is_untouched(self.across.as_slice());
         let upright = one_is_untouched(self.upright.as_slice());
         self.has_strokes & (across | upright)
+    }
+
+    /// The first stem that isn't touched, those that lie across before upright ones, and how many more there are.
+    pub(crate) fn first_untouched(&self) -> Option<UntouchedStem>
+        ensures { (before : List StepView) → TouchesStandFor self.now before → result ≡ first_untouched before }
+    {
+        let count = together(
+            count_untouched(self.across.as_slice()),
+            count_untouched(self.upright.as_slice()),
+        );
+        first_in(self.across.as_slice(), Direction::Across, count).or(first_in(
+            self.upright.as_slice(),
+            Direction::Upright,
+            count,
+        ))
     }
 
     pub(crate) fn draw_all(&mut self, segments: &[Segment])
@@ -409,13 +457,20 @@ impl TouchWatcher {
         ensures sidebearing { self.new.sidebearing ≡ self.old.sidebearing }
         ensures done { IsDone self.new }
     {
-        if self.is_done {
-            return;
-        }
-        touch(&mut self.across, Direction::Across, self.end, segment);
-        touch(&mut self.upright, Direction::Upright, self.end, segment);
-        self.is_done = !one_is_untouched(self.across.as_slice())
-            && !one_is_untouched(self.upright.as_slice());
+        touch_on(
+            &mut self.across,
+            &mut self.across_done,
+            Direction::Across,
+            self.end,
+            segment,
+        );
+        touch_on(
+            &mut self.upright,
+            &mut self.upright_done,
+            Direction::Upright,
+            self.end,
+            segment,
+        );
     }
 
     fn set(&mut self, step: &Step)
@@ -428,10 +483,10 @@ impl TouchWatcher {
     {
         if lies_across(step.token) {
             add_own(&mut self.across, self.sidebearing.y, step);
-            self.is_done = false;
+            self.across_done = false;
         } else if stands_upright(step.token) {
             add_own(&mut self.upright, self.sidebearing.x, step);
-            self.is_done = false;
+            self.upright_done = false;
         }
     }
 }
@@ -440,4 +495,32 @@ fn one_is_untouched(stems: &[WatchedStem]) -> bool
     ensures { result ≡ list_any (λ stem. not stem.touched) stems.now }
 {
     stems.iter().any(|stem| !stem.touched)
+}
+
+fn count_untouched(stems: &[WatchedStem]) -> usize
+    ensures value { result ≡ count_by is_left stems.now }
+    ensures few { result ≤ length stems.now }
+{
+    stems.iter().filter(|stem| !stem.touched).count()
+}
+
+fn together(across: usize, upright: usize) -> usize
+    requires across { across ≤ most_stems }
+    requires upright { upright ≤ most_stems }
+    ensures { result ≡ across + upright }
+{
+    across + upright
+}
+
+/// The first of so many stems that isn't touched.
+fn first_in(stems: &[WatchedStem], direction: Direction, count: usize) -> Option<UntouchedStem>
+    ensures { result ≡ option_map (left_as direction count) (find is_left stems.now) }
+{
+    let stem = stems.iter().find(|stem| !stem.touched)?;
+    Some(UntouchedStem {
+        direction,
+        low: stem.low,
+        high: stem.high,
+        more: count.saturating_sub(1),
+    })
 }

@@ -12,7 +12,7 @@ use Rattle.t1_options.specs.declared.complaint.Complaint.TheVariants as complain
 
 abbrev pub text_of : Complaint → Text
 text_of complaint.Jobs = codes "-j is gone; --shard I/N splits a list for several processes"
-text_of complaint.Edition = codes "--edition wants 1, 2 or 3"
+text_of complaint.Edition = codes "--edition wants 1, 2, 3 or 4"
 text_of complaint.Columns = codes "--columns wants a number from 1 on"
 text_of complaint.Baseline = codes "--baseline wants a file"
 text_of complaint.Format = codes "--format wants jsonl, sarif, github or junit"

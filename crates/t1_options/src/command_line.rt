@@ -28,7 +28,7 @@ refusal, is written as `NAME: LINE`; what could not be checked is printed on sta
 font NAME has its waivers, lines as `A H02`. A FONT `-` is standard input.
 
   -q                 no summary and no progress
-  --edition N        check by this edition of the rule book, 1, 2 or 3
+  --edition N        check by this edition of the rule book, 1, 2, 3 or 4
   --only CODES       report these rules alone: codes or their letters, as H02,Z
   --except CODES     report all rules but these
   --level LEVELS     report rules of these levels alone: must, should or tidy, as must,should

@@ -10,7 +10,7 @@ use std::alloc::{AllocError, Global};
 pub(crate) enum Complaint {
     /// `-j` is given, which is gone.
     Jobs,
-    /// `--edition` has another value than 1, 2 or 3.
+    /// `--edition` has another value than 1, 2, 3 or 4.
     Edition,
     /// `--columns` has no number from 1 to 99,999.
     Columns,
@@ -56,7 +56,7 @@ pub(crate) fn text_of(complaint: Complaint) -> &'static str
 {
     match complaint {
         Complaint::Jobs => "-j is gone; --shard I/N splits a list for several processes",
-        Complaint::Edition => "--edition wants 1, 2 or 3",
+        Complaint::Edition => "--edition wants 1, 2, 3 or 4",
         Complaint::Columns => "--columns wants a number from 1 on",
         Complaint::Baseline => "--baseline wants a file",
         Complaint::Format => "--format wants jsonl, sarif, github or junit",

@@ -22,7 +22,7 @@ const CASES: &[&[&str]] = &[
     &["t1check-all", "--help"],
     &["t1check-all", "-h", "--color"],
     &["t1check-all", "-qh"],
-    &["t1check-all", "--edition", "4", "--help"],
+    &["t1check-all", "--edition", "5", "--help"],
     &["t1check-all", "--help", "--version"],
 ];
 

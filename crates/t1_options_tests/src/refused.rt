@@ -20,16 +20,16 @@ const VALUES: &[Case] = &[
     (&["t1check-all", "-j0", "a.pfb"], JOBS),
     (&["t1check-all", "-qj", "4", "a.pfb"], JOBS),
     (
-        &["t1check-all", "--edition", "4", "a.pfb"],
-        "--edition wants 1, 2 or 3",
+        &["t1check-all", "--edition", "5", "a.pfb"],
+        "--edition wants 1, 2, 3 or 4",
     ),
     (
         &["t1check-all", "--edition=", "a.pfb"],
-        "--edition wants 1, 2 or 3",
+        "--edition wants 1, 2, 3 or 4",
     ),
     (
         &["t1check-all", "--edition", "2", "--edition=+1", "a.pfb"],
-        "--edition wants 1, 2 or 3",
+        "--edition wants 1, 2, 3 or 4",
     ),
     (
         &["t1check-all", "--baseline=", "a.pfb"],
@@ -172,7 +172,7 @@ const COMBINATIONS: &[Case] = &[
 
 /// Where several things are wrong, the first is reported.
 const FIRST: &[Case] = &[
-    (&["t1check-all", "--edition=4", "-j0"], JOBS),
+    (&["t1check-all", "--edition=5", "-j0"], JOBS),
     (
         &["t1check-all", "--shard=0/0", "--format=x"],
         "--format wants jsonl, sarif, github or junit",

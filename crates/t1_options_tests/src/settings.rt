@@ -156,8 +156,8 @@ const REFUSED: &[Refusal] = &[
     ),
     (
         PLAIN_WORDS,
-        File::Text("edition = 4"),
-        "t1check-all: .t1check.toml: edition wants 1, 2 or 3\n",
+        File::Text("edition = 5"),
+        "t1check-all: .t1check.toml: edition wants 1, 2, 3 or 4\n",
     ),
     (
         PLAIN_WORDS,

@@ -48,4 +48,4 @@ pub use nib::{Around, Nib};
 pub use outline::{DrawnSegment, Outline};
 pub use parts::{ORIGIN, Part, SeacPart, SeacParts};
 pub use pen::{DrawnStep, Pen, spoils_flex};
-pub use segment::{Segment, Segments};
+pub use segment::{MOST_SEGMENTS, Segment, Segments};

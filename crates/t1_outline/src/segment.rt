@@ -20,7 +20,7 @@ pub enum Segment {
 }
 
 /// How many segments one step draws at most: a flex without a subpath begins one and draws two curves.
-pub(crate) const MOST_SEGMENTS: usize = 3;
+pub const MOST_SEGMENTS: usize = 3;
 
 /// What one step draws, in the order in which it is drawn.
 pub type Segments = ArrayVec<Segment, MOST_SEGMENTS>;

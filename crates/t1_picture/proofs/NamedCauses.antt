@@ -5,20 +5,22 @@ use Rattle.std.specs.List.{Contains}
 use Rattle.std.specs.Option.{option_map, option_to_list}
 use Rattle.t1_picture.specs.declared.bands.Direction.{Direction}
 use Rattle.t1_picture.specs.declared.causes.Cause.{Cause}
-use Rattle.t1_picture.specs.declared.causes.Cause.TheVariants.{Accent, Base, Ends, Miss as Missed, Stem as NamedOne, Zone}
+use Rattle.t1_picture.specs.declared.causes.Cause.TheVariants.{Accent, Base, Ends, Miss as Missed, Outside as OutsidePoint, Stem as NamedOne, Untouched as LeftAlone, Zone}
+use Rattle.t1_picture.specs.declared.causes.NamedStem.{NamedStem}
 use Rattle.t1_picture.specs.declared.causes.Role.{Role}
 use Rattle.t1_picture.specs.declared.causes.Role.TheVariants.{Other, Own}
 use Rattle.t1_picture.specs.declared.causes.StemPlace.{StemPlace}
-use Rattle.t1_picture.specs.Causes.{causes_in, causes_of_reason, means_components, named_stem, stem_cause, zone_at}
+use Rattle.t1_picture.specs.Causes.{causes_in, causes_of_reason, means_components, named_stem, stem_cause, untouched_stem, zone_at}
 use Rattle.t1_picture.specs.Marks.{all_causes, causes_of, faults_by, place_of_stems, reason_of, shown_of, zone_of}
-use Rattle.t1_picture.specs.NamedCauses.{IsNamed, IsOfFault, IsShownOf, MarksAreOfFaults, NamesCodes, NamesSidebearings, NamesStem, NamesZone, by_place, by_reason}
+use Rattle.t1_picture.specs.NamedCauses.{IsNamed, IsOfFault, IsShownOf, MarksAreOfFaults, NamesCodes, NamesPoint, NamesSidebearings, NamesStem, NamesUntouched, NamesZone, by_place, by_reason}
 use Rattle.t1_picture.specs.Subjects.{ShownValue, Subject, everything, one_fault, up_to}
 use Rattle.t1_reasons.proofs.NamedStems.{none_in, one_is}
 use Rattle.t1_reasons.specs.declared.reason.Reason.{Reason}
-use Rattle.t1_reasons.specs.declared.reason.Reason.TheVariants.{Codes, Miss, Open, Sidebearings, Stem as OneStem, Stems, Triple, Zones}
+use Rattle.t1_reasons.specs.declared.reason.Reason.TheVariants.{Codes, Miss, Open, Outside, Sidebearings, Stem as OneStem, Stems, Triple, Untouched, Zones}
 use Rattle.t1_report.specs.Faults.{FaultValue}
 use Rattle.t1_rules.specs.declared.font_rules.zones.Edges.{Edges}
 use Rattle.t1_rules.specs.declared.rule.Rule.{Rule}
+use Rattle.t1_rules.specs.declared.step_rules.flex.Point.{Point}
 use Rattle.t1_rules.specs.declared.step_rules.stems.Stem.{Stem}
 
 -- ---- members
@@ -82,6 +84,8 @@ module _ (place : StemPlace) (rule : Rule) where
       go false means some = none_in cause some
   named (Sidebearings told own) cause some = subst (IsNamed place rule (Sidebearings told own)) (one_is Accent cause some) (inr tt)
   named (Zones own other distance) cause some = subst (IsNamed place rule (Zones own other distance)) (one_is (Zone other) cause some) refl
+  named (Outside point box) cause some = subst (IsNamed place rule (Outside point box)) (one_is (OutsidePoint point) cause some) refl
+  named (Untouched stem) cause some = subst (IsNamed place rule (Untouched stem)) (one_is (untouched_stem place.start stem) cause some) refl
   named _ cause some = none_in cause some
 
   stem_marked : (reason : Reason) (role : Role) (stem : Stem) (cause : Cause) → NamesStem reason role stem → Contains (stems role stem) cause
@@ -105,6 +109,14 @@ module _ (place : StemPlace) (rule : Rule) where
   zone_marked (Zones own other distance) zone is = alone (Zone other) (Zone zone) (ap (λ edges. Zone edges) (sym is))
   zone_marked _ zone is = absurd is
 
+  point_marked : (reason : Reason) (point : Point) → NamesPoint reason point → Contains (causes_in place rule reason) (OutsidePoint point)
+  point_marked (Outside own box) point is = alone (OutsidePoint own) (OutsidePoint point) (ap (λ p. OutsidePoint p) (sym is))
+  point_marked _ point is = absurd is
+
+  untouched_marked : (reason : Reason) (named : NamedStem) → NamesUntouched place.start reason named → Contains (causes_in place rule reason) (LeftAlone named)
+  untouched_marked (Untouched stem) named is = alone (untouched_stem place.start stem) (LeftAlone named) (sym is)
+  untouched_marked _ named is = absurd is
+
   base_marked : (reason : Reason) → means_components rule ≡ true → NamesCodes reason → Contains (causes_in place rule reason) Base
   base_marked (Codes base accent) means is = rw means (Contains-append_left (Base ∷ []) (Accent ∷ []) Base (alone Base Base refl))
   base_marked _ means is = absurd is
@@ -124,6 +136,8 @@ module _ (place : StemPlace) (rule : Rule) where
   marked reason (Zone zone) is = zone_marked reason zone is
   marked reason (Missed point pen) is = subst (λ r. Contains (causes_in place rule r) (Missed point pen)) (sym is) (alone (Missed point pen) (Missed point pen) refl)
   marked reason (Ends start pen) is = subst (λ r. Contains (causes_in place rule r) (Ends start pen)) (sym is) (alone (Ends start pen) (Ends start pen) refl)
+  marked reason (OutsidePoint point) is = point_marked reason point is
+  marked reason (LeftAlone stem) is = untouched_marked reason stem is
   marked reason Base is = base_marked reason is.0 is.1
   marked reason Accent (inl is) = accent_marked reason is.0 is.1
   marked reason Accent (inr is) = sidebearing_marked reason is

@@ -7,7 +7,7 @@ use Rattle.t1_picture.specs.declared.bands.Direction.{Direction}
 use Rattle.t1_picture.specs.declared.bands.Direction.TheVariants.{Across, Upright}
 use Rattle.t1_picture.specs.declared.bounds.Bounds.{Bounds}
 use Rattle.t1_picture.specs.declared.causes.Cause.{Cause}
-use Rattle.t1_picture.specs.declared.causes.Cause.TheVariants.{Ends, Miss, Stem, Zone}
+use Rattle.t1_picture.specs.declared.causes.Cause.TheVariants.{Ends, Miss, Outside, Stem, Untouched, Zone}
 use Rattle.t1_picture.specs.declared.causes.NamedStem.{NamedStem}
 use Rattle.t1_picture.specs.declared.causes.Role.{Role}
 use Rattle.t1_picture.specs.declared.causes.Role.TheVariants.{Other, Own}
@@ -31,6 +31,8 @@ near_coordinate z = kept (int_div z (pos 1000000000) *ℤ pos unit)
 -- The drawing reaches as far as what is named. A component is drawn anyway.
 abbrev pub with_cause : Bounds → Cause → Bounds
 with_cause b (Stem stem) = with_band b stem.band
+with_cause b (Untouched stem) = with_band b stem.band
+with_cause b (Outside point) = with_point b point
 with_cause b (Zone edges) = with_y (with_y b (near_coordinate edges.lower)) (near_coordinate edges.upper)
 with_cause b (Miss named pen) = with_point (with_point b named) pen
 with_cause b (Ends start pen) = with_point (with_point b start) pen
@@ -51,6 +53,7 @@ cross_text size =
 -- Stems and zones, as bands.
 abbrev pub cause_band : Frame → Cause → List ℕ
 cause_band frame (Stem stem) = band_text frame stem.band
+cause_band frame (Untouched stem) = band_text frame stem.band
 cause_band frame (Zone edges) = across_text frame (value_of edges.lower) (value_of edges.upper)
 cause_band frame _ = []
 
@@ -71,10 +74,11 @@ unfoldable pub cause_lines_part : Frame → List Cause → List ℕ → List ℕ
 cause_lines_part frame causes components =
     path_start (codes "cause-lines") (codes "red") (length_of frame (pos 2)) ++ (flat_map cause_line causes ++ (components ++ codes "\"/>\n"))
 
--- The point that the end of a flex names, and the two ends of an open path.
+-- The point that the end of a flex names, the two ends of an open path, and a point outside FontBBox.
 abbrev pub cause_points : Cause → List ℕ
 cause_points (Miss named pen) = mark_text (codes "cross") named
 cause_points (Ends start pen) = mark_text (codes "end") start ++ mark_text (codes "end") pen
+cause_points (Outside point) = mark_text (codes "cross") point
 cause_points _ = []
 
 unfoldable pub cause_points_part : Frame → List Cause → List ℕ
@@ -128,6 +132,7 @@ edge_numbers frame stem = lower_number frame stem ++ upper_number frame stem
 
 abbrev pub cause_numbers : Frame → Cause → List ℕ
 cause_numbers frame (Stem stem) = edge_numbers frame stem
+cause_numbers frame (Untouched stem) = edge_numbers frame stem
 cause_numbers frame _ = []
 
 unfoldable pub edges_part : Frame → List Cause → List ℕ

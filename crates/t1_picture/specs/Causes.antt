@@ -1,6 +1,6 @@
 -- What the reasons of faults show in the drawing: the stems, zones and points that they name. Type 1 Font Format 1.1, chapters 5, 6
 -- and 8.
-use Rattle.std.specs.Prelude.{ℕ, zero, suc, ℤ, ◌+◌, ◌*◌, ◌/◌, ◌%◌, if◌then◌else◌, Bool, true, false, Option, None, Some, List, [], ◌∷◌, ◌++◌, slice_get}
+use Rattle.std.specs.Prelude.{ℕ, zero, suc, ℤ, ◌+◌, ◌-ℤ◌, ◌*◌, ◌/◌, ◌%◌, if◌then◌else◌, Bool, true, false, Option, None, Some, List, [], ◌∷◌, ◌++◌, slice_get}
 use Rattle.std.specs.Option.{option_map, option_to_list}
 use Rattle.t1_char.specs.declared.edition.Edition.{Edition}
 use Rattle.t1_char.specs.declared.token.CharToken.{CharToken}
@@ -9,16 +9,20 @@ use Rattle.t1_font.specs.declared.key.Key.{Key}
 use Rattle.t1_font.specs.declared.key.Key.TheVariants.{BlueValues, OtherBlues}
 use Rattle.t1_font.specs.Fonts.{FontValue}
 use Rattle.t1_font.specs.Values.{Value, numbers}
+use Rattle.t1_drawing.specs.declared.direction.Direction.{Direction as Directions}
+use Rattle.t1_drawing.specs.declared.direction.Direction.TheVariants.{Across as AcrossGlyph, Upright as UprightInGlyph}
+use Rattle.t1_drawing.specs.declared.touching.UntouchedStem.{UntouchedStem}
 use Rattle.t1_picture.specs.declared.bands.Direction.{Direction}
 use Rattle.t1_picture.specs.declared.bands.Direction.TheVariants.{Across, Upright}
 use Rattle.t1_picture.specs.declared.causes.Cause.{Cause}
-use Rattle.t1_picture.specs.declared.causes.Cause.TheVariants.{Accent, Base, Ends, Miss as Missed, Stem as NamedOne, Zone}
+use Rattle.t1_picture.specs.declared.causes.Cause.TheVariants.{Accent, Base, Ends, Miss as Missed, Outside as OutsidePoint, Stem as NamedOne, Untouched as LeftAlone, Zone}
 use Rattle.t1_picture.specs.declared.causes.Role.{Role}
 use Rattle.t1_picture.specs.declared.causes.Role.TheVariants.{Other, Own}
 use Rattle.t1_picture.specs.declared.causes.StemPlace.{StemPlace}
+use Rattle.t1_picture.specs.Bounds.{kept}
 use Rattle.t1_picture.specs.Bands.{band_of, lower_edge, upper_edge}
 use Rattle.t1_reasons.specs.declared.reason.Reason.{Reason}
-use Rattle.t1_reasons.specs.declared.reason.Reason.TheVariants.{Codes, Miss, Open, Sidebearings, Stem as OneStem, Stems, Triple, Zones}
+use Rattle.t1_reasons.specs.declared.reason.Reason.TheVariants.{Codes, Miss, Open, Outside, Sidebearings, Stem as OneStem, Stems, Triple, Untouched, Zones}
 use Rattle.t1_rules.specs.declared.rule.Rule.{Rule}
 use Rattle.t1_rules.specs.declared.rule.Rule.TheVariants.{K04, K07}
 use Rattle.t1_rules.specs.declared.step_rules.flex.Point.{Point}
@@ -66,6 +70,24 @@ stem_at place role stem = option_map (named_stem place.edition place.start role 
 abbrev pub stem_cause : StemPlace → Role → Stem → List Cause
 stem_cause place role stem = option_to_list (stem_at place role stem)
 
+-- A stem that nothing touches: its edges are absolute.
+abbrev pub band_direction : Directions → Direction
+band_direction AcrossGlyph = Across
+band_direction UprightInGlyph = Upright
+
+abbrev pub untouched_along : Direction → ℤ → UntouchedStem → Cause
+untouched_along direction start stem =
+    LeftAlone (record {
+      band = record { direction = direction; lower = stem.low; upper = stem.high };
+      lower = kept (stem.low -ℤ start);
+      upper = kept (stem.high -ℤ start);
+      role = Own;
+    })
+
+abbrev pub untouched_stem : Point → UntouchedStem → Cause
+untouched_stem start stem =
+    let direction = band_direction stem.direction in untouched_along direction (start_along direction start) stem
+
 -- ---- zones
 
 -- The zone of two numbers of a list, where both are there.
@@ -103,7 +125,7 @@ component_causes rule = if means_components rule then Base ∷ Accent ∷ [] els
 
 -- ---- all of them
 
--- What a reason names, given where the stems of its step are: H02 to H07, K04, K05, K07, P02, X05 and Z06.
+-- What a reason names, given where the stems of its step are: H02 to H10, K04, K05, K07, P02, P04, X05 and Z06.
 abbrev pub causes_in : StemPlace → Rule → Reason → List Cause
 causes_in place rule (Stems own other) = stem_cause place Own own ++ stem_cause place Other other.stem
 causes_in place rule (OneStem stem) = stem_cause place Own stem
@@ -113,6 +135,8 @@ causes_in place rule (Open start pen) = Ends start pen ∷ []
 causes_in place rule (Codes base accent) = component_causes rule
 causes_in place rule (Sidebearings told own) = Accent ∷ []
 causes_in place rule (Zones own other distance) = Zone other ∷ []
+causes_in place rule (Outside point box) = OutsidePoint point ∷ []
+causes_in place rule (Untouched stem) = untouched_stem place.start stem ∷ []
 causes_in place rule _ = []
 
 abbrev pub causes_of_reason : StemPlace → Rule → Option Reason → List Cause

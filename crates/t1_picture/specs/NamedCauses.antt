@@ -3,19 +3,20 @@ use Rattle.std.specs.Prelude.{◌≡◌, ◌⊎◌, ◌↔◌, ⊤, ◌==◌, tr
 use Rattle.std.specs.List.{Contains}
 use Rattle.t1_picture.specs.declared.bands.Direction.{Direction}
 use Rattle.t1_picture.specs.declared.causes.Cause.{Cause}
-use Rattle.t1_picture.specs.declared.causes.Cause.TheVariants.{Accent, Base, Ends, Miss as Missed, Stem as NamedOne, Zone}
+use Rattle.t1_picture.specs.declared.causes.Cause.TheVariants.{Accent, Base, Ends, Miss as Missed, Outside as OutsidePoint, Stem as NamedOne, Untouched as LeftAlone, Zone}
 use Rattle.t1_picture.specs.declared.causes.NamedStem.{NamedStem}
 use Rattle.t1_picture.specs.declared.causes.Role.{Role}
 use Rattle.t1_picture.specs.declared.causes.Role.TheVariants.{Other, Own}
 use Rattle.t1_picture.specs.declared.causes.StemPlace.{StemPlace}
-use Rattle.t1_picture.specs.Causes.{means_components, named_stem, zone_at}
+use Rattle.t1_picture.specs.Causes.{means_components, named_stem, untouched_stem, zone_at}
 use Rattle.t1_picture.specs.Marks.{faults_of, place_of_stems, reason_of, shown_of}
 use Rattle.t1_picture.specs.Subjects.{ShownValue, Subject, everything, one_fault, up_to}
 use Rattle.t1_reasons.specs.declared.reason.Reason.{Reason}
-use Rattle.t1_reasons.specs.declared.reason.Reason.TheVariants.{Codes, Miss, Open, Sidebearings, Stem as OneStem, Stems, Triple, Zones}
+use Rattle.t1_reasons.specs.declared.reason.Reason.TheVariants.{Codes, Miss, Open, Outside, Sidebearings, Stem as OneStem, Stems, Triple, Untouched, Zones}
 use Rattle.t1_report.specs.Faults.{FaultValue}
 use Rattle.t1_rules.specs.declared.font_rules.zones.Edges.{Edges}
 use Rattle.t1_rules.specs.declared.rule.Rule.{Rule}
+use Rattle.t1_rules.specs.declared.step_rules.flex.Point.{Point}
 use Rattle.t1_rules.specs.declared.step_rules.stems.Stem.{Stem}
 
 -- A reason names a stem, the step's own or the other one.
@@ -30,6 +31,15 @@ NamesStem _ role stem = ⊥
 abbrev pub NamesZone : Reason → Edges → Type 0
 NamesZone (Zones own other distance) zone = zone ≡ other
 NamesZone _ zone = ⊥
+
+-- A point outside FontBBox, and a stem that nothing touches.
+abbrev pub NamesPoint : Reason → Point → Type 0
+NamesPoint (Outside point box) named = named ≡ point
+NamesPoint _ named = ⊥
+
+abbrev pub NamesUntouched : Point → Reason → NamedStem → Type 0
+NamesUntouched start (Untouched stem) named = LeftAlone named ≡ untouched_stem start stem
+NamesUntouched start _ named = ⊥
 
 -- The codes of both components, and the accent's sidebearing.
 abbrev pub NamesCodes : Reason → Type 0
@@ -48,12 +58,14 @@ pub record IsNamedStem (place : StemPlace) (reason : Reason) (named : NamedStem)
   pub lies : place.direction ≡ Some direction
   pub drawn : NamedOne named ≡ named_stem place.edition place.start named.role stem direction
 
--- What is marked is what a reason names: a stem, a zone, two points; a component, where the rule may mean either.
+-- What is marked is what a reason names: a stem, a zone, a point or two; a component, where the rule may mean either.
 abbrev pub IsNamed : StemPlace → Rule → Reason → Cause → Type 0
 IsNamed place rule reason (NamedOne named) = IsNamedStem place reason named
 IsNamed place rule reason (Zone zone) = NamesZone reason zone
 IsNamed place rule reason (Missed named pen) = reason ≡ Miss named pen
 IsNamed place rule reason (Ends start pen) = reason ≡ Open start pen
+IsNamed place rule reason (OutsidePoint point) = NamesPoint reason point
+IsNamed place rule reason (LeftAlone named) = NamesUntouched place.start reason named
 IsNamed place rule reason Base = (means_components rule ≡ true) × NamesCodes reason
 IsNamed place rule reason Accent = ((means_components rule ≡ true) × NamesCodes reason) ⊎ NamesSidebearings reason
 

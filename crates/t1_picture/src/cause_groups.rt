@@ -57,7 +57,7 @@ fn widen_by_cause(bounds: &mut Bounds, cause: Cause)
     ensures { bounds.new ≡ with_cause bounds.old cause }
 {
     match cause {
-        Cause::Stem(stem) => stem.band.widen(bounds),
+        Cause::Stem(stem) | Cause::Untouched(stem) => stem.band.widen(bounds),
         Cause::Zone(edges) => {
             bounds.take_y(near_coordinate(edges.lower));
             bounds.take_y(near_coordinate(edges.upper));
@@ -70,6 +70,7 @@ fn widen_by_cause(bounds: &mut Bounds, cause: Cause)
             bounds.take(start);
             bounds.take(pen);
         }
+        Cause::Outside(point) => bounds.take(point),
         Cause::Base | Cause::Accent => {}
     }
 }
@@ -116,9 +117,10 @@ fn write_cause_band(svg: &mut String, frame: &Frame, cause: Cause) -> Result<(),
     ensures { OnOk result (string_bytes svg.new ≡ string_bytes svg.old ++ cause_band frame.now cause) }
 {
     match cause {
-        Cause::Stem(stem) => stem.band.write(svg, frame),
+        Cause::Stem(stem) | Cause::Untouched(stem) => stem.band.write(svg, frame),
         Cause::Zone(edges) => write_across(svg, frame, value(edges.lower), value(edges.upper)),
-        Cause::Miss { .. } | Cause::Ends { .. } | Cause::Base | Cause::Accent => Ok(()),
+        Cause::Miss { .. } | Cause::Ends { .. } | Cause::Outside(_) | Cause::Base | Cause::Accent =>
+            Ok(()),
     }
 }
 
@@ -154,9 +156,13 @@ fn write_miss(svg: &mut String, cause: Cause) -> Result<(), AllocError>
 {
     match cause {
         Cause::Miss { named, pen } => write_stretch(svg, pen, named),
-        Cause::Stem(_) | Cause::Zone(_) | Cause::Ends { .. } | Cause::Base | Cause::Accent => {
-            Ok(())
-        }
+        Cause::Stem(_)
+        | Cause::Untouched(_)
+        | Cause::Zone(_)
+        | Cause::Ends { .. }
+        | Cause::Outside(_)
+        | Cause::Base
+        | Cause::Accent => Ok(()),
     }
 }
 
@@ -194,7 +200,10 @@ fn write_points_of(svg: &mut String, cause: Cause) -> Result<(), AllocError>
             write_mark(svg, "end", start)?;
             write_mark(svg, "end", pen)
         }
-        Cause::Stem(_) | Cause::Zone(_) | Cause::Base | Cause::Accent => Ok(()),
+        Cause::Outside(point) => write_mark(svg, "cross", point),
+        Cause::Stem(_) | Cause::Untouched(_) | Cause::Zone(_) | Cause::Base | Cause::Accent => {
+            Ok(())
+        }
     }
 }
 
@@ -227,10 +236,13 @@ fn write_numbers_of(svg: &mut String, frame: &Frame, cause: Cause) -> Result<(),
     ensures { OnOk result (string_bytes svg.new ≡ string_bytes svg.old ++ cause_numbers frame.now cause) }
 {
     match cause {
-        Cause::Stem(stem) => write_stem_numbers(svg, frame, stem),
-        Cause::Zone(_) | Cause::Miss { .. } | Cause::Ends { .. } | Cause::Base | Cause::Accent => {
-            Ok(())
-        }
+        Cause::Stem(stem) | Cause::Untouched(stem) => write_stem_numbers(svg, frame, stem),
+        Cause::Zone(_)
+        | Cause::Miss { .. }
+        | Cause::Ends { .. }
+        | Cause::Outside(_)
+        | Cause::Base
+        | Cause::Accent => Ok(()),
     }
 }
 

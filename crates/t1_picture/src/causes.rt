@@ -3,12 +3,13 @@
 ghost use Rattle.std.specs.Prelude.{◌≡◌, ◌<◌, ◌+◌, ◌*◌, ◌++◌, OnOk, slice_get};
 ghost use Rattle.std.specs.Option.{option_to_list};
 ghost use Rattle.t1_font.specs.Entries.{entry_view};
-ghost use Rattle.t1_picture.specs.Causes.{causes_in, causes_of_reason, component_causes, direction_of, means_components, named_stem, start_along, stem_at, zone_at, zone_by, zone_in, zone_key, zone_of_key};
+ghost use Rattle.t1_picture.specs.Causes.{band_direction, causes_in, causes_of_reason, component_causes, direction_of, means_components, named_stem, start_along, stem_at, untouched_stem, zone_at, zone_by, zone_in, zone_key, zone_of_key};
 
 use crate::bands::{Band, Direction, lower_edge, number_at, upper_edge};
 use crate::view::View;
 use std::alloc::AllocError;
 use t1_char::{CharToken, Command, Edition};
+use t1_drawing::UntouchedStem;
 use t1_font::{Entry, Font, Key};
 use t1_reasons::Reason;
 use t1_rules::{Edges, INDEXES, Point, Rule, Stem, key_among};
@@ -35,7 +36,7 @@ pub(crate) struct NamedStem {
 /// What a reason names that can be drawn.
 #[derive(Clone, Copy)]
 pub(crate) enum Cause {
-    /// A stem: H02 to H07.
+    /// A stem: H02 to H07, H09 and H10.
     Stem(NamedStem),
     /// A zone: the one that a fault of the font is at, and Z06's other one.
     Zone(Edges),
@@ -43,6 +44,10 @@ pub(crate) enum Cause {
     Miss { named: Point, pen: Point },
     /// The two ends of an open path: P02.
     Ends { start: Point, pen: Point },
+    /// A point outside FontBBox: P04.
+    Outside(Point),
+    /// A stem that nothing touches: H08.
+    Untouched(NamedStem),
     /// The base of the glyph's seac: K04, K07.
     Base,
     /// Its accent: K04, K05, K07.
@@ -154,7 +159,37 @@ fn add_causes_in(
         Reason::Codes { .. } => add_components(rule, causes),
         Reason::Sidebearings { .. } => add_cause(causes, Some(Cause::Accent)),
         Reason::Zones { other, .. } => add_cause(causes, Some(Cause::Zone(other))),
+        Reason::Outside { point, .. } => add_cause(causes, Some(Cause::Outside(point))),
+        Reason::Untouched { stem } => add_cause(causes, Some(untouched_stem(place.start, stem))),
         _ => Ok(()),
+    }
+}
+
+/// A stem that nothing touches, as it is drawn.
+fn untouched_stem(start: Point, stem: UntouchedStem) -> Cause
+    ensures { result ≡ untouched_stem start stem }
+{
+    let direction = band_direction(stem.direction);
+    let start = start_along(direction, start);
+    Cause::Untouched(NamedStem {
+        band: Band {
+            direction,
+            lower: stem.low,
+            upper: stem.high,
+        },
+        lower: stem.low.saturating_sub(start),
+        upper: stem.high.saturating_sub(start),
+        role: Role::Own,
+    })
+}
+
+/// The direction of the bands of stems.
+fn band_direction(direction: t1_drawing::Direction) -> Direction
+    ensures { result ≡ band_direction direction }
+{
+    match direction {
+        t1_drawing::Direction::Across => Direction::Across,
+        t1_drawing::Direction::Upright => Direction::Upright,
     }
 }
 

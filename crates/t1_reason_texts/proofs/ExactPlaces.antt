@@ -4,7 +4,7 @@ use Rattle.std.proofs.lemmas.Bool.{cases_Bool, eqb-true}
 use Rattle.std.proofs.lemmas.Fmt.{decimal_digit}
 use Rattle.std.proofs.lemmas.Nat.{div-add-mod', mul-mod_first}
 use Rattle.std.proofs.Math.Nat.{add-mul, div-lt_iff_lt-mul, mod-eq_of_lt, mod-lt, mul_assoc, mul_comm, pow-succ'}
-use Rattle.t1_reason_texts.specs.declared.decimals.Unit.TheVariants.{Coordinate, Mean, Middle, Product, Value}
+use Rattle.t1_reason_texts.specs.declared.decimals.Unit.TheVariants.{Area, Coordinate, Mean, Middle, OnCurve, Product, Value}
 use Rattle.t1_reason_texts.specs.Decimals.{PlacesAreExact, digits_value, places}
 
 -- One digit more before the others, which is a tenth part.
@@ -45,8 +45,10 @@ exact one some (suc n) rest less enough =
     ]
 
 pub places_are_exact : PlacesAreExact
-places_are_exact Coordinate rest less = exact 65536 (omega arith) 18 rest less (omega arith)
-places_are_exact Middle rest less = exact 131072 (omega arith) 18 rest less (omega arith)
-places_are_exact Mean rest less = exact 262144 (omega arith) 18 rest less (omega arith)
-places_are_exact Value rest less = exact 1000000000 (omega arith) 18 rest less (omega arith)
-places_are_exact Product rest less = exact 1000000000000000000 (omega arith) 18 rest less (omega arith)
+places_are_exact Coordinate rest less = exact 65536 (omega arith) 34 rest less (omega arith)
+places_are_exact Middle rest less = exact 131072 (omega arith) 34 rest less (omega arith)
+places_are_exact Mean rest less = exact 262144 (omega arith) 34 rest less (omega arith)
+places_are_exact Value rest less = exact 1000000000 (omega arith) 34 rest less (omega arith)
+places_are_exact Product rest less = exact 1000000000000000000 (omega arith) 34 rest less (omega arith)
+places_are_exact OnCurve rest less = exact 4194304 (omega arith) 34 rest less (omega arith)
+places_are_exact Area rest less = exact 85899345920 (omega arith) 34 rest less (omega arith)

@@ -2,3 +2,4 @@ pub mod ExactPlaces
 pub mod PlainParts
 pub mod PlainTexts
 pub mod ShownNames
+pub mod ShownWords

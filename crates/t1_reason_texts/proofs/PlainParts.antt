@@ -54,7 +54,7 @@ plain_fraction : (one rest : ℕ) → list_all is_plain (fraction one rest) ≡ 
 plain_fraction one rest =
     elim (cases_Bool (rest == 0)) [
       | inl e ↦ rw e refl
-      | inr e ↦ rw e (plain_places one 18 rest)
+      | inr e ↦ rw e (plain_places one 34 rest)
     ]
 
 pub plain_by : (one : ℕ) (z : ℤ) → list_all is_plain (decimal_by one z) ≡ true
@@ -71,7 +71,7 @@ hexadecimal d = grind arith
 shown_plain : (byte : ℕ) → is_shown byte ≡ true → is_plain byte ≡ true
 shown_plain byte shown = grind arith
 
-plain_byte : (byte : ℕ) → list_all is_plain (shown_byte byte) ≡ true
+pub plain_byte : (byte : ℕ) → list_all is_plain (shown_byte byte) ≡ true
 plain_byte byte =
     elim (cases_Bool (is_shown byte)) [
       | inl e ↦ rw (e, shown_plain byte e) refl

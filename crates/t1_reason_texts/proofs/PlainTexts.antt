@@ -1,29 +1,41 @@
 -- No text has a byte below 32 or a colon.
-use Rattle.std.proofs.Common.{◌≡◌, ℕ, ℤ, Bool, true, false, Option, Some, None, List, [], ◌∷◌, refl}
+use Rattle.std.proofs.Common.{◌≡◌, ℕ, ◌-◌, ◌==◌, ℤ, Bool, true, false, Option, Some, None, List, [], ◌∷◌, inl, inr, refl, ◌∙◌}
+use Rattle.std.proofs.lemmas.Bool.{cases_Bool}
 use Rattle.std.specs.List.{list_all}
 use Rattle.t1_char.specs.declared.command.Command.{Command as Commands}
 use Rattle.t1_char.specs.declared.command.Command.TheVariants.{Callothersubr}
 use Rattle.t1_char.specs.declared.token.CharToken.{CharToken}
 use Rattle.t1_char.specs.declared.token.CharToken.TheVariants.{Number, Command, Unknown, Unknown12, Cut, Short}
+use Rattle.t1_font.specs.declared.encoding.Encoding.{Encoding}
 use Rattle.t1_font.specs.declared.encoding.Encoding.TheVariants.{Absent as NoEncoding}
 use Rattle.t1_rules.specs.declared.font_rules.zones.Edges.{Edges}
 use Rattle.t1_reasons.specs.declared.reason.EntryKind.TheVariants.{Number as OneNumber}
+use Rattle.t1_reasons.specs.declared.reason.FontText.{FontText}
+use Rattle.t1_reasons.specs.declared.reason.FontText.TheVariants.{Clear}
 use Rattle.t1_reasons.specs.declared.reason.Found.{Found}
 use Rattle.t1_reasons.specs.declared.reason.Found.TheVariants.{Absent, One, Other, Several}
-use Rattle.t1_reasons.specs.declared.reason.Reason.TheVariants.{Form, Kind, LastToken, Nothing, Since, Waiver}
+use Rattle.t1_reasons.specs.declared.reason.Reason.TheVariants.{Kind, LastToken, Nothing, Since, Waiver}
 use Rattle.t1_reasons.specs.declared.waivers.Unused.TheVariants.{NoGlyph}
 use Rattle.t1_reasons.specs.declared.reason.SetStem.{SetStem}
 use Rattle.t1_rules.specs.declared.rule.Rule.{Rule}
-use Rattle.t1_rules.specs.declared.rule.Rule.TheVariants.{C03, F03, F15, F19, H07, K01, K03, O03, W02, X02, Z12, Z13, Z14, Z16}
+use Rattle.t1_rules.specs.declared.rule.Rule.TheVariants.{C03, F03, F15, F19, H07, H09, K01, K03, O03, P06, P07, P08, W02, X02, Z12, Z13, Z14, Z16}
 use Rattle.t1_rules.specs.declared.step_rules.stems.Stem.{Stem as OneStem}
 use Rattle.t1_reason_texts.specs.declared.decimals.Exact.{Exact}
-use Rattle.t1_reason_texts.specs.FontTexts.{absent_needed, count_needed, entry_name, entry_needed, entry_text, found_text, subr_entry_text}
+use Rattle.t1_drawing.specs.declared.direction.Direction.{Direction}
+use Rattle.t1_drawing.specs.declared.direction.Direction.TheVariants.{Across, Upright}
+use Rattle.t1_rules.specs.declared.step_rules.flex.Point.{Point}
+use Rattle.t1_reason_texts.specs.declared.drawing_texts.Side.{Side}
+use Rattle.t1_reason_texts.specs.declared.drawing_texts.Side.TheVariants.{Above, Below, Left, Right}
+use Rattle.t1_reason_texts.specs.DrawingTexts.{axis_word, drawn_text, place_text, side_axis, side_words, stroke_text}
+use Rattle.t1_reason_texts.specs.FontTexts.{absent_needed, count_needed, entry_name, entry_needed, entry_text, form_words, found_text, subr_entry_text}
 use Rattle.t1_reason_texts.specs.Laws.{AreOneLine, is_plain}
 use Rattle.t1_reason_texts.specs.SeacTexts.{code_text, name_words}
-use Rattle.t1_reason_texts.specs.StepTexts.{against_words, call_words, comes_next, is_there, middles_text, needed_pairs, or_more, since_after, since_before, since_none, stems_text, token_text, widths_text}
-use Rattle.t1_reason_texts.specs.Texts.{font_reason_text, numbers_reason_text, outline_reason_text, reason_text}
+use Rattle.t1_reason_texts.specs.StepTexts.{after_words, against_words, call_words, comes_next, is_there, middles_text, needed_pairs, or_more, since_after, since_before, since_none, stems_text, token_text, widths_text, writing_text}
+use Rattle.t1_reason_texts.specs.Texts.{drawing_reason_text, font_reason_text, numbers_reason_text, outline_reason_text, reason_text}
+use Rattle.t1_reason_texts.specs.Names.{shown_byte}
+use Rattle.t1_reason_texts.specs.WordTexts.{shown_bytes, shown_letter, text_words, word_reason_text}
 use Rattle.t1_reason_texts.specs.ZoneTexts.{below_one, height_text, number_text, would_do, zones_text}
-use Rattle.t1_reason_texts.proofs.PlainParts.{plain, plain_by, plain_command, plain_decimal, plain_name, plain_signed}
+use Rattle.t1_reason_texts.proofs.PlainParts.{append, either_same, plain, plain_by, plain_byte, plain_command, plain_decimal, plain_either, plain_name, plain_signed}
 
 -- ---- words
 
@@ -69,9 +81,17 @@ plain_against : (rule : Rule) → list_all is_plain (against_words rule) ≡ tru
 plain_against H07 = refl
 plain_against _ = refl
 
+plain_behind : (rule : Rule) → list_all is_plain (after_words rule) ≡ true
+plain_behind H09 = refl
+plain_behind _ = refl
+
 plain_stems : (rule : Rule) (own : OneStem) (other : SetStem) → list_all is_plain (stems_text rule own other) ≡ true
 unfolding stems_text
-plain_stems rule own other = simp (plain, plain_against)
+plain_stems rule own other = simp (plain, plain_against, plain_behind)
+
+plain_writing : (stem : OneStem) → list_all is_plain (writing_text stem) ≡ true
+unfolding writing_text
+plain_writing stem = simp plain
 
 plain_widths : (one two three : OneStem) → list_all is_plain (widths_text one two three) ≡ true
 unfolding widths_text
@@ -158,16 +178,71 @@ plain_number Z14 number = simp plain
 plain_number Z16 number = simp plain
 plain_number _ number = plain_by 1000000000 number
 
+-- ---- the drawing
+
+plain_side_axis : (side : Side) → list_all is_plain (side_axis side) ≡ true
+plain_side_axis Left = refl
+plain_side_axis Right = refl
+plain_side_axis Below = refl
+plain_side_axis Above = refl
+
+plain_side_words : (side : Side) → list_all is_plain (side_words side) ≡ true
+plain_side_words Left = refl
+plain_side_words Right = refl
+plain_side_words Below = refl
+plain_side_words Above = refl
+
+plain_drawn : (rule : Rule) (line_start : Option Point) (start end : Point) → list_all is_plain (drawn_text rule line_start start end) ≡ true
+plain_drawn P06 line_start start end = simp plain
+plain_drawn P07 None start end = simp plain
+plain_drawn P07 (Some first) start end = simp plain
+plain_drawn P08 None start end = simp plain
+plain_drawn P08 (Some first) start end = simp plain
+plain_drawn _ line_start start end = simp plain
+
+plain_stroke : (rule : Rule) (line_start start end : Option Point) → list_all is_plain (stroke_text rule line_start start end) ≡ true
+plain_stroke rule line_start (Some start) (Some end) = plain_drawn rule line_start start end
+plain_stroke rule line_start (Some start) None = refl
+plain_stroke rule line_start None end = refl
+
+plain_axis : (direction : Direction) → list_all is_plain (axis_word direction) ≡ true
+plain_axis Across = refl
+plain_axis Upright = refl
+
+plain_place : (direction : Direction) (quarters : ℕ) (place : ℤ) → list_all is_plain (place_text direction quarters place) ≡ true
+unfolding place_text
+plain_place direction quarters place = simp (plain, plain_axis)
+
+-- ---- words
+
+plain_letter : (byte : ℕ) → list_all is_plain (shown_letter byte) ≡ true
+plain_letter byte = plain_either (byte == 32) (32 ∷ []) (shown_byte byte) ∙ rw (plain_byte byte) (either_same (byte == 32))
+
+plain_bytes : (left : ℕ) (word : List ℕ) → list_all is_plain (shown_bytes left word) ≡ true
+unfolding shown_bytes
+plain_bytes left [] = refl
+plain_bytes left (byte ∷ bytes) =
+    elim (cases_Bool (left == 0)) [
+      | inl e ↦ rw e refl
+      | inr e ↦ rw e (append (shown_letter byte) (shown_bytes (left - 1) bytes) (plain_letter byte) (plain_bytes (left - 1) bytes))
+    ]
+
+plain_form : (encoding : Encoding) → list_all is_plain (form_words encoding) ≡ true
+plain_form NoEncoding = refl
+plain_form _ = refl
+
+plain_text_words : (text : FontText) → list_all is_plain (text_words text) ≡ true
+plain_text_words Clear = refl
+plain_text_words _ = refl
+
 -- ---- all
 
-ruleset worded = (plain, plain_more, plain_token, plain_is_there, plain_comes, plain_needed_pairs, plain_before, plain_after, plain_none, plain_stems, plain_widths, plain_middles, plain_call_words, plain_does, plain_code, plain_entry, plain_found, plain_subr_entry, plain_number, plain_zones, plain_height, plain_below_one)
+ruleset worded = (plain, plain_bytes, plain_form, plain_text_words, plain_more, plain_token, plain_is_there, plain_comes, plain_needed_pairs, plain_before, plain_after, plain_none, plain_stems, plain_widths, plain_middles, plain_call_words, plain_does, plain_code, plain_entry, plain_found, plain_subr_entry, plain_number, plain_zones, plain_height, plain_below_one, plain_side_axis, plain_side_words, plain_axis, plain_place, plain_writing, plain_stroke)
 
 pub are_one_line : AreOneLine
-unfolding reason_text outline_reason_text font_reason_text numbers_reason_text
+unfolding reason_text outline_reason_text drawing_reason_text font_reason_text numbers_reason_text word_reason_text
 are_one_line font rule Nothing = refl
 are_one_line font rule (Since None) = simp worded
-are_one_line font rule (Form NoEncoding) = refl
-are_one_line font rule (Form _) = refl
 are_one_line font rule (Kind found OneNumber) = simp worded
 are_one_line font rule (LastToken None) = refl
 are_one_line font rule (LastToken (Some Short)) = refl

@@ -5,26 +5,32 @@ use Rattle.std.specs.Fmt.{decimal, sign_text}
 use Rattle.t1_char.specs.Numbers.{unit}
 use Rattle.t1_reason_texts.specs.declared.decimals.Exact.{Exact}
 use Rattle.t1_reason_texts.specs.declared.decimals.Unit.{Unit}
-use Rattle.t1_reason_texts.specs.declared.decimals.Unit.TheVariants.{Coordinate, Mean, Middle, Product, Value}
+use Rattle.t1_reason_texts.specs.declared.decimals.Unit.TheVariants.{Area, Coordinate, Mean, Middle, OnCurve, Product, Value}
 use Rattle.t1_rules.specs.declared.step_rules.flex.Point.{Point}
 
 -- How many of a unit make one: a coordinate counts 1/65536, twice the middle of a stem 1/131072, the sum of two of these, which is four
--- times their mean, 1/262144, a number of a dictionary 10^-9, and a product of two of these 10^-18.
+-- times their mean, 1/262144, a number of a dictionary 10^-9, a product of two of these 10^-18, 64 times a coordinate 1/4194304, and twenty times an
+-- area a twentieth of the square of 1/65536.
 abbrev pub one_of : Unit → ℕ
 one_of Coordinate = unit
 one_of Middle = 131072
 one_of Mean = 262144
 one_of Value = 1000000000
 one_of Product = 1000000000000000000
+one_of OnCurve = 4194304
+one_of Area = 85899345920
 
 -- The decimal places of a part of one, as many as it has, so many at most.
 unfoldable pub places : ℕ → ℕ → ℕ → List ℕ
 places one zero rest = []
 places one (suc n) rest = if rest == 0 then [] else decimal (rest * 10 / one) ++ places one n (rest * 10 % one)
 
--- After a point; nothing where there is no part. 10^-18 and 1/262144 have 18 places, the others have fewer.
+-- After a point; nothing where there is no part. Areas have 34 places at most, the others have fewer.
+abbrev pub most_places : ℕ
+most_places = 34
+
 abbrev pub fraction : ℕ → ℕ → List ℕ
-fraction one rest = if rest == 0 then [] else codes "." ++ places one 18 rest
+fraction one rest = if rest == 0 then [] else codes "." ++ places one most_places rest
 
 unfoldable pub decimal_by : ℕ → ℤ → List ℕ
 decimal_by one number =
@@ -69,4 +75,4 @@ digits_value (digit ∷ digits) = (digit - 48) * 10 ^ length digits + digits_val
 abbrev pub PlacesAreExact : Type 0
 PlacesAreExact =
     (counted : Unit) (rest : ℕ) → rest < one_of counted →
-    digits_value (places (one_of counted) 18 rest) * one_of counted ≡ rest * 10 ^ length (places (one_of counted) 18 rest)
+    digits_value (places (one_of counted) most_places rest) * one_of counted ≡ rest * 10 ^ length (places (one_of counted) most_places rest)

@@ -4,12 +4,14 @@ use Rattle.std.specs.Map.{lookup}
 use Rattle.std.specs.Option.{unwrap_or}
 use Rattle.std.specs.Fmt.{decimal}
 use Rattle.t1_reason_texts.specs.Decimals.{decimal_by}
+use Rattle.t1_font.specs.declared.encoding.Encoding.{Encoding}
+use Rattle.t1_font.specs.declared.encoding.Encoding.TheVariants.{Absent as NoEncoding, Standard, Custom, Other as OtherEncoding}
 use Rattle.t1_font.specs.Fonts.{FontValue}
 use Rattle.t1_reasons.specs.declared.reason.Found.{Found}
 use Rattle.t1_reasons.specs.declared.reason.Found.TheVariants.{Absent, One, Other, Several}
 use Rattle.t1_reason_texts.specs.Words.{numbers_text}
 use Rattle.t1_rules.specs.declared.rule.Rule.{Rule}
-use Rattle.t1_rules.specs.declared.rule.Rule.TheVariants.{F03, F04, F05, F07, F15, F16, F18, F20, Z08, Z12, Z17, Z18, Z19}
+use Rattle.t1_rules.specs.declared.rule.Rule.TheVariants.{F03, F04, F05, F07, F15, F16, F18, F20, F23, Z08, Z12, Z17, Z18, Z19}
 
 -- A number of a dictionary.
 abbrev pub value_text : ℤ → List ℕ
@@ -89,6 +91,18 @@ found_text Absent = codes "it is not there"
 found_text (One number) = codes "it is the number " ++ value_text number
 found_text (Several count) = codes "it is a list of " ++ numbers_text count
 found_text Other = codes "it is neither a number nor a list of numbers"
+
+-- F23 speaks of the last of several entries.
+abbrev pub says_last : Rule → Bool
+says_last F23 = true
+says_last _ = false
+
+-- What form the Encoding has.
+abbrev pub form_words : Encoding → List ℕ
+form_words NoEncoding = codes "it is not there"
+form_words Standard = codes "it is StandardEncoding"
+form_words Custom = codes "it is an array of 256 names"
+form_words OtherEncoding = codes "it is neither StandardEncoding nor an array of 256 names"
 
 -- Whether an entry has two numbers.
 abbrev pub has_two : Found → Bool

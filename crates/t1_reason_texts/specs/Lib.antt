@@ -1,5 +1,6 @@
 -- Definitions.
 pub mod Decimals
+pub mod DrawingTexts
 pub mod Fields
 pub mod FontTexts
 pub mod Laws
@@ -7,5 +8,6 @@ pub mod Names
 pub mod SeacTexts
 pub mod StepTexts
 pub mod Texts
+pub mod WordTexts
 pub mod Words
 pub mod ZoneTexts

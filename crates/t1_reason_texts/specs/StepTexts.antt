@@ -13,7 +13,7 @@ use Rattle.t1_reason_texts.specs.declared.decimals.Exact.{Exact}
 use Rattle.t1_reason_texts.specs.declared.decimals.Unit.TheVariants.{Coordinate, Mean, Middle}
 use Rattle.t1_reason_texts.specs.Decimals.{coordinate_text, in_unit, text_in}
 use Rattle.t1_rules.specs.declared.rule.Rule.{Rule}
-use Rattle.t1_rules.specs.declared.rule.Rule.TheVariants.{C03, W02, P01, P03, H01, X01, X02, X03, O03, K06, H05, H06, H07, O05, O06, O08, W03}
+use Rattle.t1_rules.specs.declared.rule.Rule.TheVariants.{C03, W02, P01, P03, H01, X01, X02, X03, O03, K06, P11, H05, H06, H07, H09, H10, O05, O06, O08, W03}
 use Rattle.t1_rules.specs.declared.step_rules.flex.Point.{Point}
 use Rattle.t1_rules.specs.declared.step_rules.stems.Stem.{Stem}
 use Rattle.t1_rules.specs.StepRules.Stems.{lower, twice_middle, upper}
@@ -61,6 +61,7 @@ since_before W02 = codes "step "
 since_before P01 = codes "no move since step "
 since_before P03 = codes "nothing is drawn since step "
 since_before H01 = codes "drawn at step "
+since_before P11 = codes "moved at step "
 since_before X01 = codes "the flex began at step "
 since_before X03 = codes "the flex began at step "
 since_before K06 = codes "an outline or a stem at step "
@@ -76,6 +77,7 @@ since_after O05 = codes " comes before it"
 since_after O06 = codes " ended counter control"
 since_after O08 = codes ", not ended by a 13"
 since_after W03 = codes " calls an OtherSubr too"
+since_after P11 = codes " too, and nothing is drawn since"
 since_after _ = []
 
 -- What is said where there was no such step.
@@ -111,15 +113,22 @@ are_same_stems one other = int_eq (lower one) (lower other) && int_eq (upper one
 abbrev pub share : Stem → Stem → ℤ
 share one other = int_min (upper one) (upper other) -ℤ int_max (lower one) (lower other)
 
--- H06 and H07 speak of stems that need not overlap: H06 of stems of two commands, H07 of two stems that one of three has in turn.
+-- H06, H07 and H09 speak of stems that need not overlap: H06 of stems of two commands, H07 of two stems that one of three has in turn, H09 of
+-- stems that share an edge.
 abbrev pub says_overlap : Rule → Bool
 says_overlap H06 = false
 says_overlap H07 = false
+says_overlap H09 = false
 says_overlap _ = true
 
 abbrev pub against_words : Rule → List ℕ
 against_words H07 = codes " in place of "
+against_words H09 = codes " and "
 against_words _ = codes " beside "
+
+abbrev pub after_words : Rule → List ℕ
+after_words H09 = codes ", share an edge"
+after_words _ = []
 
 abbrev pub overlap_text : Stem → SetStem → List ℕ
 overlap_text own other =
@@ -130,12 +139,22 @@ overlap_text own other =
 unfoldable pub stems_text : Rule → Stem → SetStem → List ℕ
 stems_text rule own other =
     if says_overlap rule then overlap_text own other
-    else span_text own ++ (against_words rule ++ (span_text other.stem ++ (codes ", set at step " ++ decimal other.step)))
+    else span_text own ++ (against_words rule ++ (span_text other.stem ++ (codes ", set at step " ++ (decimal other.step ++ after_words rule))))
 
--- H05 speaks of a stem's width, H03 of a stem that has none.
+-- H05 speaks of a stem's width, H10 of how it is written, H03 of a stem that has none.
 abbrev pub says_width : Rule → Bool
 says_width H05 = true
 says_width _ = false
+
+abbrev pub says_writing : Rule → Bool
+says_writing H10 = true
+says_writing _ = false
+
+unfoldable pub writing_text : Stem → List ℕ
+writing_text stem =
+    coordinate_text stem.position
+    ++ (codes " " ++ (coordinate_text stem.width ++ (codes " says the same as " ++ (coordinate_text (lower stem)
+    ++ (codes " " ++ text_in Coordinate (upper stem -ℤ lower stem))))))
 
 -- How far the second middle is from half-way between the others, in units of 1/262144.
 abbrev pub off_middle : Stem → Stem → Stem → ℤ

@@ -4,25 +4,27 @@ use Rattle.std.specs.List.{concat}
 use Rattle.std.specs.Fmt.{decimal, signed_decimal}
 use Rattle.t1_char.specs.Commands.{name_of}
 use Rattle.t1_char.specs.declared.token.CharToken.TheVariants.{Short}
-use Rattle.t1_font.specs.declared.encoding.Encoding.TheVariants.{Absent as NoEncoding, Standard, Custom, Other as OtherEncoding}
 use Rattle.t1_font.specs.Fonts.{FontValue, glyph_name}
+use Rattle.t1_outline.specs.Laws.Points.{end_of}
 use Rattle.t1_reasons.specs.declared.reason.EntryKind.TheVariants.{Number as OneNumber, Numbers as ManyNumbers}
 use Rattle.t1_reasons.specs.declared.reason.Reason.{Reason}
-use Rattle.t1_reasons.specs.declared.reason.Reason.TheVariants.{Argument, Arguments, Behind, Code, Codes, Corners, Count, Depth, Ending, Entry, Following, Features, Form, Full, Gap, Glyph, Glyphs, Ids, Kind, LastToken, Length, Limit, Miss, Nothing, Number, Numbers, Open, Othersubr, Pairs, Quotient, Sidebearings, Since, Stem, Stems, Subr, SubrEntry, Token, TooMany, Triple, Waiver, Width, Zone, Zones}
+use Rattle.t1_reasons.specs.declared.reason.Reason.TheVariants.{Area, Argument, Arguments, Behind, Beyond, Code, Codes, Corners, Count, Depth, Ending, Entry, Following, Features, Form, Full, Gap, Glyph, Glyphs, Ids, Kind, LastToken, Length, Limit, Miss, Nothing, Number, Numbers, Open, Othersubr, Outside, Pairs, Quotient, Sidebearings, Since, Stem, Stems, Stroke, Subr, SubrEntry, Token, TooMany, Triple, Untouched, Waiver, Width, Zone, Zones}
 use Rattle.t1_reasons.specs.declared.waivers.Unused.TheVariants.{NoGlyph, Unbroken}
 use Rattle.t1_reasons.specs.Remedies.{fuzz_for_all, fuzz_for_both, scale_for_all}
 use Rattle.t1_reason_texts.specs.declared.decimals.Unit.TheVariants.{Coordinate}
 use Rattle.t1_reason_texts.specs.Decimals.{coordinate_text, point_text, text_in}
-use Rattle.t1_reason_texts.specs.FontTexts.{encoded_name, entry_text, found_text, has_two, subr_entry_text, value_text}
+use Rattle.t1_reason_texts.specs.DrawingTexts.{area_text, beyond_text, outside_text, stroke_text, untouched_text}
+use Rattle.t1_reason_texts.specs.FontTexts.{encoded_name, entry_text, form_words, found_text, has_two, says_last, subr_entry_text, value_text}
 use Rattle.t1_reason_texts.specs.Names.{shown_name}
 use Rattle.t1_reason_texts.specs.SeacTexts.{code_text, is_meant, sidebearings_text}
-use Rattle.t1_reason_texts.specs.StepTexts.{are_same_points, bound_words, call_words, comes_next, is_there, middle_that_does, middles_text, needed_pairs, off_words, or_more, quotient_text, says_width, since_after, since_before, since_none, span_text, stems_text, token_text, widths_text}
+use Rattle.t1_reason_texts.specs.StepTexts.{are_same_points, bound_words, call_words, comes_next, is_there, middle_that_does, middles_text, needed_pairs, off_words, or_more, quotient_text, says_width, says_writing, since_after, since_before, since_none, span_text, stems_text, token_text, widths_text, writing_text}
+use Rattle.t1_reason_texts.specs.WordTexts.{word_reason_text}
 use Rattle.t1_reason_texts.specs.Words.{are_text, arguments_text, counted_text, numbers_text}
 use Rattle.t1_reason_texts.specs.ZoneTexts.{from_zero, gap_text, needed_text, number_text, says_twice, width_text, would_do, zone_text, zones_text}
 use Rattle.t1_rules.specs.declared.rule.Rule.{Rule}
 use Rattle.t1_rules.specs.StepRules.Stems.{lower, upper}
 
--- Of a reason that speaks of the numbers of an entry.
+-- Of a reason that speaks of the numbers of an entry, or of a later one.
 unfoldable pub numbers_reason_text : FontValue → Rule → Reason → List ℕ
 numbers_reason_text font rule (TooMany count most) = numbers_text count ++ (codes ", " ++ (decimal most ++ codes " at most"))
 numbers_reason_text font rule (Numbers count) = numbers_text count
@@ -35,23 +37,20 @@ numbers_reason_text font rule (Zones own other distance) =
     zones_text own other ++ (needed_text distance ++ would_do (codes "BlueFuzz") (from_zero (fuzz_for_both font)))
 numbers_reason_text font rule (Zone lower upper scale) = zone_text lower upper scale ++ would_do (codes "BlueScale") (from_zero (scale_for_all font))
 numbers_reason_text font rule (Width width nearest) = width_text width nearest
-numbers_reason_text font rule _ = []
+numbers_reason_text font rule reason = word_reason_text font reason
 
 -- Of a reason that speaks of the font and its entries, of a charstring as a whole, or of a waiver.
 unfoldable pub font_reason_text : FontValue → Rule → Reason → List ℕ
 font_reason_text font rule (Limit steps) = codes "more than " ++ (decimal steps ++ codes " steps")
 -- What an entry is, and what it should be; of MinFeature its numbers where there are two.
-font_reason_text font rule (Entry found) = entry_text rule found
+font_reason_text font rule (Entry found) = if says_last rule then codes "the last one is taken; " ++ found_text found else entry_text rule found
 font_reason_text font rule (Ids clear private) = value_text clear ++ (codes " in the clear text, " ++ (value_text private ++ codes " in Private"))
 font_reason_text font rule (Features found one two) =
     if has_two found then codes "it is {" ++ (value_text one ++ (codes " " ++ (value_text two ++ codes "}"))) else found_text found
 font_reason_text font rule (Glyphs count) =
     if count == 0 then codes "there is no glyph"
     else (if count == 1 then codes "the only glyph has another name" else codes "none of " ++ (decimal count ++ codes " glyphs"))
-font_reason_text font rule (Form NoEncoding) = codes "it is not there"
-font_reason_text font rule (Form Standard) = codes "it is StandardEncoding"
-font_reason_text font rule (Form Custom) = codes "it is an array of 256 names"
-font_reason_text font rule (Form OtherEncoding) = codes "it is neither StandardEncoding nor an array of 256 names"
+font_reason_text font rule (Form encoding) = if says_last rule then codes "the last one is taken; " ++ form_words encoding else form_words encoding
 font_reason_text font rule (SubrEntry number twice size) = subr_entry_text number twice (not (nat_lt number size)) size
 font_reason_text font rule (Kind found OneNumber) = found_text found ++ codes "; a number is needed"
 font_reason_text font rule (Kind found ManyNumbers) = found_text found ++ codes "; a list of numbers is needed"
@@ -64,6 +63,15 @@ font_reason_text font rule (Waiver NoGlyph) = codes "no glyph has this name"
 font_reason_text font rule (Waiver (Unbroken glyph)) = codes "no step of the glyph breaks this rule"
 font_reason_text font rule reason = numbers_reason_text font rule reason
 
+-- Of one that speaks of the drawing.
+unfoldable pub drawing_reason_text : FontValue → Rule → Reason → List ℕ
+drawing_reason_text font rule (Outside point font_box) = outside_text point font_box
+drawing_reason_text font rule (Area twentyfold) = area_text twentyfold
+drawing_reason_text font rule (Stroke line_start start segment) = stroke_text rule line_start start (end_of segment)
+drawing_reason_text font rule (Beyond direction quarters place start end) = beyond_text direction quarters place start end
+drawing_reason_text font rule (Untouched stem) = untouched_text stem
+drawing_reason_text font rule reason = font_reason_text font rule reason
+
 -- Of one that speaks of points, of stems or of an accented character.
 unfoldable pub outline_reason_text : FontValue → Rule → Reason → List ℕ
 outline_reason_text font rule (Pairs moves points ends) =
@@ -74,7 +82,7 @@ outline_reason_text font rule (Open start pen) =
 outline_reason_text font rule (Stems own other) = stems_text rule own other
 outline_reason_text font rule (Stem stem) =
     if says_width rule then codes "the stem from " ++ (span_text stem ++ (codes " is " ++ (text_in Coordinate (upper stem -ℤ lower stem) ++ codes " wide")))
-    else codes "the stem is at " ++ coordinate_text stem.position
+    else (if says_writing rule then writing_text stem else codes "the stem is at " ++ coordinate_text stem.position)
 outline_reason_text font rule (Triple one two three) =
     codes "widths " ++ (widths_text one two three ++ (codes ", middles " ++ (middles_text one two three
     ++ (off_words one two three ++ would_do (codes "middle") (middle_that_does one three)))))
@@ -85,7 +93,7 @@ outline_reason_text font rule (Codes base accent) =
     else (if is_meant font rule accent && not (is_meant font rule base) then codes "the accent's " ++ code_text rule accent
     else codes "the base's " ++ (code_text rule base ++ (codes " and the accent's " ++ code_text rule accent)))
 outline_reason_text font rule (Sidebearings told own) = sidebearings_text told own
-outline_reason_text font rule reason = font_reason_text font rule reason
+outline_reason_text font rule reason = drawing_reason_text font rule reason
 
 unfoldable pub reason_text : FontValue → Rule → Reason → List ℕ
 -- How many numbers a command takes, and how many are on the stack; then a token that comes to a full stack.

@@ -7,8 +7,8 @@ use std::fmt;
 use t1_char::UNIT;
 use t1_rules::Point;
 
-/// How many decimal places 10^-18 and 1/262144 have; the others have fewer.
-const MOST_PLACES: usize = 18;
+/// How many decimal places a number in squares of 1/65536, twenty times, has at most; the others have fewer.
+const MOST_PLACES: usize = 34;
 
 /// What a number counts.
 #[derive(Clone, Copy, Debug, PartialEq, Eq)]
@@ -23,6 +23,10 @@ pub enum Unit {
     Value,
     /// 10^-18, as a product of two of these does.
     Product,
+    /// 1/4194304, as 64 times a coordinate does.
+    OnCurve,
+    /// A twentieth of the square of 1/65536, as twenty times an area does.
+    Area,
 }
 
 /// A number that is written as a decimal, with as many places as it has.
@@ -106,6 +110,8 @@ impl Unit {
             Unit::Mean => size / 262_144,
             Unit::Value => size / 1_000_000_000,
             Unit::Product => size / 1_000_000_000_000_000_000,
+            Unit::OnCurve => size / 4_194_304,
+            Unit::Area => size / 85_899_345_920,
         }
     }
 
@@ -120,6 +126,8 @@ impl Unit {
             Unit::Mean => size % 262_144,
             Unit::Value => size % 1_000_000_000,
             Unit::Product => size % 1_000_000_000_000_000_000,
+            Unit::OnCurve => size % 4_194_304,
+            Unit::Area => size % 85_899_345_920,
         }
     }
 }

@@ -1,14 +1,16 @@
 //! The fields of a reason as data, for forms that other programs read.
 
 ghost use Rattle.std.specs.Prelude.{◌≡◌};
-ghost use Rattle.t1_reason_texts.specs.Fields.{coordinate_field, fields_of, font_fields_of, listed, value_field};
+ghost use Rattle.t1_reason_texts.specs.Fields.{coordinate_field, drawing_fields_of, fields_of, font_fields_of, listed, stroke_fields, value_field, word_fields_of};
 
 use crate::decimals::{Exact, Unit, coordinate, value};
+use crate::drawing_texts::end_of;
 use Field::{CodeName, Count, GlyphName, Holds};
-use Fields::{One, Three, Two};
+use Fields::{Five, Four, One, Three, Two};
 use t1_char::{CharToken, Command};
+use t1_drawing::{Direction, FontBox};
 use t1_font::Encoding;
-use t1_reasons::{EntryKind, Found, Reason};
+use t1_reasons::{EntryKind, FontText, Found, Reason};
 use t1_rules::{Edges, Point, Stem};
 
 /// What a reason has under a name.
@@ -33,6 +35,14 @@ pub enum Field {
     Stem(Stem),
     Edges(Edges),
     Found(Found),
+    /// The coordinate that stems of a direction bound.
+    Axis(Direction),
+    FontBox(FontBox),
+    /// The token at a place of the row of a text.
+    Word(FontText, usize),
+    Text(FontText),
+    /// The first line of the clear text.
+    FirstLine,
 }
 
 /// A field with its name.
@@ -45,6 +55,8 @@ pub enum Fields {
     One(Named),
     Two(Named, Named),
     Three(Named, Named, Named),
+    Four(Named, Named, Named, Named),
+    Five(Named, Named, Named, Named, Named),
 }
 
 /// A number in units of 1/65536.
@@ -147,7 +159,65 @@ pub fn fields_of(reason: Reason) -> Fields
             ("told", at(i64::from(told))),
             ("own", at(i64::from(own))),
         ),
+        _ => drawing_fields_of(reason),
+    }
+}
+
+/// Those of a reason that speaks of the drawing, or of a later one.
+#[tactic(auto, unfolding(crate::specs::Fields::drawing_fields_of))]
+fn drawing_fields_of(reason: Reason) -> Fields
+    ensures { listed result ≡ drawing_fields_of reason }
+{
+    match reason {
+        Reason::Outside { point, font_box } => Two(
+            ("point", Field::Point(point)),
+            ("FontBBox", Field::FontBox(font_box)),
+        ),
+        Reason::Area { twentyfold } => {
+            One(("area", Field::Decimal(Exact::new(twentyfold, Unit::Area))))
+        }
+        Reason::Stroke {
+            line_start,
+            start,
+            segment,
+        } => stroke_fields(line_start, start, end_of(segment)),
+        Reason::Beyond {
+            direction,
+            quarters,
+            place,
+            start,
+            end,
+        } => Five(
+            ("axis", Field::Axis(direction)),
+            ("quarters", Count(quarters as u64)),
+            ("place", Field::Decimal(Exact::new(place, Unit::OnCurve))),
+            ("start", at(start)),
+            ("end", at(end)),
+        ),
+        Reason::Untouched { stem } => Four(
+            ("axis", Field::Axis(stem.direction)),
+            ("lower", at(stem.low)),
+            ("upper", at(stem.high)),
+            ("more", Count(stem.more as u64)),
+        ),
         _ => font_fields_of(reason),
+    }
+}
+
+/// Those of a line or a curve: where it begins and ends, and where the line right before it begins.
+fn stroke_fields(line_start: Option<Point>, start: Option<Point>, end: Option<Point>) -> Fields
+    ensures { listed result ≡ stroke_fields line_start start end }
+{
+    match (line_start, start, end) {
+        (Some(before), Some(start), Some(end)) => Three(
+            ("before", Field::Point(before)),
+            ("start", Field::Point(start)),
+            ("end", Field::Point(end)),
+        ),
+        (None, Some(start), Some(end)) => {
+            Two(("start", Field::Point(start)), ("end", Field::Point(end)))
+        }
+        _ => Fields::Nothing,
     }
 }
 
@@ -220,6 +290,39 @@ fn font_fields_of(reason: Reason) -> Fields
             ("scale", of(scale)),
         ),
         Reason::Width { width, nearest } => Two(("width", of(width)), ("nearest", of(nearest))),
+        _ => word_fields_of(reason),
+    }
+}
+
+/// Those of a reason that speaks of the font's texts, or of FontMatrix.
+#[tactic(auto, unfolding(crate::specs::Fields::word_fields_of))]
+fn word_fields_of(reason: Reason) -> Fields
+    ensures { listed result ≡ word_fields_of reason }
+{
+    match reason {
+        Reason::HighByte { line, byte } => Two(
+            ("byte", Count(byte as u64)),
+            ("line", Count(line as u64)),
+        ),
+        Reason::ReaderWord { place } => Two(
+            ("word", Field::Word(FontText::Private, place)),
+            (
+                "entry",
+                Field::Word(FontText::Private, place.saturating_sub(2)),
+            ),
+        ),
+        Reason::TextWord { text, place } => Two(
+            ("word", Field::Word(text, place)),
+            ("text", Field::Text(text)),
+        ),
+        Reason::Determinant { v0, v1, v2, v3 } => Four(
+            ("v0", of(v0)),
+            ("v1", of(v1)),
+            ("v2", of(v2)),
+            ("v3", of(v3)),
+        ),
+        Reason::PrivateUnbegun { named } => One(("named", Holds(named))),
+        Reason::FirstLine => One(("line", Field::FirstLine)),
         Reason::Nothing
         | Reason::Waiver { .. }
         | Reason::Count { .. }
@@ -242,6 +345,31 @@ fn font_fields_of(reason: Reason) -> Fields
         | Reason::Othersubr { .. }
         | Reason::Arguments { .. }
         | Reason::Codes { .. }
-        | Reason::Sidebearings { .. } => Fields::Nothing,
+        | Reason::Sidebearings { .. }
+        | Reason::Outside { .. }
+        | Reason::Area { .. }
+        | Reason::Stroke { .. }
+        | Reason::Beyond { .. }
+        | Reason::Untouched { .. }
+        | Reason::Limit { .. }
+        | Reason::Entry { .. }
+        | Reason::Ids { .. }
+        | Reason::Features { .. }
+        | Reason::Glyphs { .. }
+        | Reason::Form { .. }
+        | Reason::SubrEntry { .. }
+        | Reason::Kind { .. }
+        | Reason::TooMany { .. }
+        | Reason::Numbers { .. }
+        | Reason::Glyph { .. }
+        | Reason::Code { .. }
+        | Reason::LastToken { .. }
+        | Reason::Corners { .. }
+        | Reason::Number { .. }
+        | Reason::Following { .. }
+        | Reason::Gap { .. }
+        | Reason::Zones { .. }
+        | Reason::Zone { .. }
+        | Reason::Width { .. } => Fields::Nothing,
     }
 }

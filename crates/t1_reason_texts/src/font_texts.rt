@@ -3,12 +3,12 @@
 ghost use Rattle.std.specs.Prelude.{◌≡◌, Some, []};
 ghost use Rattle.t1_font.specs.Views.{bytes_of};
 ghost use Rattle.std.specs.Option.{unwrap_or};
-ghost use Rattle.t1_reason_texts.specs.FontTexts.{absent_needed, count_needed, counts_numbers, encoded_name, entry_name, entry_needed, entry_text, found_text, has_two, lists_numbers, subr_entry_text};
+ghost use Rattle.t1_reason_texts.specs.FontTexts.{absent_needed, count_needed, counts_numbers, encoded_name, entry_name, entry_needed, entry_text, form_words, found_text, has_two, lists_numbers, says_last, subr_entry_text};
 
 use crate::decimals::value;
 use crate::words::Counted;
 use std::fmt;
-use t1_font::Font;
+use t1_font::{Encoding, Font};
 use t1_reasons::Found;
 use t1_rules::Rule;
 
@@ -104,6 +104,25 @@ fn lists_numbers(rule: Rule) -> bool
     ensures { result ≡ lists_numbers rule }
 {
     matches!(rule, Rule::F15 | Rule::F16 | Rule::F18 | Rule::Z12)
+}
+
+/// Whether a rule speaks of the last of several entries.
+pub(crate) fn says_last(rule: Rule) -> bool
+    ensures { result ≡ says_last rule }
+{
+    matches!(rule, Rule::F23)
+}
+
+/// What form the Encoding has.
+pub(crate) fn form_words(encoding: Encoding) -> &'static str
+    ensures { result.now ≡ form_words encoding }
+{
+    match encoding {
+        Encoding::Absent => "it is not there",
+        Encoding::Standard => "it is StandardEncoding",
+        Encoding::Custom => "it is an array of 256 names",
+        Encoding::Other => "it is neither StandardEncoding nor an array of 256 names",
+    }
 }
 
 /// Whether an entry has two numbers.

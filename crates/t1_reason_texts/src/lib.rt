@@ -21,6 +21,7 @@
 #![tactic(auto)]
 
 mod decimals;
+mod drawing_texts;
 mod fields;
 mod font_texts;
 mod laws;
@@ -28,13 +29,16 @@ mod names;
 mod seac_texts;
 mod step_texts;
 mod text;
+mod word_texts;
 mod words;
 mod zone_texts;
 
 pub use decimals::{Coordinates, Exact, Unit, coordinate, value};
+pub use drawing_texts::axis_word;
 pub use fields::{Field, Fields, Named, fields_of};
 pub use font_texts::encoded_name;
 pub use laws::{numbers_are_written_exactly, reason_texts_are_one_line};
 pub use names::hexadecimal_digit;
 pub use step_texts::TokenText;
 pub use text::{ReasonText, ShortText, says_more, short_text, shown_text};
+pub use word_texts::{first_bytes, first_line, word_at};

@@ -22,7 +22,7 @@ struct ShownWithin<'a> {
 
 /// A byte as it is shown.
 #[derive(Clone, Copy)]
-struct ShownByte(u8);
+pub(crate) struct ShownByte(pub(crate) u8);
 
 /// A digit of a hexadecimal number, in upper case.
 pub fn hexadecimal_digit(digit: u8) -> char

@@ -4,7 +4,7 @@ ghost use Rattle.std.specs.Prelude.{◌≡◌, ◌+ℤ◌, ◌-ℤ◌, ◌*ℤ�
 ghost use Rattle.std.specs.Int.{int_max, int_min};
 ghost use Rattle.t1_rules.specs.Watches.{IsWithin, reach};
 ghost use Rattle.t1_reason_texts.specs.Decimals.{in_unit};
-ghost use Rattle.t1_reason_texts.specs.StepTexts.{against_words, are_same_points, are_same_stems, bound_words, call_words, comes_next, is_half_off, is_there, middle_that_does, middles_text, needed_pairs, off_middle, off_words, or_more, quotient_text, says_overlap, says_width, share, since_after, since_before, since_none, span_text, stems_text, token_text, widths_text};
+ghost use Rattle.t1_reason_texts.specs.StepTexts.{after_words, against_words, are_same_points, are_same_stems, bound_words, call_words, comes_next, is_half_off, is_there, middle_that_does, middles_text, needed_pairs, off_middle, off_words, or_more, quotient_text, says_overlap, says_width, says_writing, share, since_after, since_before, since_none, span_text, stems_text, token_text, widths_text, writing_text};
 ghost use Rattle.t1_reason_texts.specs.declared.decimals.Unit.TheVariants.{Coordinate, Mean, Middle};
 ghost use Rattle.t1_rules.specs.StepRules.Stems.{lower, twice_middle, upper};
 
@@ -30,6 +30,10 @@ pub(crate) struct StemsText(pub(crate) Rule, pub(crate) Stem, pub(crate) SetStem
 /// The widths of three stems.
 #[derive(Clone, Copy)]
 pub(crate) struct WidthsText(pub(crate) Stem, pub(crate) Stem, pub(crate) Stem);
+
+/// How a stem is written, and how it would be with a width above 0.
+#[derive(Clone, Copy)]
+pub(crate) struct WritingText(pub(crate) Stem);
 
 /// The middles of three stems.
 #[derive(Clone, Copy)]
@@ -81,7 +85,8 @@ impl fmt::Display for StemsText {
             }
         } else {
             let against = against_words(rule);
-            write!(f, "{own}{against}{other}, set at step {step}")
+            let after = after_words(rule);
+            write!(f, "{own}{against}{other}, set at step {step}{after}")
         }
     }
 }
@@ -95,6 +100,19 @@ impl fmt::Display for WidthsText {
         let two = small_coordinate(self.1.width);
         let three = small_coordinate(self.2.width);
         write!(f, "{one} {two} {three}")
+    }
+}
+
+impl fmt::Display for WritingText {
+    ghost output = { λ t. Some (writing_text t.0) };
+
+    #[tactic(auto, unfolding(crate::specs::StepTexts::writing_text))]
+    fn fmt<W: fmt::Write>(&self, f: &mut fmt::Formatter<W>) -> fmt::Result {
+        let position = small_coordinate(self.0.position);
+        let width = small_coordinate(self.0.width);
+        let lower = coordinate(self.0.lower());
+        let extent = extent(self.0);
+        write!(f, "{position} {width} says the same as {lower} {extent}")
     }
 }
 
@@ -176,6 +194,7 @@ pub(crate) fn since_before(rule: Rule) -> &'static str
         Rule::P01 => "no move since step ",
         Rule::P03 => "nothing is drawn since step ",
         Rule::H01 => "drawn at step ",
+        Rule::P11 => "moved at step ",
         Rule::X01 | Rule::X03 => "the flex began at step ",
         Rule::K06 => "an outline or a stem at step ",
         Rule::O05 | Rule::O06 | Rule::W02 | Rule::W03 => "step ",
@@ -194,6 +213,7 @@ pub(crate) fn since_after(rule: Rule) -> &'static str
         Rule::O06 => " ended counter control",
         Rule::O08 => ", not ended by a 13",
         Rule::W03 => " calls an OtherSubr too",
+        Rule::P11 => " too, and nothing is drawn since",
         _ => "",
     }
 }
@@ -238,7 +258,7 @@ fn are_same_stems(one: Stem, other: Stem) -> bool
 fn says_overlap(rule: Rule) -> bool
     ensures { result ≡ says_overlap rule }
 {
-    !matches!(rule, Rule::H06 | Rule::H07)
+    !matches!(rule, Rule::H06 | Rule::H07 | Rule::H09)
 }
 
 /// How one stem is set against another.
@@ -247,7 +267,18 @@ fn against_words(rule: Rule) -> &'static str
 {
     match rule {
         Rule::H07 => " in place of ",
+        Rule::H09 => " and ",
         _ => " beside ",
+    }
+}
+
+/// What is said after two stems that need not overlap.
+fn after_words(rule: Rule) -> &'static str
+    ensures { result.now ≡ after_words rule }
+{
+    match rule {
+        Rule::H09 => ", share an edge",
+        _ => "",
     }
 }
 
@@ -272,6 +303,13 @@ pub(crate) fn says_width(rule: Rule) -> bool
     ensures { result ≡ says_width rule }
 {
     matches!(rule, Rule::H05)
+}
+
+/// Whether a rule speaks of how a stem is written.
+pub(crate) fn says_writing(rule: Rule) -> bool
+    ensures { result ≡ says_writing rule }
+{
+    matches!(rule, Rule::H10)
 }
 
 /// How far a stem's upper edge is above its lower one.

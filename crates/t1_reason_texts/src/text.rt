@@ -1,17 +1,22 @@
 //! The text of a reason.
 
 ghost use Rattle.std.specs.Prelude.{◌≡◌, Some, IfOk, option_map};
-ghost use Rattle.t1_reason_texts.specs.Texts.{font_reason_text, numbers_reason_text, outline_reason_text, reason_text, says_more, shown_text};
+ghost use Rattle.t1_reason_texts.specs.Texts.{drawing_reason_text, font_reason_text, numbers_reason_text, outline_reason_text, reason_text, says_more, shown_text};
 
-use crate::decimals::{Coordinates, coordinate, value};
-use crate::font_texts::{EntryText, FoundText, SubrEntryText, encoded_name, has_two};
+use crate::decimals::{Coordinates, Exact, Unit, coordinate, value};
+use crate::drawing_texts::{BeyondText, OutsideText, StrokeText, UntouchedText, end_of};
+use crate::font_texts::{
+    EntryText, FoundText, SubrEntryText, encoded_name, form_words, has_two, says_last,
+};
 use crate::names::ShownName;
 use crate::seac_texts::{CodeText, SidebearingsText, is_meant};
 use crate::step_texts::{
-    MiddlesText, QuotientText, SpanText, StemsText, TokenText, WidthsText, are_same_points,
-    bound_words, call_words, comes_next, extent, is_there, middle_that_does, needed_pairs,
-    off_words, or_more, says_width, since_after, since_before, since_none,
+    MiddlesText, QuotientText, SpanText, StemsText, TokenText, WidthsText, WritingText,
+    are_same_points, bound_words, call_words, comes_next, extent, is_there, middle_that_does,
+    needed_pairs, off_words, or_more, says_width, says_writing, since_after, since_before,
+    since_none,
 };
+use crate::word_texts::WordReasonText;
 use crate::words::{Are, Arguments, Counted, small_coordinate};
 use crate::zone_texts::{
     GapText, NeededText, NumberText, WidthText, WouldDo, ZoneText, ZonesText, from_zero, says_twice,
@@ -20,7 +25,7 @@ use arrayvec::ArrayString;
 use std::fmt;
 use std::fmt::Write;
 use t1_char::{CharToken, command_name};
-use t1_font::{Encoding, Font};
+use t1_font::Font;
 use t1_reasons::{EntryKind, Reason, Unused, fuzz_across, fuzz_that_does, scale_that_does};
 use t1_rules::Rule;
 
@@ -202,6 +207,9 @@ impl fmt::Display for OutlineReasonText<'_, '_> {
                     let span = SpanText(stem);
                     let width = extent(stem);
                     write!(f, "the stem from {span} is {width} wide")
+                } else if says_writing(rule) {
+                    let text = WritingText(stem);
+                    write!(f, "{text}")
                 } else {
                     let position = small_coordinate(stem.position);
                     write!(f, "the stem is at {position}")
@@ -237,6 +245,65 @@ impl fmt::Display for OutlineReasonText<'_, '_> {
                 write!(f, "{text}")
             }
             _ => {
+                let text = DrawingReasonText(self.0);
+                write!(f, "{text}")
+            }
+        }
+    }
+}
+
+/// The text of a reason that speaks of the drawing, or of a later one.
+#[derive(Clone, Copy)]
+struct DrawingReasonText<'a, 'b>(ReasonText<'a, 'b>);
+
+impl fmt::Display for DrawingReasonText<'_, '_> {
+    ghost output = { λ t. Some (drawing_reason_text t.0.font.now t.0.rule t.0.reason) };
+
+    #[tactic(auto, unfolding(crate::specs::Texts::drawing_reason_text))]
+    fn fmt<W: fmt::Write>(&self, f: &mut fmt::Formatter<W>) -> fmt::Result {
+        match self.0.reason {
+            Reason::Outside { point, font_box } => {
+                let text = OutsideText(point, font_box);
+                write!(f, "{text}")
+            }
+            Reason::Area { twentyfold } => {
+                let area = Exact::new(twentyfold, Unit::Area);
+                write!(f, "the area is {area}")
+            }
+            Reason::Stroke {
+                line_start,
+                start,
+                segment,
+            } => {
+                let text = StrokeText {
+                    rule: self.0.rule,
+                    line_start,
+                    start,
+                    end: end_of(segment),
+                };
+                write!(f, "{text}")
+            }
+            Reason::Beyond {
+                direction,
+                quarters,
+                place,
+                start,
+                end,
+            } => {
+                let text = BeyondText {
+                    direction,
+                    quarters,
+                    place,
+                    start,
+                    end,
+                };
+                write!(f, "{text}")
+            }
+            Reason::Untouched { stem } => {
+                let text = UntouchedText(stem);
+                write!(f, "{text}")
+            }
+            _ => {
                 let text = FontReasonText(self.0);
                 write!(f, "{text}")
             }
@@ -257,8 +324,13 @@ impl fmt::Display for FontReasonText<'_, '_> {
         match reason {
             Reason::Limit { steps } => write!(f, "more than {steps} steps"),
             Reason::Entry { found } => {
-                let entry = EntryText(rule, found);
-                write!(f, "{entry}")
+                if says_last(rule) {
+                    let found = FoundText(found);
+                    write!(f, "the last one is taken; {found}")
+                } else {
+                    let entry = EntryText(rule, found);
+                    write!(f, "{entry}")
+                }
             }
             Reason::Ids { clear, private } => {
                 let clear = value(clear);
@@ -284,17 +356,14 @@ impl fmt::Display for FontReasonText<'_, '_> {
                     write!(f, "none of {count} glyphs")
                 }
             }
-            Reason::Form { encoding } => match encoding {
-                Encoding::Absent => write!(f, "it is not there"),
-                Encoding::Standard => write!(f, "it is StandardEncoding"),
-                Encoding::Custom => write!(f, "it is an array of 256 names"),
-                Encoding::Other => {
-                    write!(
-                        f,
-                        "it is neither StandardEncoding nor an array of 256 names"
-                    )
+            Reason::Form { encoding } => {
+                let form = form_words(encoding);
+                if says_last(rule) {
+                    write!(f, "the last one is taken; {form}")
+                } else {
+                    write!(f, "{form}")
                 }
-            },
+            }
             Reason::SubrEntry {
                 number,
                 twice,
@@ -343,7 +412,7 @@ impl fmt::Display for FontReasonText<'_, '_> {
     }
 }
 
-/// The text of a reason that speaks of the numbers of an entry.
+/// The text of a reason that speaks of the numbers of an entry, or of a later one.
 #[derive(Clone, Copy)]
 struct NumbersReasonText<'a, 'b>(ReasonText<'a, 'b>);
 
@@ -420,40 +489,10 @@ impl fmt::Display for NumbersReasonText<'_, '_> {
                 let text = WidthText { width, nearest };
                 write!(f, "{text}")
             }
-            Reason::Nothing
-            | Reason::Count { .. }
-            | Reason::Full { .. }
-            | Reason::Length { .. }
-            | Reason::Ending { .. }
-            | Reason::Behind { .. }
-            | Reason::Argument { .. }
-            | Reason::Quotient { .. }
-            | Reason::Depth { .. }
-            | Reason::Subr { .. }
-            | Reason::Token { .. }
-            | Reason::Since { .. }
-            | Reason::Othersubr { .. }
-            | Reason::Arguments { .. }
-            | Reason::Pairs { .. }
-            | Reason::Open { .. }
-            | Reason::Stems { .. }
-            | Reason::Stem { .. }
-            | Reason::Triple { .. }
-            | Reason::Miss { .. }
-            | Reason::Codes { .. }
-            | Reason::Sidebearings { .. }
-            | Reason::Limit { .. }
-            | Reason::Entry { .. }
-            | Reason::Ids { .. }
-            | Reason::Features { .. }
-            | Reason::Glyphs { .. }
-            | Reason::Form { .. }
-            | Reason::SubrEntry { .. }
-            | Reason::Kind { .. }
-            | Reason::Glyph { .. }
-            | Reason::Code { .. }
-            | Reason::LastToken { .. }
-            | Reason::Waiver { .. } => Ok(()),
+            _ => {
+                let text = WordReasonText(self.0);
+                write!(f, "{text}")
+            }
         }
     }
 }

@@ -3,7 +3,7 @@ use Rattle.std.proofs.Common.{◌≡◌, ◌+◌, None, List, [], ◌∷◌, ◌
 use Rattle.t1_char.specs.Steps.{StepView}
 use Rattle.t1_char.proofs.LookingBack.{since_goes_on}
 use Rattle.t1_rules.specs.StepRules.Flex.{current_point, origin}
-use Rattle.t1_rules.specs.StepRules.Paths.{closing_step, drawing, flex_end, flex_start, in_flex}
+use Rattle.t1_rules.specs.StepRules.Paths.{closing_step, drawing, flex_end, flex_start, in_flex, outer_move}
 use Rattle.t1_rules.specs.StepRules.Seac.{makes_outline}
 use Rattle.t1_rules.specs.StepRules.Triples.{is_hstem, is_hstem3, is_vstem, is_vstem3}
 use Rattle.t1_reasons.specs.Backgrounds.{background_after, background_of, counted_step, end_on, ends_path, first_stem, outer_point_on, set_three, start_on, told_step, width_step}
@@ -31,6 +31,7 @@ background_goes_on before t =
       since_goes_on flex_start flex_end before t,
       since_goes_on drawing ends_path before t,
       carried_on (last_on closing_step) None before t,
+      carried_on (last_on outer_move) None before t,
       carried_on (last_on drawing) None before t,
       carried_on (last_on flex_start) None before t,
       carried_on (last_on width_step) None before t,

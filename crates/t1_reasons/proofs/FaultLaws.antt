@@ -26,10 +26,10 @@ use Rattle.t1_font.specs.Fonts.{FontValue}
 use Rattle.t1_rules.specs.StepRules.{breaks, breaks_at, breaks_next, charstring_rules}
 use Rattle.t1_drawing.specs.DrawingRules.{box_of, drawing_rules}
 use Rattle.t1_reasons.specs.declared.reason.Reason.{Reason}
-use Rattle.t1_reasons.specs.declared.reason.Reason.TheVariants.{Nothing}
 use Rattle.t1_reasons.specs.CharstringReasons.{told_of_step}
 use Rattle.t1_reasons.specs.FaultReasons.{FaultsHaveReasons, HasReason, IsOf, ReportedPlacesHaveReasons}
-use Rattle.t1_reasons.specs.GlyphReasons.{drawing_reason, glyph_reason, limit_reason, next_reason, reason_among, reason_at, reason_at_place}
+use Rattle.t1_reasons.specs.DrawingReasons.{drawing_reason, told_on_drawing}
+use Rattle.t1_reasons.specs.GlyphReasons.{glyph_reason, limit_reason, next_reason, reason_among, reason_at, reason_at_place}
 use Rattle.t1_reasons.specs.Reported.{ReportedFaultsHaveReasons, fault_reason, place_reason, waiver_reason}
 use Rattle.t1_reasons.specs.StepReasons.{step_reason}
 use Rattle.t1_reasons.proofs.LawProofs.{broken_where_reason}
@@ -48,7 +48,7 @@ next_has font glyph edition components rule before (Some step) =
     drawn : Bool
     drawn = has_latest_rules edition && breaks (drawing_rules (box_of font)) (number_of rule) before step
 
-    told : (b : Bool) → b ≡ is_some (if b then Some Nothing else None)
+    told : (b : Bool) → b ≡ is_some (if b then Some (told_on_drawing (box_of font) rule before step) else None)
     told true = refl
     told false = refl
 

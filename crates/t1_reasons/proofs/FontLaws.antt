@@ -20,7 +20,7 @@ use Rattle.t1_rules.specs.declared.rule.Rule.{Rule}
 use Rattle.t1_rules.specs.declared.rule.Rule.TheVariants.{F01, F02, F03, F04, F05, F06, F07, F08, F09, F10, F11, F12, F13, F14, F15, F16, F17, F18, F19, F20, F21, Z01, Z02, Z03, Z04, Z05, Z06, Z07, Z08, Z09, Z10, Z11, Z12, Z13, Z14, Z15, Z16, Z17, Z18, Z19, F22, F23, F24, F25, F26, F27, F28, F29}
 use Rattle.t1_rules.specs.Book.{last_number_before, number_of}
 use Rattle.t1_rules.specs.FontRules.{FontRule, each, each_of, first_font_rules, font_rules, later_font_rules, latest_font_rules, says, violated}
-use Rattle.t1_rules.specs.FontRules.Dictionaries.{are_exchanged as corners_exchanged, has_corners_exchanged, has_number_past_range, is_malformed, is_no_group}
+use Rattle.t1_rules.specs.FontRules.Dictionaries.{are_exchanged as corners_exchanged, has_corners_exchanged, has_equal_products, has_number_past_range, is_malformed, is_no_group, is_singular}
 use Rattle.t1_rules.specs.FontRules.Encoding.{is_no_form}
 use Rattle.t1_rules.specs.FontRules.Hints.{falls_at, has_fraction_at, has_too_many, hint_keys, is_of_another_kind, is_of_kind, is_past_fuzzes, is_past_scales, is_past_shifts, number_at, numbers_at, repeats_at}
 use Rattle.t1_rules.specs.FontRules.Ids.{differ, id_keys, is_past_range}
@@ -34,10 +34,12 @@ use Rattle.t1_rules.proofs.Lemmas.FontRules.{in_parts, later_rules_change_no_oth
 use Rattle.t1_rules.specs.declared.font_rules.zones.Edges.{Edges}
 use Rattle.t1_reasons.specs.declared.reason.EntryKind.TheVariants.{Number as OneNumber, Numbers as ManyNumbers}
 use Rattle.t1_reasons.specs.declared.reason.Reason.{Reason}
-use Rattle.t1_reasons.specs.declared.reason.Reason.TheVariants.{Corners, Entry, Following, Form, Gap, Ids, Kind, Number, Numbers, SubrEntry, TooMany, Width, Zone, Zones}
-use Rattle.t1_reasons.specs.FontReasons.{FontReasonRow, are_exchanged, are_so_many, corners_at, corners_of, first_of, first_widths_at, is_found_so, is_wrong_entry, is_wrong_found, is_wrong_listed, is_wrong_number, later_font_row, listed_in, repeats, unsnapped_at, are_near, are_two_ids, at_key, at_keys, counts_at, excess_at, fits, forms_at, is_excess, is_misfit, is_nothing, is_odd, is_unknown_form, is_wrong_subr, kinds_at, kinds_of, subrs_in, wanted_at, beside_zones, entries_at, falls, falls_in, features_at, features_in, first_in_font_row, font_row_of, found_in, gap_in, ids_at, ids_of, is_apart, is_found_number, is_near, is_unusual_feature, meetings_at, meetings_in, nearer, nearest, no_font_row, of_key, reaches_one, scale_for, told_font_row, told_in_font, widths_at, widths_in, zone_from, zone_in, zones_in}
+use Rattle.t1_reasons.specs.declared.reason.Reason.TheVariants.{Corners, Determinant, Entry, Following, Form, Gap, HighByte, Ids, Kind, Number, Numbers, SubrEntry, TooMany, Width, Zone, Zones}
+use Rattle.t1_reasons.specs.FontReasons.{FontReasonRow, are_exchanged, are_so_many, corners_at, corners_of, first_of, first_widths_at, is_found_so, is_wrong_entry, is_wrong_found, is_wrong_listed, is_wrong_number, later_font_row, latest_font_row, listed_in, repeats, unsnapped_at, are_near, are_two_ids, at_key, at_keys, counts_at, excess_at, fits, forms_at, is_excess, is_misfit, is_nothing, is_odd, is_unknown_form, is_wrong_subr, kinds_at, kinds_of, subrs_in, wanted_at, beside_zones, entries_at, falls, falls_in, features_at, features_in, first_in_font_row, font_row_of, found_in, gap_in, ids_at, ids_of, is_apart, is_found_number, is_near, is_unusual_feature, meetings_at, meetings_in, nearer, nearest, no_font_row, of_key, reaches_one, scale_for, told_font_row, told_in_font, widths_at, widths_in, zone_from, zone_in, zones_in}
 use Rattle.t1_reasons.specs.Laws.{FontReasonsAreAgainstTheirRules, FontsBreakWhereThereIsAReason, OthersCompareNumbersInFonts, ScalesDo}
 use Rattle.t1_reasons.specs.StepReasons.{is_any, only_where}
+use Rattle.t1_reasons.specs.TextReasons.{bytes_at, bytes_from, determinants_at, determinants_of, is_high_byte, is_zero_determinant, line_after}
+use Rattle.t1_words.specs.Headers.{has_high_byte, is_high}
 use Rattle.t1_reasons.proofs.LawProofs.{found_such, found_there, one_such, such_in_both, such_where, where_so}
 
 -- No rule of a table has this number.
@@ -55,7 +57,7 @@ none_says n (r ∷ rs) other font key index =
     go false e rest = rw (and-false (says r.tests font key index)) rest
 
 -- The row that alone has its number decides.
-font_row_decides : (n : ℕ) (rules : List FontRule) (place : ℕ) (r : FontRule) → slice_get rules place ≡ Some r → (number_of r.rule == n) ≡ true
+pub font_row_decides : (n : ℕ) (rules : List FontRule) (place : ℕ) (r : FontRule) → slice_get rules place ≡ Some r → (number_of r.rule == n) ≡ true
     → without_number n (take place rules) ≡ true → without_number n (drop (suc place) rules) ≡ true
     → (font : FontValue) (key index : ℕ) → violated rules n font key index ≡ says r.tests font key index
 font_row_decides n [] place r there own front rest font key index = let no : None ≡ Some r = there in cc
@@ -349,7 +351,7 @@ unsnapped font k index = go (index == 0) (first_in 1 (value_at font (width_of k)
 -- A rule that only tells.
 told_decides : (edition : Edition) (font : FontValue) (rule : Rule) (key index : ℕ)
     → violated (font_rules edition) (number_of rule) font key index ≡ is_some (first_in_font_row (told_font_row edition rule) font key index)
-told_decides edition font rule key index = and_true is_broken ∙ sym (such_where is_broken is_any (told_in_font rule font index))
+told_decides edition font rule key index = and_true is_broken ∙ sym (such_where is_broken is_any (told_in_font rule font key index))
   where
     is_broken : Bool
     is_broken = violated (font_rules edition) (number_of rule) font key index
@@ -389,6 +391,66 @@ told_later edition rule other apart font key index = go (has_later_rules edition
     go true has = told_decides edition font rule key index
     go false has =
         later_says edition (number_of rule) other apart font key index ∙ ap (λ b. b && violated later_font_rules (number_of rule) font key index) has
+
+-- The same of the latest part.
+pub latest_says : (edition : Edition) (n : ℕ) → without_number n first_font_rules ≡ true → without_number n later_font_rules ≡ true
+    → (font : FontValue) (key index : ℕ)
+    → violated (font_rules edition) n font key index ≡ (has_latest_rules edition && violated latest_font_rules n font key index)
+latest_says edition n other apart font key index =
+    in_parts edition n font key index
+    ∙ rw (
+      none_says n first_font_rules other font key index,
+      none_says n later_font_rules apart font key index,
+      and-false (has_later_rules edition),
+    ) refl
+
+latest_decides : (edition : Edition) (rule : Rule) → without_number (number_of rule) first_font_rules ≡ true
+    → without_number (number_of rule) later_font_rules ≡ true → (font : FontValue) (key index : ℕ) (row : FontReasonRow)
+    → violated latest_font_rules (number_of rule) font key index ≡ is_some (first_in_font_row row font key index)
+    → violated (font_rules edition) (number_of rule) font key index
+    ≡ is_some (first_in_font_row (if has_latest_rules edition then row else no_font_row) font key index)
+latest_decides edition rule other apart font key index row same = latest_says edition (number_of rule) other apart font key index ∙ go (has_latest_rules edition)
+  where
+    go : (b : Bool) → (b && violated latest_font_rules (number_of rule) font key index) ≡ is_some (first_in_font_row (if b then row else no_font_row) font key index)
+    go true = same
+    go false = refl
+
+high_in : (line : ℕ) (is_behind : Bool) (text : List ℕ) → has_high_byte text ≡ is_some (find is_high_byte (bytes_from line is_behind text))
+high_in line is_behind [] = refl
+high_in line is_behind (byte ∷ bytes) = go (is_high byte) (high_in (line_after line is_behind byte) (byte == 13) bytes)
+  where
+    rest : List Reason
+    rest = bytes_from (line_after line is_behind byte) (byte == 13) bytes
+
+    go : (b : Bool) → has_high_byte bytes ≡ is_some (find is_high_byte rest)
+        → (b || has_high_byte bytes) ≡ is_some (if b then Some (HighByte line byte) else find is_high_byte rest)
+    go true later = refl
+    go false later = later
+
+high_at : (font : FontValue) (index : ℕ) → (index == 0 && has_high_byte font.clear_text) ≡ is_some (find is_high_byte (bytes_at font index))
+high_at font index = where_so (index == 0) is_high_byte (bytes_from 1 false font.clear_text) (high_in 1 false font.clear_text)
+
+equal_products : (v : List ℤ) → has_equal_products v ≡ is_some (find is_zero_determinant (determinants_of v))
+equal_products [] = refl
+equal_products (a ∷ []) = refl
+equal_products (a ∷ (b ∷ [])) = refl
+equal_products (a ∷ (b ∷ (c ∷ []))) = refl
+equal_products (a ∷ (b ∷ (c ∷ (d ∷ more)))) = sym (one_such is_zero_determinant (Determinant a b c d))
+
+singular_at : (font : FontValue) (k : Key) (index : ℕ)
+    → (index == 0 && is_singular (value_at font k)) ≡ is_some (find is_zero_determinant (determinants_at font k index))
+singular_at font k index =
+    go (index == 0)
+    (where_so (is_so_many 6 (value_at font k)) is_zero_determinant (determinants_of (first_in 6 (value_at font k)))
+    (equal_products (first_in 6 (value_at font k))))
+  where
+    v : List Reason
+    v = determinants_of (first_in 6 (value_at font k))
+
+    go : (b : Bool) → is_singular (value_at font k) ≡ is_some (find is_zero_determinant (if is_so_many 6 (value_at font k) then v else []))
+        → (b && is_singular (value_at font k)) ≡ is_some (find is_zero_determinant (if b && is_so_many 6 (value_at font k) then v else []))
+    go true same = same
+    go false same = refl
 
 -- The row of a rule up to number 70 decides, in the first part of the book.
 first_decides : (edition : Edition) (n place : ℕ) (r : FontRule) → nat_le n last_number_before ≡ true → slice_get first_font_rules place ≡ Some r
@@ -506,12 +568,16 @@ fonts_broken_where_reason edition font F09 key index = told_decides edition font
 fonts_broken_where_reason edition font F10 key index = told_decides edition font F10 key index
 fonts_broken_where_reason edition font F12 key index = told_decides edition font F12 key index
 fonts_broken_where_reason edition font F13 key index = told_decides edition font F13 key index
-fonts_broken_where_reason edition font F22 key index = told_decides edition font F22 key index
+fonts_broken_where_reason edition font F22 key index = latest_decides edition F22 refl refl font key index (latest_font_row F22)
+    (font_row_decides 94 latest_font_rules 0 _ refl refl refl refl font key index
+    ∙ key_agrees is_high_byte (λ font index. index == 0 && has_high_byte font.clear_text) bytes_at high_at 0 font key index)
 fonts_broken_where_reason edition font F23 key index = told_decides edition font F23 key index
 fonts_broken_where_reason edition font F24 key index = told_decides edition font F24 key index
 fonts_broken_where_reason edition font F25 key index = told_decides edition font F25 key index
 fonts_broken_where_reason edition font F26 key index = told_decides edition font F26 key index
-fonts_broken_where_reason edition font F27 key index = told_decides edition font F27 key index
+fonts_broken_where_reason edition font F27 key index = latest_decides edition F27 refl refl font key index (latest_font_row F27)
+    (font_row_decides 99 latest_font_rules 5 _ refl refl refl refl font key index
+    ∙ keys_agree is_zero_determinant (λ font k index. index == 0 && is_singular (value_at font k)) determinants_at singular_at (FontMatrix ∷ []) font key index)
 fonts_broken_where_reason edition font F28 key index = told_decides edition font F28 key index
 fonts_broken_where_reason edition font F29 key index = told_decides edition font F29 key index
 fonts_broken_where_reason edition font F21 key index = told_later edition F21 refl refl font key index
@@ -522,12 +588,10 @@ fonts_broken_where_reason edition font rule key index =
 pub others_compare : OthersCompareNumbersInFonts
 others_compare _ F21 is = refl
 others_compare _ Z16 is = refl
-others_compare _ F22 is = refl
 others_compare _ F23 is = refl
 others_compare _ F24 is = refl
 others_compare _ F25 is = refl
 others_compare _ F26 is = refl
-others_compare _ F27 is = refl
 others_compare _ F28 is = refl
 others_compare _ F29 is = refl
 others_compare One _ is = is

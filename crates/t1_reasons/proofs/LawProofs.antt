@@ -47,7 +47,9 @@ use Rattle.t1_reasons.specs.Backgrounds.{background_of, set_three}
 use Rattle.t1_reasons.specs.Carried.{last_told}
 use Rattle.t1_reasons.specs.HintSets.{set_at, stems_set}
 use Rattle.t1_reasons.specs.Laws.{OthersCompareNumbers, ReasonsAreAgainstTheirRules, StepsBreakWhereThereIsAReason}
-use Rattle.t1_reasons.specs.StepReasons.{beside_last, beside_last_of, counters_at, have_other_edges, is_thin_stem, leaves_some, threes_at, additions_at, are_no_pairs, brings, is_full, pairs_at, arguments_in, beside, calls_at, codes_at, has_no_code, has_no_name, is_by_zero, is_outermost, is_past_quotient, is_too_deep, is_unknown_othersubr, is_unknown_token, known_calls_at, quotients_at, returns_at, count_of, counts_in, first_in_row, has_fewer, has_more, is_any, is_bad_count, is_lacking_subr, is_miscounted, is_miss, is_overlap, is_past_range, is_told_otherwise, is_uneven, is_widthless, misses_at, only_where, othersubrs_at, own_stems, pairs, pairs_with, placed_from, placed_of, row_of, sidebearings_at, single_stems_at, stems_at, step_reason, subrs_at, told_at, told_by, told_row, takes, triples_at, wants_in, with_own, call_of, clears_without_width, goes_on_in_flex, has_component, is_no_call, is_no_pop}
+use Rattle.t1_reasons.specs.declared.step_reasons.PairFlaw.TheVariants.{Overlap}
+use Rattle.t1_reasons.specs.declared.step_reasons.StemFlaw.TheVariants.{NoWidth, Thin}
+use Rattle.t1_reasons.specs.StepReasons.{beside_last, beside_last_of, counters_at, have_other_edges, is_flawed, is_flawed_pair, leaves_some, threes_at, additions_at, are_no_pairs, brings, is_full, pairs_at, arguments_in, beside, calls_at, codes_at, has_no_code, has_no_name, is_by_zero, is_outermost, is_past_quotient, is_too_deep, is_unknown_othersubr, is_unknown_token, known_calls_at, quotients_at, returns_at, count_of, counts_in, first_in_row, has_fewer, has_more, is_any, is_bad_count, is_lacking_subr, is_miscounted, is_miss, is_past_range, is_told_otherwise, is_uneven, misses_at, only_where, othersubrs_at, own_stems, pairs, pairs_with, placed_from, placed_of, row_of, sidebearings_at, single_stems_at, stems_at, step_reason, subrs_at, told_at, told_by, told_row, takes, triples_at, wants_in, with_own, call_of, clears_without_width, goes_on_in_flex, has_component, is_no_call, is_no_pop}
 use Rattle.t1_reasons.proofs.Hints.{plain, plain_hints, plain_set}
 use Rattle.t1_reasons.proofs.LastCommands.{last_three_is}
 
@@ -110,11 +112,11 @@ one_stem p [] = refl
 one_stem p (s ∷ ss) =
     sym (such_in_both p (StemAlone s ∷ []) (map (λ s. StemAlone s) ss) ∙ rw (one_such p (StemAlone s), ← one_stem p ss) refl)
 
-widthless : (step : StepView) → sets_without_width step ≡ is_some (find is_widthless (single_stems_at step))
-widthless step = where_so (is_stem step.token) is_widthless (map (λ s. StemAlone s) (stems_of step)) (one_stem is_widthless (stems_of step))
+widthless : (step : StepView) → sets_without_width step ≡ is_some (find (is_flawed NoWidth) (single_stems_at step))
+widthless step = where_so (is_stem step.token) (is_flawed NoWidth) (map (λ s. StemAlone s) (stems_of step)) (one_stem (is_flawed NoWidth) (stems_of step))
 
-thin : (step : StepView) → sets_thin step ≡ is_some (find is_thin_stem (single_stems_at step))
-thin step = where_so (is_stem step.token) is_thin_stem (map (λ s. StemAlone s) (stems_of step)) (one_stem is_thin_stem (stems_of step))
+thin : (step : StepView) → sets_thin step ≡ is_some (find (is_flawed Thin) (single_stems_at step))
+thin step = where_so (is_stem step.token) (is_flawed Thin) (map (λ s. StemAlone s) (stems_of step)) (one_stem (is_flawed Thin) (stems_of step))
 
 -- Three stems, one of which hasn't the edges of that in its place.
 not_all : (a b c : Bool) → not (a && b && c) ≡ (not a || (not b || not c))
@@ -269,29 +271,29 @@ told_otherwise components step = go (is_seac step.token) (accent components step
     go false own = refl
 
 beside_one : (edition : Edition) (own : Stem) (others : List SetStem)
-    → is_some (find (is_overlap edition) (beside own others)) ≡ list_any (overlap_by edition own) (plain others)
+    → is_some (find (is_flawed_pair (Overlap edition)) (beside own others)) ≡ list_any (overlap_by edition own) (plain others)
 beside_one edition own [] = refl
 beside_one edition own (other ∷ others) =
-    such_in_both (is_overlap edition) (Stems own other ∷ []) (beside own others)
-    ∙ rw (one_such (is_overlap edition) (Stems own other), beside_one edition own others) refl
+    such_in_both (is_flawed_pair (Overlap edition)) (Stems own other ∷ []) (beside own others)
+    ∙ rw (one_such (is_flawed_pair (Overlap edition)) (Stems own other), beside_one edition own others) refl
 
 beside_all : (edition : Edition) (stems kept : List SetStem)
-    → is_some (find (is_overlap edition) (flat_map (λ own. beside own.stem kept) stems)) ≡ one_overlaps (overlap_by edition) (plain stems) (plain kept)
+    → is_some (find (is_flawed_pair (Overlap edition)) (flat_map (λ own. beside own.stem kept) stems)) ≡ one_overlaps (overlap_by edition) (plain stems) (plain kept)
 beside_all edition [] kept = refl
 beside_all edition (own ∷ stems) kept =
-    such_in_both (is_overlap edition) (beside own.stem kept) (flat_map (λ s. beside s.stem kept) stems)
+    such_in_both (is_flawed_pair (Overlap edition)) (beside own.stem kept) (flat_map (λ s. beside s.stem kept) stems)
     ∙ rw (beside_one edition own.stem kept, beside_all edition stems kept) refl
 
-in_pairs : (edition : Edition) (stems : List SetStem) → is_some (find (is_overlap edition) (pairs stems)) ≡ two_overlap (overlap_by edition) (plain stems)
+in_pairs : (edition : Edition) (stems : List SetStem) → is_some (find (is_flawed_pair (Overlap edition)) (pairs stems)) ≡ two_overlap (overlap_by edition) (plain stems)
 in_pairs edition [] = refl
 in_pairs edition (own ∷ stems) =
-    such_in_both (is_overlap edition) (beside own.stem stems) (pairs stems)
+    such_in_both (is_flawed_pair (Overlap edition)) (beside own.stem stems) (pairs stems)
     ∙ rw (beside_one edition own.stem stems, in_pairs edition stems) refl
 
 meet : (edition : Edition) (stems kept : List SetStem)
-    → is_some (find (is_overlap edition) (pairs_with stems kept)) ≡ stems_meet (overlap_by edition) (plain stems) (plain kept)
+    → is_some (find (is_flawed_pair (Overlap edition)) (pairs_with stems kept)) ≡ stems_meet (overlap_by edition) (plain stems) (plain kept)
 meet edition stems kept =
-    such_in_both (is_overlap edition) (flat_map (λ own. beside own.stem kept) stems) (pairs stems)
+    such_in_both (is_flawed_pair (Overlap edition)) (flat_map (λ own. beside own.stem kept) stems) (pairs stems)
     ∙ rw (beside_all edition stems kept, in_pairs edition stems) refl
 
 apart : (token : CharToken) → is_command lies_across token ≡ true → is_command stands_upright token ≡ false
@@ -300,14 +302,14 @@ apart (Command Vstem3) e = let no : false ≡ true = e in cc
 apart _ e = refl
 
 overlapping : (edition : Edition) (before : List StepView) (step : StepView)
-    → sets_overlapping (overlap_by edition) before step ≡ is_some (find (is_overlap edition) (stems_at before step))
+    → sets_overlapping (overlap_by edition) before step ≡ is_some (find (is_flawed_pair (Overlap edition)) (stems_at before step))
 overlapping edition before step = go (is_command lies_across step.token) (is_command stands_upright step.token) (apart step.token)
   where
     along : (Commands → Bool) → Bool
     along direction = stems_meet (overlap_by edition) (stems_of step) (hint_set direction before)
 
     met : (direction : Commands → Bool)
-        → is_some (find (is_overlap edition) (pairs_with (own_stems before step) (stems_set direction before))) ≡ along direction
+        → is_some (find (is_flawed_pair (Overlap edition)) (pairs_with (own_stems before step) (stems_set direction before))) ≡ along direction
     met direction =
         meet edition (own_stems before step) (stems_set direction before)
         ∙ rw (plain_set (length before + 1) (stems_of step), plain_hints direction before) refl
@@ -318,7 +320,7 @@ overlapping edition before step = go (is_command lies_across step.token) (is_com
 
     go : (across upright : Bool) → (across ≡ true → upright ≡ false) →
         ((across && along lies_across) || (upright && along stands_upright))
-        ≡ is_some (find (is_overlap edition)
+        ≡ is_some (find (is_flawed_pair (Overlap edition))
         (if across then pairs_with (own_stems before step) (stems_set lies_across before)
         else (if upright then pairs_with (own_stems before step) (stems_set stands_upright before) else [])))
     go true true e = let no : true ≡ false = e refl in cc
@@ -495,7 +497,7 @@ broken_where_reason edition components H04 before step =
     row_decides 49 (charstring_rules edition components) 23 _ refl refl refl refl before step ∙ uneven step
 broken_where_reason edition components H05 before step =
     row_decides 86 (charstring_rules edition components) 39 _ refl refl refl refl before step
-    ∙ where_so (has_later_rules edition) is_thin_stem (single_stems_at step) (thin step)
+    ∙ where_so (has_later_rules edition) (is_flawed Thin) (single_stems_at step) (thin step)
 broken_where_reason edition components H07 before step =
     row_decides 88 (charstring_rules edition components) 41 _ refl refl refl refl before step
     ∙ where_so (has_later_rules edition) have_other_edges (threes_at before step) (another before step)

@@ -1,15 +1,19 @@
 mod Backgrounds
+mod DrawingTold
 mod EachStep
 mod Endings
 mod FaultLaws
 mod Finds
+mod FirstWords
 mod FontLaws
 mod Hints
 mod LastCommands
 mod LastSteps
 mod LawProofs
+mod LinesCounted
 pub mod NamedStems
 mod NamedSteps
+mod NamedWords
 mod PathStarts
 mod RemedyLaws
 mod ShortCharstrings

@@ -29,7 +29,8 @@ use Rattle.t1_reasons.specs.Carried.{carried_from, last_on, last_such, last_told
 use Rattle.t1_reasons.specs.HintSets.{all_set_at, replaces, set_at, set_by, stems_set}
 use Rattle.t1_reasons.specs.Laws.{IsLastOf, IsLastSuch}
 use Rattle.t1_reasons.specs.NamedStems.{AreInOnePlace, AreOfOneSet, IsSetAt, NamedStemsAreSet, NamesOfOther, NamesOfSet, NamesOfThree, NamesStem, is_other_command, is_same_command, names_stem}
-use Rattle.t1_reasons.specs.StepReasons.{beside, beside_last, beside_last_of, beside_one, first_of_three, have_other_edges, in_edition, is_any, is_overlap, last_of_other, only_where, own_stems, pairs, pairs_with, step_reason, stems_at, three_beside, threes_at}
+use Rattle.t1_reasons.specs.declared.step_reasons.PairFlaw.TheVariants.{Overlap}
+use Rattle.t1_reasons.specs.StepReasons.{beside, beside_last, beside_last_of, beside_one, first_of_three, have_other_edges, in_edition, is_any, is_flawed_pair, last_of_other, only_where, own_stems, pairs, pairs_with, step_reason, stems_at, three_beside, threes_at}
 use Rattle.t1_reasons.proofs.EachStep.{all_append}
 use Rattle.t1_reasons.proofs.LastCommands.{told_where_it_came}
 use Rattle.t1_reasons.proofs.LastSteps.{told_steps_are_the_last}
@@ -346,7 +347,7 @@ named_stems edition components rule before step reason names is = go rule names 
         (sym (row_decides 87 (charstring_rules edition components) 40 _ refl refl refl refl before step) ∙ broken)).1
 
     go : (r : Rule) → names_stem r ≡ true → step_reason edition components r before step ≡ Some reason → NamesStem r before step reason
-    go H02 names is = all_found (NamesOfSet before step) (is_overlap edition) (stems_at before step) (set_named before step) reason is
+    go H02 names is = all_found (NamesOfSet before step) (is_flawed_pair (Overlap edition)) (stems_at before step) (set_named before step) reason is
     go H06 names is =
         first_named before step (breaks (charstring_rules edition components) 87 before step) (last_of_other step.token (background_of before)) reason refl
         (λ broken. others_came before step.token (beside_other broken)) is

@@ -19,8 +19,12 @@ use Rattle.t1_char.proofs.TurnsTaken.{IsStepped, answered_over, stepped_is}
 use Rattle.t1_font.specs.Fonts.{FontValue}
 use Rattle.t1_drawing.specs.declared.font_box.FontBox.{FontBox}
 use Rattle.t1_drawing.specs.declared.glyph.DrawingWatcher.{DrawingWatcher}
+use Rattle.t1_drawing.specs.declared.segments.TracedSegment.{TracedSegment}
+use Rattle.t1_drawing.specs.Drawings.{traced}
 use Rattle.t1_drawing.specs.DrawingRules.{box_of, breaks_own, drawing_rules}
 use Rattle.t1_drawing.specs.Private.Standing.{BothStandFor, LatestDrawingStandsFor}
+use Rattle.t1_drawing.specs.Strokes.{segments_of}
+use Rattle.t1_outline.specs.Outlines.{drawn as drawn_by}
 use Rattle.t1_drawing.proofs.RuleNumbers.{drawing_rules_come_last}
 use Rattle.t1_rules.specs.Watches.{most_steps}
 use Rattle.t1_rules.specs.declared.mask.Mask.{Mask}
@@ -106,7 +110,7 @@ told old new same asked =
     }
 
 pub step_watched : (old new : MachineView) (kept : StepsBefore) (watches seen : Watches) (drawing drawn : DrawingWatcher) (draws : Bool) (broken : Mask)
-    → IsOfSameGlyph old new → IsAsked Returned old new (stepped new.step)
+    (segments : List TracedSegment) → IsOfSameGlyph old new → IsAsked Returned old new (stepped new.step)
     → StepsStandFor old.edition kept (take old.counted (steps_in old))
     → BothStandFor old.edition (box_of old.font) draws watches drawing (take old.counted (steps_in old))
     → ((edition : Edition) (before : List StepView) → WatchesStandFor edition watches before → length before < most_steps
@@ -115,8 +119,10 @@ pub step_watched : (old new : MachineView) (kept : StepsBefore) (watches seen : 
     → LatestDrawingStandsFor edition box drawn (before ++ new.step.step ∷ []))
     → ((edition : Edition) (box : Option FontBox) (before : List StepView) → BothStandFor edition box draws watches drawing before → length before < most_steps
     → (n : ℕ) → has broken n ≡ breaks_own edition box n before new.step.step)
-    → IsWatched new kept seen drawn broken Step
-step_watched old new kept watches seen drawing drawn draws broken same asked stands both more draws_on breaks =
+    → ((edition : Edition) (box : Option FontBox) (before : List StepView) → BothStandFor edition box draws watches drawing before → length before < most_steps
+    → has_latest_rules edition ≡ true → segments ≡ traced box (segments_of before) (drawn_by before new.step.step))
+    → IsWatched new kept seen drawn broken segments Step
+step_watched old new kept watches seen drawing drawn draws broken segments same asked stands both more draws_on breaks traces =
     let is = told old new same asked in
     let before = take old.counted (steps_in old) in
     let some : 0 < new.counted = omega (arith, is.counted) in
@@ -127,6 +133,8 @@ step_watched old new kept watches seen drawing drawn draws broken same asked sta
       watches = rw (now, same.edition) (more old.edition before both.watched (few_steps old old.counted));
       drawn = rw (now, same.edition, same.font) (draws_on old.edition (box_of old.font) before both (few_steps old old.counted));
       broken = λ few within. rw (is.before, same.edition, same.font) (breaks old.edition (box_of old.font) before both (few_steps old old.counted));
+      segments = λ latest few within.
+          rw (is.before, same.font) (traces old.edition (box_of old.font) before both (few_steps old old.counted) (rw same.edition at latest));
       answer = is.within;
     }
 
@@ -201,14 +209,14 @@ over_answer old new Limit same is other asked =
       rw (same.font, same.glyph, same.edition) (limited_long limit steps new.step (slice_get steps limit) refl turn),
     )
 
-pub over_watched : (old new : MachineView) (kept : StepsBefore) (watches : Watches) (drawing : DrawingWatcher) (broken : Mask) (answer : Answer)
-    → IsOfSameGlyph old new
+pub over_watched : (old new : MachineView) (kept : StepsBefore) (watches : Watches) (drawing : DrawingWatcher) (broken : Mask)
+    (segments : List TracedSegment) (answer : Answer) → IsOfSameGlyph old new
     → old.counted ≤ length (steps_in old) → (answer ≡ Step → ⊥) → IsAsked Returned old new (answer_view answer new.step)
     → StepsStandFor old.edition kept (take old.counted (steps_in old))
     → WatchesStandFor old.edition watches (take old.counted (steps_in old))
     → LatestDrawingStandsFor old.edition (box_of old.font) drawing (take old.counted (steps_in old))
-    → IsWatched new kept watches drawing broken answer
-over_watched old new kept watches drawing broken answer same few other asked stands watched drawn =
+    → IsWatched new kept watches drawing broken segments answer
+over_watched old new kept watches drawing broken segments answer same few other asked stands watched drawn =
     let is = over old new answer few other asked in
     let steps : steps_in new ≡ steps_in old = same_steps old new same in
     let place : new.counted - 1 ≡ old.counted = omega (arith, is.counted, is.all) in
@@ -224,6 +232,9 @@ over_watched old new kept watches drawing broken answer same few other asked sta
       watches = rw (whole, same.edition) watched;
       drawn = rw (whole, same.edition, same.font) drawn;
       broken = λ some within.
+          let none : new.counted ≤ length (steps_in old) = rw steps at within in
+          absurd (omega (arith, none, is.counted));
+      segments = λ latest some within.
           let none : new.counted ≤ length (steps_in old) = rw steps at within in
           absurd (omega (arith, none, is.counted));
       answer = over_answer old new answer same is other asked;

@@ -76,6 +76,7 @@ background_of before = record {
   outer_point = outer_point before;
   is_begun = is_begun before;
   closed = last_such closing_step before;
+  moved = last_such outer_move before;
   drawn = last_such drawing before;
   flex = last_such flex_start before;
   width = last_such width_step before;
@@ -92,8 +93,11 @@ background_of before = record {
 abbrev pub draws_in : Bool → StepView → Bool
 draws_in in_flex step = is_line step.token || (is_flex_end step && in_flex)
 
+abbrev pub moves_in : Bool → StepView → Bool
+moves_in in_flex step = is_move step.token && not in_flex
+
 abbrev pub ends_path_in : Bool → StepView → Bool
-ends_path_in in_flex step = (is_move step.token && not in_flex) || closes step.token
+ends_path_in in_flex step = moves_in in_flex step || closes step.token
 
 abbrev pub is_in_flex_after : Bool → StepView → Bool
 is_in_flex_after in_flex step = is_flex_start step || (in_flex && not (is_flex_end step))
@@ -108,6 +112,7 @@ background_after background in_flex number pen step = record {
   outer_point = if is_in_flex_after in_flex step then background.outer_point else pen;
   is_begun = draws_in in_flex step || (background.is_begun && not (ends_path_in in_flex step));
   closed = if closes step.token then Some number else background.closed;
+  moved = if moves_in in_flex step then Some number else background.moved;
   drawn = if draws_in in_flex step then Some number else background.drawn;
   flex = if is_flex_start step then Some number else background.flex;
   width = if sets_width step.token then Some number else background.width;

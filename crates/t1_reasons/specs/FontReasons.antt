@@ -6,7 +6,7 @@ use Rattle.std.specs.Option.{unwrap_or}
 use Rattle.std.specs.Ordering.{int_eq}
 use Rattle.t1_char.specs.declared.edition.Edition.{Edition}
 use Rattle.t1_char.specs.Charstrings.{tokens_in}
-use Rattle.t1_char.specs.Editions.{has_later_rules}
+use Rattle.t1_char.specs.Editions.{has_later_rules, has_latest_rules}
 use Rattle.t1_char.specs.Endings.{last_token}
 use Rattle.t1_font.specs.declared.key.Key.{Key}
 use Rattle.t1_font.specs.declared.key.Key.TheVariants.{FontType, PaintType, UniqueId, PrivateUniqueId, Password, MinFeature, BlueValues, BlueScale, BlueShift, BlueFuzz, FontMatrix, FontBBox, Xuid, LanguageGroup}
@@ -20,9 +20,10 @@ use Rattle.t1_rules.specs.FontRules.Encoding.{is_no_form}
 use Rattle.t1_rules.specs.FontRules.Hints.{hint_keys, is_past_fuzzes, is_past_scales, is_past_shifts, number_at, numbers_at}
 use Rattle.t1_rules.specs.FontRules.Ids.{id_keys, is_whole_to}
 use Rattle.t1_rules.specs.FontRules.Stems.{snap_keys, width_keys, width_of}
+use Rattle.t1_rules.specs.FontRules.Texts.{plain_keys}
 use Rattle.t1_rules.specs.FontRules.Values.{count_in, first_in, is_so_many, is_whole, product_one, whole}
 use Rattle.t1_rules.specs.FontRules.Zones.{begins_zone, distance, high_of, low_zone_keys, scale, zone_keys}
-use Rattle.t1_rules.specs.Keys.{encoding_key, index_count, key_among, list_limit_of, subrs_key, value_at, xuid_limit}
+use Rattle.t1_rules.specs.Keys.{encoding_key, file_key, index_count, key_among, list_limit_of, subrs_key, value_at, xuid_limit}
 use Rattle.t1_scan.specs.Numbers.{billion}
 use Rattle.t1_rules.specs.declared.font_rules.zones.Edges.{Edges}
 use Rattle.t1_reasons.specs.declared.reason.EntryKind.{EntryKind}
@@ -30,8 +31,9 @@ use Rattle.t1_reasons.specs.declared.reason.EntryKind.TheVariants.{Number as One
 use Rattle.t1_reasons.specs.declared.reason.Found.{Found}
 use Rattle.t1_reasons.specs.declared.reason.Found.TheVariants.{Absent, One, Other, Several}
 use Rattle.t1_reasons.specs.declared.reason.Reason.{Reason}
-use Rattle.t1_reasons.specs.declared.reason.Reason.TheVariants.{Code, Corners, Entry, Following, Features, Form, Gap, Glyph, Glyphs, Ids, Kind, LastToken, Nothing, Number, Numbers, SubrEntry, TooMany, Width, Zone, Zones}
+use Rattle.t1_reasons.specs.declared.reason.Reason.TheVariants.{Code, Corners, Entry, FirstLine, Following, Features, Form, Gap, Glyph, Glyphs, Ids, Kind, LastToken, Nothing, Number, Numbers, SubrEntry, TooMany, Width, Zone, Zones}
 use Rattle.t1_reasons.specs.StepReasons.{is_any, only_where}
+use Rattle.t1_reasons.specs.TextReasons.{bytes_at, determinants_at, is_high_byte, is_zero_determinant, private_unbegun, unknown_word, unpaired_word, unread_word}
 
 -- ---- candidates
 
@@ -339,17 +341,31 @@ font_reason_row candidates is_against = record { candidates = candidates; is_aga
 abbrev pub entry_row : Rule → List Key → FontReasonRow
 entry_row rule keys = font_reason_row (at_keys keys entries_at) (is_wrong_entry rule)
 
+-- What was taken last of an entry that is given twice.
+abbrev pub last_of : FontValue → Option Key → Reason
+last_of font (Some k) = Entry (found_in (value_at font k))
+last_of font None = Form font.encoding
+
+abbrev pub last_given : FontValue → ℕ → Reason
+last_given font key = last_of font (key_among plain_keys key)
+
 -- A rule that tells where the font breaks it, and of what.
-abbrev pub told_in_font : Rule → FontValue → ℕ → Reason
-told_in_font F09 font index = Glyphs (length font.glyphs)
-told_in_font F10 font index = Glyph index
-told_in_font F13 font index = Code index
-told_in_font F21 font index = last_token_of font (lookup (nat_eq index) font.subrs)
-told_in_font _ font index = Nothing
+abbrev pub told_in_font : Rule → FontValue → ℕ → ℕ → Reason
+told_in_font F09 font key index = Glyphs (length font.glyphs)
+told_in_font F10 font key index = Glyph index
+told_in_font F13 font key index = Code index
+told_in_font F21 font key index = last_token_of font (lookup (nat_eq index) font.subrs)
+told_in_font F23 font key index = last_given font key
+told_in_font F24 font key index = unread_word font
+told_in_font F25 font key index = unpaired_word font
+told_in_font F26 font key index = unknown_word font
+told_in_font F28 font key index = private_unbegun font
+told_in_font F29 font key index = FirstLine
+told_in_font _ font key index = Nothing
 
 abbrev pub told_in_fonts : Edition → Rule → FontValue → ℕ → ℕ → List Reason
 told_in_fonts edition rule font key index =
-    only_where (violated (font_rules edition) (number_of rule) font key index) (told_in_font rule font index)
+    only_where (violated (font_rules edition) (number_of rule) font key index) (told_in_font rule font key index)
 
 abbrev pub told_font_row : Edition → Rule → FontReasonRow
 told_font_row edition rule = font_reason_row (told_in_fonts edition rule) is_any
@@ -360,7 +376,7 @@ no_font_row = font_reason_row (λ font key index. []) (λ reason. false)
 
 -- The rules on fonts that compare nothing. Z16 tells the standard width that has no snap beside it.
 abbrev pub font_rules_that_only_tell : List Rule
-font_rules_that_only_tell = F01 ∷ F02 ∷ F09 ∷ F10 ∷ F12 ∷ F13 ∷ F21 ∷ Z16 ∷ F22 ∷ F23 ∷ F24 ∷ F25 ∷ F26 ∷ F27 ∷ F28 ∷ F29 ∷ []
+font_rules_that_only_tell = F01 ∷ F02 ∷ F09 ∷ F10 ∷ F12 ∷ F13 ∷ F21 ∷ Z16 ∷ F23 ∷ F24 ∷ F25 ∷ F26 ∷ F28 ∷ F29 ∷ []
 
 -- The rows of the rules after number 70, in an edition that has them.
 abbrev pub later_font_row : Edition → Rule → FontReasonRow
@@ -382,7 +398,13 @@ later_font_row edition Z18 = entry_row Z18 (BlueShift ∷ [])
 later_font_row edition Z19 = entry_row Z19 (BlueFuzz ∷ [])
 later_font_row edition _ = no_font_row
 
--- Each rule's row: those of the rules up to number 70, of those after number 93, which only tell, and the others.
+-- The rows of the rules after number 93 that compare numbers, in an edition that has them.
+abbrev pub latest_font_row : Rule → FontReasonRow
+latest_font_row F22 = font_reason_row (at_key file_key bytes_at) is_high_byte
+latest_font_row F27 = font_reason_row (at_keys (FontMatrix ∷ []) determinants_at) is_zero_determinant
+latest_font_row _ = no_font_row
+
+-- Each rule's row: those of the rules up to number 70, of those after number 93, and the others.
 abbrev pub font_row_of : Edition → Rule → FontReasonRow
 font_row_of edition F01 = told_font_row edition F01
 font_row_of edition F02 = told_font_row edition F02
@@ -409,12 +431,12 @@ font_row_of edition Z08 = entry_row Z08 width_keys
 font_row_of edition Z09 = font_reason_row (at_keys snap_keys excess_at) is_excess
 font_row_of edition Z10 = font_reason_row (at_keys snap_keys (λ font k index. falls_in (numbers_at font k) index)) falls
 font_row_of edition Z11 = font_reason_row (at_keys snap_keys widths_at) is_apart
-font_row_of edition F22 = told_font_row edition F22
+font_row_of edition F22 = if has_latest_rules edition then latest_font_row F22 else no_font_row
 font_row_of edition F23 = told_font_row edition F23
 font_row_of edition F24 = told_font_row edition F24
 font_row_of edition F25 = told_font_row edition F25
 font_row_of edition F26 = told_font_row edition F26
-font_row_of edition F27 = told_font_row edition F27
+font_row_of edition F27 = if has_latest_rules edition then latest_font_row F27 else no_font_row
 font_row_of edition F28 = told_font_row edition F28
 font_row_of edition F29 = told_font_row edition F29
 font_row_of edition rule = if has_later_rules edition then later_font_row edition rule else no_font_row

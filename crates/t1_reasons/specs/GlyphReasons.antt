@@ -6,11 +6,14 @@ use Rattle.t1_char.specs.declared.machine.Answer.TheVariants.{Step, Ended, Limit
 use Rattle.t1_char.specs.Editions.{has_latest_rules, limit_of}
 use Rattle.t1_char.specs.Steps.{StepView, steps_of}
 use Rattle.t1_char.specs.Turns.{MachineView, step_of_number}
-use Rattle.t1_drawing.specs.declared.font_box.FontBox.{FontBox}
 use Rattle.t1_drawing.specs.declared.glyph.DrawingWatcher.{DrawingWatcher}
-use Rattle.t1_drawing.specs.DrawingRules.{box_of, breaks_own, drawing_rules}
+use Rattle.t1_drawing.specs.declared.segments.TracedSegment.{TracedSegment}
+use Rattle.t1_drawing.specs.Drawings.{traced}
+use Rattle.t1_drawing.specs.DrawingRules.{box_of, breaks_own}
 use Rattle.t1_drawing.specs.Private.Standing.{LatestDrawingStandsFor}
+use Rattle.t1_drawing.specs.Strokes.{segments_of}
 use Rattle.t1_font.specs.Fonts.{FontValue}
+use Rattle.t1_outline.specs.Outlines.{drawn as drawn_by}
 use Rattle.t1_rules.specs.declared.mask.Mask.{Mask}
 use Rattle.t1_rules.specs.declared.rule.Rule.{Rule}
 use Rattle.t1_rules.specs.declared.rule.Rule.TheVariants.{C01, L01}
@@ -20,18 +23,13 @@ use Rattle.t1_rules.specs.Components.{components_of}
 use Rattle.t1_rules.specs.Private.Standing.{WatchesStandFor}
 use Rattle.t1_rules.specs.Book.{last_number_of_third, number_of}
 use Rattle.t1_rules.specs.Mask.{has}
-use Rattle.t1_rules.specs.StepRules.{breaks}
 use Rattle.t1_reasons.specs.declared.reason.Reason.{Reason}
-use Rattle.t1_reasons.specs.declared.reason.Reason.TheVariants.{Limit as PastLimit, Nothing}
+use Rattle.t1_reasons.specs.declared.reason.Reason.TheVariants.{Limit as PastLimit}
 use Rattle.t1_reasons.specs.declared.steps_before.StepsBefore.{StepsBefore}
 use Rattle.t1_reasons.specs.CharstringReasons.{IsShorter, told_of_step}
+use Rattle.t1_reasons.specs.DrawingReasons.{drawing_reason}
 use Rattle.t1_reasons.specs.Standing.{StepsStandFor}
 use Rattle.t1_reasons.specs.StepReasons.{step_reason}
-
--- Rules on the drawing tell where they are broken.
-abbrev pub drawing_reason : Edition → Option FontBox → Rule → List StepView → StepView → Option Reason
-drawing_reason edition box rule before step =
-    if has_latest_rules edition && breaks (drawing_rules box) (number_of rule) before step then Some Nothing else None
 
 -- Of a step of a glyph, given those before it, with what its charstring tells.
 abbrev pub told_reason : FontValue → ℕ → Edition → List Component → Rule → List StepView → StepView → Option Reason
@@ -87,15 +85,17 @@ IsAnswer Step m = m.counted ≤ length (steps_in m)
 IsAnswer Ended m = (m.counted ≡ length (steps_in m) + 1) × (length (steps_of m.font m.glyph) ≤ limit_of m.edition)
 IsAnswer Limit m = (m.counted ≡ length (steps_in m) + 1) × (limit_of m.edition < length (steps_of m.font m.glyph))
 
--- What is kept is that of the steps before the step in hand, and the set has what this breaks of the rules on its glyph's own steps and of
--- those on the drawing.
-pub record IsWatched (m : MachineView) (steps : StepsBefore) (watchers : Watches) (drawing : DrawingWatcher) (mask : Mask) (last : Answer) : Type 0 where
+-- What is kept is that of the steps before the step in hand; the set has what this breaks of the rules on its glyph's own steps and of
+-- those on the drawing, and the segments are what it draws, in the editions that have rules on that.
+pub record IsWatched (m : MachineView) (steps : StepsBefore) (watchers : Watches) (drawing : DrawingWatcher) (mask : Mask) (drawn_here : List TracedSegment) (last : Answer) : Type 0 where
   pub in_hand : IsInHand m
   pub kept : StepsStandFor m.edition steps (take (m.counted - 1) (steps_in m))
   pub watches : WatchesStandFor m.edition watchers (take m.counted (steps_in m))
   pub drawn : LatestDrawingStandsFor m.edition (box_of m.font) drawing (take m.counted (steps_in m))
   pub broken : 0 < m.counted → m.counted ≤ length (steps_in m)
       → (n : ℕ) → has mask n ≡ breaks_own m.edition (box_of m.font) n (take (m.counted - 1) (steps_in m)) m.step.step
+  pub segments : has_latest_rules m.edition ≡ true → 0 < m.counted → m.counted ≤ length (steps_in m)
+      → drawn_here ≡ traced (box_of m.font) (segments_of (take (m.counted - 1) (steps_in m))) (drawn_by (take (m.counted - 1) (steps_in m)) m.step.step)
   pub answer : IsAnswer last m
 
 -- The machine executes this glyph of the font by this edition, and the font has that glyph.

@@ -1,6 +1,7 @@
 pub mod Backgrounds
 pub mod Carried
 pub mod CharstringReasons
+pub mod DrawingReasons
 pub mod FaultReasons
 pub mod FontReasons
 pub mod GlyphReasons
@@ -8,10 +9,12 @@ pub mod HintSets
 pub mod Laws
 pub mod NamedStems
 pub mod NamedSteps
+pub mod NamedWords
 pub mod Private
 pub mod PathStarts
 pub mod Remedies
 pub mod Reported
 pub mod Standing
 pub mod StepReasons
+pub mod TextReasons
 pub mod UnusedWaivers

@@ -17,6 +17,7 @@ use Rattle.t1_char.specs.Stacks.{from_top, most_numbers}
 use Rattle.t1_char.specs.Effects.{most_calls}
 use Rattle.t1_char.specs.Steps.{StepView, is_callsubr, is_number, is_return}
 use Rattle.t1_char.specs.Seacs.{is_seac}
+use Rattle.t1_drawing.specs.StemEdges.{are_adjacent, has_negative_width}
 use Rattle.t1_rules.specs.declared.rule.Rule.{Rule}
 use Rattle.t1_rules.specs.declared.rule.Rule.TheVariants.{C01, C02, C03, C04, C05, C06, C07, C08, C09, S01, S02, S03, S04, GE01, GE02, W01, W02, P01, P02, P03, W03, H01, H02, H03, H04, H05, H06, H07, R01, R02, X01, X02, X03, X04, X05, X06, O01, O02, O03, O04, O05, O06, O07, O08, K01, K02, K03, K04, K05, K06, K07}
 use Rattle.t1_rules.specs.declared.sidebearings.Component.{Component}
@@ -38,6 +39,10 @@ use Rattle.t1_reasons.specs.declared.background.Background.{Background}
 use Rattle.t1_reasons.specs.declared.background.SetTriple.{SetTriple}
 use Rattle.t1_reasons.specs.declared.reason.Reason.{Reason}
 use Rattle.t1_reasons.specs.declared.reason.SetStem.{SetStem}
+use Rattle.t1_reasons.specs.declared.step_reasons.PairFlaw.{PairFlaw}
+use Rattle.t1_reasons.specs.declared.step_reasons.PairFlaw.TheVariants.{Overlap, SharedEdge}
+use Rattle.t1_reasons.specs.declared.step_reasons.StemFlaw.{StemFlaw}
+use Rattle.t1_reasons.specs.declared.step_reasons.StemFlaw.TheVariants.{Negative, NoWidth, Thin}
 use Rattle.t1_reasons.specs.Backgrounds.{background_of, set_three}
 use Rattle.t1_reasons.specs.Carried.{last_told}
 use Rattle.t1_reasons.specs.HintSets.{all_set_at, set_at, stems_set}
@@ -226,14 +231,15 @@ abbrev pub is_bad_count : Reason → Bool
 is_bad_count (Arguments count there) = not (is_good_count there count)
 is_bad_count _ = false
 
-abbrev pub is_widthless : Reason → Bool
-is_widthless (StemAlone stem) = has_no_width stem
-is_widthless _ = false
+-- A stem has no width, one below half a unit, or one below 0 that doesn't mean one edge.
+abbrev pub has_flaw : StemFlaw → Stem → Bool
+has_flaw NoWidth stem = has_no_width stem
+has_flaw Thin stem = is_thin stem
+has_flaw Negative stem = has_negative_width stem
 
--- It has a width below half a unit.
-abbrev pub is_thin_stem : Reason → Bool
-is_thin_stem (StemAlone stem) = is_thin stem
-is_thin_stem _ = false
+abbrev pub is_flawed : StemFlaw → Reason → Bool
+is_flawed flaw (StemAlone stem) = has_flaw flaw stem
+is_flawed flaw _ = false
 
 -- Two stems don't have the same edges.
 abbrev pub have_other_edges : Reason → Bool
@@ -253,9 +259,14 @@ abbrev pub is_lacking_subr : Reason → Bool
 is_lacking_subr (Subr number found) = not found
 is_lacking_subr _ = false
 
-abbrev pub is_overlap : Edition → Reason → Bool
-is_overlap edition (Stems own other) = overlap_by edition own other.stem
-is_overlap edition _ = false
+-- Two stems overlap by an edition, or share an edge.
+abbrev pub have_flaw : PairFlaw → Stem → Stem → Bool
+have_flaw (Overlap edition) own other = overlap_by edition own other
+have_flaw SharedEdge own other = are_adjacent own other
+
+abbrev pub is_flawed_pair : PairFlaw → Reason → Bool
+is_flawed_pair flaw (Stems own other) = have_flaw flaw own other.stem
+is_flawed_pair flaw _ = false
 
 -- A point comes after its move, and the end after seven of each.
 abbrev pub are_pairs : ℕ → ℕ → Bool → Bool
@@ -448,8 +459,8 @@ row_of edition components P01 = told_row edition components P01 is_any
 row_of edition components P02 = told_row edition components P02 is_any
 row_of edition components P03 = told_row edition components P03 is_any
 row_of edition components H01 = told_row edition components H01 is_any
-row_of edition components H02 = reason_row stems_at (is_overlap edition)
-row_of edition components H03 = reason_row (λ before step. single_stems_at step) is_widthless
+row_of edition components H02 = reason_row stems_at (is_flawed_pair (Overlap edition))
+row_of edition components H03 = reason_row (λ before step. single_stems_at step) (is_flawed NoWidth)
 row_of edition components H04 = reason_row (λ before step. triples_at step) is_uneven
 row_of edition components R01 = told_row edition components R01 is_no_pop
 row_of edition components R02 = told_row edition components R02 is_no_call
@@ -470,7 +481,7 @@ row_of edition components K04 = told_row edition components K04 (has_component c
 row_of edition components K05 = reason_row (λ before step. sidebearings_at components step) is_told_otherwise
 row_of edition components K06 = told_row edition components K06 is_any
 row_of edition components K07 = told_row edition components K07 (has_component components (λ code component. is_without_sidebearing component))
-row_of edition components H05 = reason_row (λ before step. in_edition edition (single_stems_at step)) is_thin_stem
+row_of edition components H05 = reason_row (λ before step. in_edition edition (single_stems_at step)) (is_flawed Thin)
 row_of edition components H06 = told_row edition components H06 is_any
 row_of edition components H07 = reason_row (λ before step. in_edition edition (threes_at before step)) have_other_edges
 row_of edition components O05 = told_row edition components O05 is_any

@@ -2,7 +2,7 @@
 
 ghost use Rattle.std.specs.Prelude.{◌≡◌, ◌&&◌, ◌||◌, not, Some, if◌then◌else◌};
 ghost use Rattle.t1_char.specs.StepValues.{step_view};
-ghost use Rattle.t1_reasons.specs.Backgrounds.{background_after, draws_in, ends_path_in, first_stem, is_in_flex_after, outlines_in, set_three};
+ghost use Rattle.t1_reasons.specs.Backgrounds.{background_after, draws_in, ends_path_in, first_stem, is_in_flex_after, moves_in, outlines_in, set_three};
 ghost use Rattle.t1_rules.specs.StepRules.Counters.{ends_counting, is_told};
 ghost use Rattle.t1_rules.specs.StepRules.Othersubrs.{calls_by_numbers};
 
@@ -27,6 +27,8 @@ pub(crate) struct Background {
     is_begun: bool,
     /// The last closepath.
     pub(crate) closed: Option<u32>,
+    /// The last move outside flex.
+    pub(crate) moved: Option<u32>,
     /// The last step that drew a line, a curve or a flex.
     pub(crate) drawn: Option<u32>,
     /// The last start of a flex.
@@ -64,6 +66,7 @@ impl Background {
         outer_point: Point { x: 0, y: 0 },
         is_begun: false,
         closed: None,
+        moved: None,
         drawn: None,
         flex: None,
         width: None,
@@ -88,6 +91,7 @@ impl Background {
             outer_point: point_after(pen, is_in_flex_after(step, in_flex), self.outer_point),
             is_begun: draws | (self.is_begun & !ends_path_in(step, in_flex)),
             closed: last(self.closed, closes(step.token), number),
+            moved: last(self.moved, moves_in(step, in_flex), number),
             drawn: last(self.drawn, draws, number),
             flex: last(self.flex, step.starts_flex(), number),
             width: last(self.width, sets_width(step.token), number),
@@ -109,11 +113,18 @@ fn draws_in(step: &Step, in_flex: bool) -> bool
     is_line(step.token) | (step.ends_flex() & in_flex)
 }
 
+/// Whether a step moves, being in flex or not.
+fn moves_in(step: &Step, in_flex: bool) -> bool
+    ensures { result ≡ moves_in in_flex (step_view step.now) }
+{
+    is_move(step.token) & !in_flex
+}
+
 /// Whether the next step that draws begins a path, where a step is in flex or not.
 fn ends_path_in(step: &Step, in_flex: bool) -> bool
     ensures { result ≡ ends_path_in in_flex (step_view step.now) }
 {
-    (is_move(step.token) & !in_flex) | closes(step.token)
+    moves_in(step, in_flex) | closes(step.token)
 }
 
 /// Whether the step after a step is in flex, where that is or isn't.

@@ -14,6 +14,9 @@ ghost use Rattle.t1_rules.specs.Keys.{encoding_key, subrs_key};
 use crate::entry_reasons::{entry_reason, found_in};
 use crate::later_font_reasons::later_reason;
 use crate::reason::{EntryKind, Reason};
+use crate::text_reasons::{
+    last_given, latest_reason, private_unbegun, unknown_word, unpaired_word, unread_word,
+};
 use t1_char::{Edition, last_token};
 use t1_font::{Encoding, Entry, Font, Key};
 use t1_rules::{
@@ -75,12 +78,10 @@ pub fn font_reason(
         | Rule::F10
         | Rule::F12
         | Rule::F13
-        | Rule::F22
         | Rule::F23
         | Rule::F24
         | Rule::F25
         | Rule::F26
-        | Rule::F27
         | Rule::F28
         | Rule::F29 => told_reason(font, rule, key, index, edition),
         Rule::F03 => entry_reason(rule, font, key_among(&[Key::FontType], key)?, index),
@@ -91,6 +92,9 @@ pub fn font_reason(
         Rule::F08 => feature_reason(font, key_among(&[Key::MinFeature], key)?, index),
         Rule::F11 => form_reason(font, key, index),
         Rule::F14 => subr_reason(font, key, index),
+        Rule::F22 | Rule::F27 if edition.has_latest_rules() => latest_reason(
+            font, rule, key, index,
+        ),
         Rule::Z01 => kind_reason(font, key_among(&HINT_KEYS, key)?, index),
         Rule::Z02 => excess_reason(font, key_among(&ZONE_KEYS, key)?, index),
         Rule::Z03 => odd_reason(font, key_among(&ZONE_KEYS, key)?, index),
@@ -118,14 +122,14 @@ pub(crate) fn told_reason(
     ensures { result ≡ first_in_font_row (told_font_row edition rule) font.now key index }
 {
     if font_faults(font, key, index, edition).has(rule) {
-        Some(told_in_font(rule, font, index))
+        Some(told_in_font(rule, font, key, index))
     } else {
         None
     }
 }
 
-fn told_in_font(rule: Rule, font: &Font<'_>, index: u32) -> Reason
-    ensures { result ≡ told_in_font rule font.now index }
+fn told_in_font(rule: Rule, font: &Font<'_>, key: u8, index: u32) -> Reason
+    ensures { result ≡ told_in_font rule font.now key index }
 {
     match rule {
         Rule::F09 => Reason::Glyphs {
@@ -134,6 +138,12 @@ fn told_in_font(rule: Rule, font: &Font<'_>, index: u32) -> Reason
         Rule::F10 => Reason::Glyph { glyph: index },
         Rule::F13 => Reason::Code { code: index },
         Rule::F21 => last_token_of(font, index),
+        Rule::F23 => last_given(font, key),
+        Rule::F24 => unread_word(font),
+        Rule::F25 => unpaired_word(font),
+        Rule::F26 => unknown_word(font),
+        Rule::F28 => private_unbegun(font),
+        Rule::F29 => Reason::FirstLine,
         _ => Reason::Nothing,
     }
 }

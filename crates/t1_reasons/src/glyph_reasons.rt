@@ -1,21 +1,23 @@
 //! The reasons of a glyph's faults, in their order.
 
-ghost use Rattle.std.specs.Prelude.{◌≡◌, ◌<◌, ◌≤◌, ◌+◌, ◌-◌, if◌then◌else◌, true, false, None, Some, length, take};
-ghost use Rattle.t1_char.specs.Editions.{limit_of};
+ghost use Rattle.std.specs.Prelude.{◌≡◌, ◌<◌, ◌≤◌, ◌+◌, ◌-◌, true, false, length, take};
+ghost use Rattle.t1_char.specs.Editions.{has_latest_rules, limit_of};
+ghost use Rattle.t1_char.specs.StepValues.{step_view};
+ghost use Rattle.t1_drawing.specs.DrawingRules.{box_of};
+ghost use Rattle.t1_reasons.specs.DrawingReasons.{drawing_reason, told_on_drawing};
 ghost use Rattle.t1_reasons.specs.GlyphReasons.{GoesTo, IsInHand, IsOfSameGlyph, is_step, limit_reason, reason_at, steps_in};
-ghost use Rattle.t1_reasons.specs.declared.reason.Reason.TheVariants.{Nothing};
 ghost use Rattle.t1_reasons.specs.Standing.{StepsStandFor};
-ghost use Rattle.t1_rules.specs.Book.{number_of};
+ghost use Rattle.t1_rules.specs.Book.{last_number_of_third, number_of};
 ghost use Rattle.t1_rules.specs.Components.{AreOf};
-ghost use Rattle.t1_rules.specs.Mask.{has};
 ghost use Rattle.t1_rules.specs.Private.Standing.{WatchesStandFor};
 
 use crate::charstring_reasons::told_of_step;
+use crate::drawing_reasons::{area_of_drawing, stem_left, told_of_segments};
 use crate::reason::Reason;
 use crate::steps_before::StepsBefore;
 use std::marker::Model;
-use t1_char::{Answer, Edition, Machine, Numbers};
-use t1_drawing::{DrawingWatcher, FontBox};
+use t1_char::{Answer, Edition, Machine, Numbers, Step};
+use t1_drawing::{DrawingWatcher, FontBox, TracedSegments};
 use t1_font::Font;
 use t1_rules::{Mask, Rule, Sidebearings, Watch, Watches};
 
@@ -37,6 +39,8 @@ pub struct GlyphReasons<'a> {
     drawing: DrawingWatcher,
     /// What the step in hand breaks of the rules on its glyph's own steps and on the drawing.
     broken: Mask,
+    /// What it draws, where the edition has rules on the drawing.
+    segments: TracedSegments,
     /// What the machine answered last.
     answer: Answer,
 }
@@ -49,7 +53,7 @@ impl<'a> Model for GlyphReasons<'a> {
 
     ghost view = { λ r. r.machine };
 
-    ghost invariant = { λ r. IsWatched r.machine r.before r.watches r.drawing r.broken r.answer
+    ghost invariant = { λ r. IsWatched r.machine r.before r.watches r.drawing r.broken r.segments.items r.answer
         × IsBegun r.machine r.font.now r.glyph r.edition };
 }
 
@@ -71,6 +75,7 @@ impl<'a> GlyphReasons<'a> {
             watches: Watches::start(edition),
             drawing: DrawingWatcher::start(FontBox::of_font(font)),
             broken: Mask::empty(),
+            segments: TracedSegments::new(),
             answer: Answer::Step,
         }
     }
@@ -112,7 +117,7 @@ impl<'a> GlyphReasons<'a> {
             Answer::Step => {
                 let step = self.machine.current();
                 if rule.number() > LAST_OF_THIRD {
-                    return drawing_reason(self.broken, rule);
+                    return self.drawing_reason(rule, step);
                 }
                 let broken = self.broken.join(sidebearings.see(step));
                 let reason = self.before.reason(rule, step, sidebearings, broken);
@@ -120,6 +125,37 @@ impl<'a> GlyphReasons<'a> {
             }
             Answer::Ended => None,
             Answer::Limit => limit_reason(sidebearings.edition(), rule),
+        }
+    }
+
+    /// Why the step in hand breaks a rule on the drawing.
+    fn drawing_reason(&self, rule: Rule, step: &Step) -> Option<Reason>
+        requires past { last_number_of_third < number_of rule }
+        requires some { 0 < self.now.counted }
+        requires few { self.now.counted ≤ length (steps_in self.now) }
+        requires step { step_view step.now ≡ self.now.step.step }
+        ensures { result ≡ drawing_reason self.now.edition (box_of self.now.font) rule (take (self.now.counted - 1) (steps_in self.now)) self.now.step.step }
+    {
+        if self.broken.has(rule) {
+            Some(self.told_on_drawing(rule, step))
+        } else {
+            None
+        }
+    }
+
+    /// What a rule on the drawing tells of the step in hand.
+    fn told_on_drawing(&self, rule: Rule, step: &Step) -> Reason
+        requires latest { has_latest_rules self.now.edition ≡ true }
+        requires some { 0 < self.now.counted }
+        requires few { self.now.counted ≤ length (steps_in self.now) }
+        requires step { step_view step.now ≡ self.now.step.step }
+        ensures { result ≡ told_on_drawing (box_of self.now.font) rule (take (self.now.counted - 1) (steps_in self.now)) self.now.step.step }
+    {
+        match rule {
+            Rule::P05 => area_of_drawing(self.drawing.area()),
+            Rule::H08 => stem_left(self.drawing.untouched()),
+            Rule::P11 | Rule::H09 | Rule::H10 => self.before.told_of(rule, step),
+            _ => told_of_segments(FontBox::of_font(self.font), rule, self.segments.as_slice()),
         }
     }
 
@@ -162,24 +198,15 @@ impl<'a> GlyphReasons<'a> {
         self.answer = self.machine.go_on(Numbers::Returned);
         if is_step(self.answer) {
             let draws = self.edition.has_latest_rules();
-            self.broken = self
+            let traced = self
                 .drawing
-                .see_where(draws, &mut self.watches, self.machine.current());
+                .trace_where(draws, &mut self.watches, self.machine.current());
+            self.broken = traced.broken;
+            self.segments = traced.segments;
             true
         } else {
             false
         }
-    }
-}
-
-/// Why a step breaks a rule on the drawing: that it does.
-fn drawing_reason(broken: Mask, rule: Rule) -> Option<Reason>
-    ensures { result ≡ (if has broken (number_of rule) then Some Nothing else None) }
-{
-    if broken.has(rule) {
-        Some(Reason::Nothing)
-    } else {
-        None
     }
 }
 

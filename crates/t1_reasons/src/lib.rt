@@ -15,6 +15,7 @@
 //! - the report has a fault of a glyph exactly where [`GlyphReasons::reason`] returns a reason;
 //! - a waiver isn't used exactly where what [`unused_reason`] returns of it holds;
 //! - a step that a reason names is one that its rule speaks of, and a stem was set at the step that is named with it;
+//! - a word that a reason names is the first of its kind in the font's texts;
 //! - what would do ([`scale_that_does`]) does, and nothing beyond it;
 //! - no call takes memory or fails, and no index, sum, product or cast goes wrong.
 //!
@@ -29,6 +30,7 @@
 
 mod background;
 mod charstring_reasons;
+mod drawing_reasons;
 mod entry_reasons;
 mod font_reasons;
 mod glyph_reasons;
@@ -40,6 +42,8 @@ mod remedies;
 mod reported;
 mod step_reasons;
 mod steps_before;
+mod text_laws;
+mod text_reasons;
 mod waivers;
 
 pub use font_reasons::font_reason;
@@ -54,7 +58,8 @@ pub use laws::{
     scale_does_for_all, scales_do, steps_break_where_there_is_a_reason, told_steps_are_the_last,
     waivers_are_unused_for_a_reason,
 };
-pub use reason::{EntryKind, Found, Reason, SetStem};
+pub use reason::{EntryKind, FontText, Found, Reason, SetStem};
 pub use remedies::{fuzz_across, fuzz_that_does, scale_that_does};
 pub use reported::ReportReasons;
+pub use text_laws::{lines_are_counted, named_words_are_the_first};
 pub use waivers::{Unused, unused_reason};

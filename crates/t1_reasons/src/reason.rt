@@ -2,7 +2,9 @@
 
 use crate::waivers::Unused;
 use t1_char::{CharToken, Command};
+use t1_drawing::{Direction, FontBox, UntouchedStem};
 use t1_font::Encoding;
+use t1_outline::Segment;
 use t1_rules::{Edges, Point, Stem};
 
 /// What a rule compares where it is broken, or what it tells of that place. Numbers of charstrings are in units of 1/65536, those of
@@ -58,7 +60,7 @@ pub enum Reason {
     Token {
         token: CharToken,
     },
-    /// The step that set the width (W02), closed the last path (P01, P03), drew (H01), began the flex (X01, X03), made an outline (K06) or
+    /// The step that set the width (W02), closed the last path (P01, P03), moved (P11), drew (H01), began the flex (X01, X03), made an outline (K06) or
     /// ended counter control (O06), the last one that is a clearing command or a call of an OtherSubr (O05, O08), or the last call (W03). It is
     /// None where there was no such step.
     Since {
@@ -70,12 +72,12 @@ pub enum Reason {
         pen: Point,
     },
     /// A stem that the step sets, and one that overlaps it (H02), one of the other command (H06), or one that the last hstem3 or vstem3 has in
-    /// its place (H07), with the step that set that.
+    /// its place (H07), or one that shares an edge with it (H09), with the step that set that.
     Stems {
         own: Stem,
         other: SetStem,
     },
-    /// A stem that the step sets: H03, H05.
+    /// A stem that the step sets: H03, H05, H10.
     Stem {
         stem: Stem,
     },
@@ -120,7 +122,7 @@ pub enum Reason {
     Limit {
         steps: u32,
     },
-    /// What an entry is: F03, F04, F05, F07, F15, F16, F18, F20, Z08, Z12, Z17 to Z19.
+    /// What an entry is: F03, F04, F05, F07, F15, F16, F18, F20, Z08, Z12, Z17 to Z19. Of an entry that is given twice it is the last: F23.
     Entry {
         found: Found,
     },
@@ -139,7 +141,7 @@ pub enum Reason {
     Glyphs {
         count: usize,
     },
-    /// The form of the Encoding: F11.
+    /// The form of the Encoding: F11. Of one that is given twice it is the last: F23.
     Form {
         encoding: Encoding,
     },
@@ -212,10 +214,74 @@ pub enum Reason {
         width: i64,
         nearest: i64,
     },
+    /// Where a line or a curve ends outside FontBBox: P04.
+    Outside {
+        point: Point,
+        font_box: FontBox,
+    },
+    /// Twenty times the signed area of the drawing, in squares of 1/65536: P05.
+    Area {
+        twentyfold: i128,
+    },
+    /// A line or a curve, where it begins, and where the line right before it begins, if there is one: P06 to P09.
+    Stroke {
+        line_start: Option<Point>,
+        start: Option<Point>,
+        segment: Segment,
+    },
+    /// A coordinate of a curve at so many quarters of its parameter, 64 times, and those of its ends: P10. It is y where stems
+    /// would lie across, and x where they would be upright.
+    Beyond {
+        direction: Direction,
+        quarters: u8,
+        place: i128,
+        start: i64,
+        end: i64,
+    },
+    /// A stem that nothing touches: H08.
+    Untouched {
+        stem: UntouchedStem,
+    },
     /// Why a waiver isn't used: U01.
     Waiver {
         unused: Unused,
     },
+    /// A byte of the clear text, and its line, from 1: F22.
+    HighByte {
+        line: usize,
+        byte: u8,
+    },
+    /// The word before the bytes of a charstring, by its place in the row of the private text: F24.
+    ReaderWord {
+        place: usize,
+    },
+    /// A token, by its place in the row of a text, from 0: F25, F26.
+    TextWord {
+        text: FontText,
+        place: usize,
+    },
+    /// The first four numbers of FontMatrix: F27.
+    Determinant {
+        v0: i64,
+        v1: i64,
+        v2: i64,
+        v3: i64,
+    },
+    /// Whether the name `Private` stands ahead of the lists, where the dictionary isn't begun: F28.
+    PrivateUnbegun {
+        named: bool,
+    },
+    /// The first line of the clear text: F29.
+    FirstLine,
+}
+
+/// One of the two texts of a font.
+#[derive(Clone, Copy, Debug, PartialEq, Eq)]
+pub enum FontText {
+    /// The clear text, up to its word `eexec`.
+    Clear,
+    /// The private text, up to the `end` of its CharStrings.
+    Private,
 }
 
 /// A stem of a hint set, and the step that set it.

@@ -7,13 +7,14 @@ ghost use Rattle.t1_char.specs.Steps.{StepView};
 ghost use Rattle.t1_reasons.specs.Backgrounds.{background_of};
 ghost use Rattle.t1_reasons.specs.HintSets.{set_at};
 ghost use Rattle.t1_rules.specs.StepRules.Counters.{is_below};
-ghost use Rattle.t1_reasons.specs.StepReasons.{beside_last, beside_one, counters_at, first_of_three, have_other_edges, is_thin_stem, last_of_other, leaves_some, three_beside, threes_at, additions_at, brings, call_of, calls_at, ending_of, is_full, codes_at, depth_of, is_miscounted, takes, has_no_code, has_no_name, is_by_zero, is_outermost, is_past_quotient, is_too_deep, is_unknown_othersubr, is_unknown_token, known_calls_at, quotients_at, returns_at, tokens_at, in_edition, is_any, only_where, told_by, arguments_at, has_fewer, is_bad_count, is_past_range, is_uneven, is_widthless, triples_at, othersubrs_at, placed_from, single_stems_at, wants_at, beside, counts_at, has_more, is_lacking_subr, is_overlap, is_told_otherwise, pairs, pairs_with, sidebearings_at, subrs_at};
+ghost use Rattle.t1_reasons.specs.StepReasons.{has_flaw, have_flaw, is_flawed, is_flawed_pair, beside_last, beside_one, counters_at, first_of_three, have_other_edges, last_of_other, leaves_some, three_beside, threes_at, additions_at, brings, call_of, calls_at, ending_of, is_full, codes_at, depth_of, is_miscounted, takes, has_no_code, has_no_name, is_by_zero, is_outermost, is_past_quotient, is_too_deep, is_unknown_othersubr, is_unknown_token, known_calls_at, quotients_at, returns_at, tokens_at, in_edition, is_any, only_where, told_by, arguments_at, has_fewer, is_bad_count, is_past_range, is_uneven, triples_at, othersubrs_at, placed_from, single_stems_at, wants_at, beside, counts_at, has_more, is_lacking_subr, is_told_otherwise, pairs, pairs_with, sidebearings_at, subrs_at};
 ghost use Rattle.t1_char.specs.Arguments.{argument, is_whole};
 ghost use Rattle.t1_char.specs.Commands.{arguments_of};
 ghost use Rattle.t1_rules.specs.StepRules.Seac.{is_unnamed};
 ghost use Rattle.t1_char.specs.Stacks.{most_numbers};
 ghost use Rattle.t1_char.specs.Steps.{is_number};
 ghost use Rattle.t1_reasons.specs.declared.reason.Reason.TheVariants.{Arguments, Codes, Othersubr, Quotient, Stem as StemAlone, Stems};
+ghost use Rattle.t1_reasons.specs.declared.step_reasons.StemFlaw.TheVariants.{Thin};
 ghost use Rattle.t1_rules.specs.StepRules.Arguments.{is_past, quotient_is_past, wanted_by};
 ghost use Rattle.t1_rules.specs.StepRules.Othersubrs.{is_flex_or_hints, is_good_count, is_known};
 ghost use Rattle.t1_rules.specs.StepRules.Stems.{stem_at};
@@ -25,6 +26,7 @@ use t1_char::{
     CharToken, Command, Edition, MOST_CALLS, MOST_NUMBERS, Step, UNIT, is_callothersubr,
     is_callsubr, is_return, natural,
 };
+use t1_drawing::{are_adjacent, has_negative_width};
 use t1_rules::{
     Rule, Sidebearings, Stem, Triple, accent_code, are_unequal, base_code, is_counter_control,
     is_flex_or_hints, is_good_count, is_past, is_pop, is_seac, is_stem, is_triple, is_unnamed,
@@ -448,27 +450,50 @@ fn is_below(there: u8, count: Option<u32>) -> bool
     }
 }
 
-/// Why a step breaks H03.
-pub(crate) fn width_reason(step: &Step) -> Option<Reason>
-    ensures { result ≡ find is_widthless (single_stems_at (step_view step.now)) }
+/// What may be wrong with a stem.
+#[derive(Clone, Copy)]
+pub(crate) enum StemFlaw {
+    /// It has no width: H03.
+    NoWidth,
+    /// It has a width below half a unit: H05.
+    Thin,
+    /// It has a width below 0 that doesn't mean one edge: H10.
+    Negative,
+}
+
+impl StemFlaw {
+    fn is_in(self, stem: Stem) -> bool
+        ensures { result ≡ has_flaw self stem }
+    {
+        match self {
+            StemFlaw::NoWidth => stem.width == 0,
+            StemFlaw::Thin => stem.is_thin(),
+            StemFlaw::Negative => has_negative_width(stem),
+        }
+    }
+}
+
+/// Returns the first of the stems that a step sets with such a flaw.
+pub(crate) fn flawed_stem(flaw: StemFlaw, step: &Step) -> Option<Reason>
+    ensures { result ≡ find (is_flawed flaw) (single_stems_at (step_view step.now)) }
 {
     if !is_stem(step.token) {
         return None;
     }
     if is_triple(step.token) {
-        widthless_among(&three_stems(step))
+        flawed_among(flaw, &three_stems(step))
     } else {
-        widthless_among(&[stem_at(step, 0)])
+        flawed_among(flaw, &[stem_at(step, 0)])
     }
 }
 
-/// The first of the stems without a width.
-fn widthless_among(stems: &[Stem]) -> Option<Reason>
-    ensures { result ≡ find is_widthless (map (λ s. StemAlone s) stems.now) }
+/// The first of the stems with such a flaw.
+fn flawed_among(flaw: StemFlaw, stems: &[Stem]) -> Option<Reason>
+    ensures { result ≡ find (is_flawed flaw) (map (λ s. StemAlone s) stems.now) }
 {
     let mut rest = stems;
     while let [stem, others @ ..] = rest {
-        if stem.width == 0 {
+        if flaw.is_in(*stem) {
             return Some(Reason::Stem { stem: *stem });
         }
         rest = others;
@@ -478,30 +503,13 @@ fn widthless_among(stems: &[Stem]) -> Option<Reason>
 
 /// Why a step breaks H05.
 pub(crate) fn thin_reason(edition: Edition, step: &Step) -> Option<Reason>
-    ensures { result ≡ find is_thin_stem (in_edition edition (single_stems_at (step_view step.now))) }
+    ensures { result ≡ find (is_flawed Thin) (in_edition edition (single_stems_at (step_view step.now))) }
 {
-    if !edition.has_later_rules() || !is_stem(step.token) {
-        return None;
-    }
-    if is_triple(step.token) {
-        thin_among(&three_stems(step))
+    if edition.has_later_rules() {
+        flawed_stem(StemFlaw::Thin, step)
     } else {
-        thin_among(&[stem_at(step, 0)])
+        None
     }
-}
-
-/// The first of the stems with a width below half a unit.
-fn thin_among(stems: &[Stem]) -> Option<Reason>
-    ensures { result ≡ find is_thin_stem (map (λ s. StemAlone s) stems.now) }
-{
-    let mut rest = stems;
-    while let [stem, others @ ..] = rest {
-        if stem.is_thin() {
-            return Some(Reason::Stem { stem: *stem });
-        }
-        rest = others;
-    }
-    None
 }
 
 /// Why a step breaks H07, given what came before it.
@@ -588,23 +596,43 @@ pub(crate) fn sidebearing_reason(sidebearings: &Sidebearings, step: &Step) -> Op
     (own != told).then_some(Reason::Sidebearings { told, own })
 }
 
-/// The first pair of one of the stems and one of the hint set that overlap, or of two of the stems.
-pub(crate) fn overlap_among(edition: Edition, stems: &[SetStem], kept: &[SetStem]) -> Option<Reason>
-    ensures { result ≡ find (is_overlap edition) (pairs_with stems.now kept.now) }
+/// What may be wrong with two stems.
+#[derive(Clone, Copy)]
+pub(crate) enum PairFlaw {
+    /// They overlap by an edition: H02.
+    Overlap(Edition),
+    /// One ends where the other begins: H09.
+    SharedEdge,
+}
+
+impl PairFlaw {
+    fn is_in(self, own: Stem, other: Stem) -> bool
+        ensures { result ≡ have_flaw self own other }
+    {
+        match self {
+            PairFlaw::Overlap(edition) => own.overlaps(other, edition),
+            PairFlaw::SharedEdge => are_adjacent(own, other),
+        }
+    }
+}
+
+/// The first pair of one of the stems and one of the hint set with such a flaw, or of two of the stems.
+pub(crate) fn flawed_pair(flaw: PairFlaw, stems: &[SetStem], kept: &[SetStem]) -> Option<Reason>
+    ensures { result ≡ find (is_flawed_pair flaw) (pairs_with stems.now kept.now) }
 {
-    match overlap_with(edition, stems, kept) {
+    match flawed_with(flaw, stems, kept) {
         Some(reason) => Some(reason),
-        None => overlap_of_two(edition, stems),
+        None => flawed_of_two(flaw, stems),
     }
 }
 
 /// The first pair of one of the stems and one that is kept.
-fn overlap_with(edition: Edition, stems: &[SetStem], kept: &[SetStem]) -> Option<Reason>
-    ensures { result ≡ find (is_overlap edition) (flat_map (λ own. beside own.stem kept.now) stems.now) }
+fn flawed_with(flaw: PairFlaw, stems: &[SetStem], kept: &[SetStem]) -> Option<Reason>
+    ensures { result ≡ find (is_flawed_pair flaw) (flat_map (λ own. beside own.stem kept.now) stems.now) }
 {
     let mut rest = stems;
     while let [own, others @ ..] = rest {
-        if let Some(reason) = overlap_beside(edition, own.stem, kept) {
+        if let Some(reason) = flawed_beside(flaw, own.stem, kept) {
             return Some(reason);
         }
         rest = others;
@@ -613,12 +641,12 @@ fn overlap_with(edition: Edition, stems: &[SetStem], kept: &[SetStem]) -> Option
 }
 
 /// The first pair of two of the stems.
-fn overlap_of_two(edition: Edition, stems: &[SetStem]) -> Option<Reason>
-    ensures { result ≡ find (is_overlap edition) (pairs stems.now) }
+fn flawed_of_two(flaw: PairFlaw, stems: &[SetStem]) -> Option<Reason>
+    ensures { result ≡ find (is_flawed_pair flaw) (pairs stems.now) }
 {
     let mut rest = stems;
     while let [own, others @ ..] = rest {
-        if let Some(reason) = overlap_beside(edition, own.stem, others) {
+        if let Some(reason) = flawed_beside(flaw, own.stem, others) {
             return Some(reason);
         }
         rest = others;
@@ -627,12 +655,12 @@ fn overlap_of_two(edition: Edition, stems: &[SetStem]) -> Option<Reason>
 }
 
 /// The first pair of a stem and one of others.
-fn overlap_beside(edition: Edition, own: Stem, others: &[SetStem]) -> Option<Reason>
-    ensures { result ≡ find (is_overlap edition) (beside own others.now) }
+fn flawed_beside(flaw: PairFlaw, own: Stem, others: &[SetStem]) -> Option<Reason>
+    ensures { result ≡ find (is_flawed_pair flaw) (beside own others.now) }
 {
     let mut rest = others;
     while let [other, others @ ..] = rest {
-        if own.overlaps(other.stem, edition) {
+        if flaw.is_in(own, other.stem) {
             return Some(Reason::Stems { own, other: *other });
         }
         rest = others;

@@ -6,9 +6,10 @@ ghost use Rattle.t1_char.specs.declared.edition.Edition.{Edition as Editions};
 ghost use Rattle.t1_char.specs.Steps.{StepView};
 ghost use Rattle.t1_char.specs.StepValues.{step_view};
 ghost use Rattle.t1_char.specs.Arguments.{is_flex_end};
+ghost use Rattle.t1_reasons.specs.DrawingReasons.{told_of_steps};
 ghost use Rattle.t1_reasons.specs.HintSets.{all_set_at};
 ghost use Rattle.t1_reasons.specs.Standing.{StepsStandFor};
-ghost use Rattle.t1_reasons.specs.StepReasons.{are_no_pairs, are_pairs, is_miss, is_overlap, misses_at, only_where, pairs_at, pairs_with, stems_at, step_reason};
+ghost use Rattle.t1_reasons.specs.StepReasons.{are_no_pairs, are_pairs, is_flawed_pair, is_miss, misses_at, only_where, pairs_at, pairs_with, stems_at, step_reason};
 ghost use Rattle.t1_reasons.specs.declared.reason.Reason.TheVariants.{Miss, Pairs};
 ghost use Rattle.t1_rules.specs.Book.{number_of};
 ghost use Rattle.t1_rules.specs.Mask.{has};
@@ -18,13 +19,15 @@ ghost use Rattle.t1_rules.specs.StepRules.Stems.{stems_of};
 ghost use Rattle.t1_rules.specs.Watches.{most_steps};
 
 use crate::background::Background;
+use crate::drawing_reasons::or_nothing;
 use crate::hint_sets::{HintSets, own_stems};
 use crate::reason::{Reason, SetStem};
 use crate::step_reasons::{
-    addition_reason, argument_reason, code_reason, count_reason, counter_reason, depth_reason,
-    name_reason, othersubr_reason, overlap_among, quotient_reason, return_reason,
-    sidebearing_reason, subr_reason, thin_reason, three_reason, token_reason, told_where,
-    triple_reason, unknown_reason, want_reason, width_reason, wrong_count_reason, zero_reason,
+    PairFlaw, StemFlaw, addition_reason, argument_reason, code_reason, count_reason,
+    counter_reason, depth_reason, flawed_pair, flawed_stem, name_reason, othersubr_reason,
+    quotient_reason, return_reason, sidebearing_reason, subr_reason, thin_reason, three_reason,
+    token_reason, told_where, triple_reason, unknown_reason, want_reason, wrong_count_reason,
+    zero_reason,
 };
 use t1_char::{Edition, Step};
 use t1_rules::{FlexWatcher, Mask, Point, Rule, Sidebearings, Watch, lies_across, stands_upright};
@@ -93,8 +96,8 @@ impl StepsBefore {
             Rule::S01 => subr_reason(step),
             Rule::S02 => depth_reason(step),
             Rule::S03 => return_reason(step),
-            Rule::H02 => self.stem_reason(step),
-            Rule::H03 => width_reason(step),
+            Rule::H02 => self.stem_pair(PairFlaw::Overlap(self.edition), step),
+            Rule::H03 => flawed_stem(StemFlaw::NoWidth, step),
             Rule::H04 => triple_reason(step),
             Rule::H05 => thin_reason(self.edition, step),
             Rule::H07 => three_reason(self.edition, step, &self.background),
@@ -136,31 +139,49 @@ impl StepsBefore {
         }
     }
 
-    /// Why the step breaks H02.
-    fn stem_reason(&self, step: &Step) -> Option<Reason>
+    /// The first pair of stems with such a flaw: one that the step sets, and one of the hint set or another of its own.
+    fn stem_pair(&self, flaw: PairFlaw, step: &Step) -> Option<Reason>
         requires { (edition : Editions) × ((before : List StepView) ×
             (StepsStandFor edition self.now before × (length before < most_steps))) }
         ensures { (edition : Editions) (before : List StepView) →
             StepsStandFor edition self.now before → length before < most_steps →
-            result ≡ find (is_overlap edition) (stems_at before (step_view step.now)) }
+            result ≡ find (is_flawed_pair flaw) (stems_at before (step_view step.now)) }
     {
         if lies_across(step.token) {
-            self.own_overlap(step, self.hints.across())
+            self.own_pair(flaw, step, self.hints.across())
         } else if stands_upright(step.token) {
-            self.own_overlap(step, self.hints.upright())
+            self.own_pair(flaw, step, self.hints.upright())
         } else {
             None
         }
     }
 
-    /// The first pair of a stem of the step and one that is kept, or of two of its own.
-    fn own_overlap(&self, step: &Step, kept: &[SetStem]) -> Option<Reason>
+    /// The same of a step that sets stems, by those that are kept of their direction.
+    fn own_pair(&self, flaw: PairFlaw, step: &Step, kept: &[SetStem]) -> Option<Reason>
         requires { self.now.hints.seen < most_steps }
-        ensures { result ≡ find (is_overlap self.now.edition)
+        ensures { result ≡ find (is_flawed_pair flaw)
             (pairs_with (all_set_at (self.now.hints.seen + 1) (stems_of (step_view step.now))) kept.now) }
     {
         let stems = own_stems(step, self.hints.seen + 1);
-        overlap_among(self.edition, stems.as_slice(), kept)
+        flawed_pair(flaw, stems.as_slice(), kept)
+    }
+
+    /// What the rules on the drawing that steps alone decide tell of the next step.
+    pub(crate) fn told_of(&self, rule: Rule, step: &Step) -> Reason
+        requires { (edition : Editions) × ((before : List StepView) ×
+            (StepsStandFor edition self.now before × (length before < most_steps))) }
+        ensures { (edition : Editions) (before : List StepView) →
+            StepsStandFor edition self.now before → length before < most_steps →
+            result ≡ told_of_steps rule before (step_view step.now) }
+    {
+        match rule {
+            Rule::P11 => Reason::Since {
+                step: self.background.moved,
+            },
+            Rule::H09 => or_nothing(self.stem_pair(PairFlaw::SharedEdge, step)),
+            Rule::H10 => or_nothing(flawed_stem(StemFlaw::Negative, step)),
+            _ => Reason::Nothing,
+        }
     }
 
     /// Why the step breaks X04.

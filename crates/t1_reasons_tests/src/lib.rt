@@ -7,13 +7,17 @@
 //! | module | tests of |
 //! |---|---|
 //! | `steps` | reasons at the steps of a glyph, by both editions, in any order |
+//! | `drawing` | reasons of the rules on the drawing, which the fourth edition adds |
 //! | `entries` | reasons at the entries of a font |
 //! | `third_edition` | reasons of the rules that the third edition adds |
+//! | `text_rules` | reasons of the rules on a font's texts, which the fourth edition adds, and their texts |
 //! | `places` | what these share |
 //! | `texts` | the texts of reasons |
 //! | `refusals` | the texts of refusals, and of errors of t1_seal and t1_font, which derive them |
 #![tactic(auto)]
 
+#[cfg(test)]
+mod drawing;
 #[cfg(test)]
 mod entries;
 #[cfg(test)]
@@ -22,6 +26,8 @@ mod places;
 mod refusals;
 #[cfg(test)]
 mod steps;
+#[cfg(test)]
+mod text_rules;
 #[cfg(test)]
 mod texts;
 #[cfg(test)]

@@ -4,6 +4,7 @@ use std::alloc::Global;
 use std::test::Fail;
 use t1_char::Edition;
 use t1_font::Font;
+use t1_reason_texts::ReasonText;
 use t1_reasons::{GlyphReasons, Reason, font_reason};
 use t1_rules::{Rule, Sidebearings};
 use t1_samples::{Sample, font_of, opened};
@@ -35,7 +36,28 @@ pub(super) fn step_reason(
     last_glyph_reason(alloc, &font, step, rule, edition)
 }
 
-/// The same of a font that is open.
+/// The text of that reason, if there is one.
+pub(super) fn step_text(
+    alloc: Global,
+    sample: &Sample,
+    step: u32,
+    rule: Rule,
+    edition: Edition,
+) -> Result<Option<String>, Fail> {
+    let mut file = opened(alloc, sample)?;
+    let font = font_of(alloc, &mut file)?;
+    let Some(reason) = last_glyph_reason(alloc, &font, step, rule, edition)? else {
+        return Ok(None);
+    };
+    let text = ReasonText {
+        font: &font,
+        rule,
+        reason,
+    };
+    Ok(Some(format!(in alloc; "{text}")?))
+}
+
+/// The reason in a font that is open.
 fn last_glyph_reason(
     alloc: Global,
     font: &Font<'_>,

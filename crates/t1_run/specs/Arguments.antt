@@ -14,7 +14,7 @@ rule_of_kind kind.RequiredWord name = record (new_rule name) { value_names = 1; 
 rule_of_kind kind.Text name = record (new_rule name) { long = Some name; value_names = 1 }
 rule_of_kind kind.Number name = record (new_rule name) { long = Some name; value_names = 1; parser = Some (parser.Unsigned 0 18446744073709551615) }
 rule_of_kind kind.Positive name = record (new_rule name) { long = Some name; value_names = 1; parser = Some (parser.Unsigned 1 18446744073709551615) }
-rule_of_kind kind.Edition name = record (new_rule name) { long = Some name; value_names = 1; parser = Some (parser.Unsigned 1 3) }
+rule_of_kind kind.Edition name = record (new_rule name) { long = Some name; value_names = 1; parser = Some (parser.Unsigned 1 4) }
 
 abbrev pub rule_for : Argument → Rule
 rule_for argument = rule_of_kind argument.kind argument.name.now

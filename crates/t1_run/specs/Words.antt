@@ -39,12 +39,12 @@ pub record IsPlainApp (app : App) : Type 0 where
 
 -- ---- arguments that several programs have
 
--- --edition N, N from 1 to 3
+-- --edition N, N from 1 to 4
 abbrev pub edition_rule : Rule
 edition_rule = record (new_rule (codes "edition")) {
   long = Some (codes "edition");
   value_names = 1;
-  parser = Some (parser.Unsigned 1 3);
+  parser = Some (parser.Unsigned 1 4);
 }
 
 -- --waive FILE

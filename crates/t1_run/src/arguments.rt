@@ -69,6 +69,6 @@ fn arg_of<'a>(alloc: Global, argument: Argument<'a>) -> Arg<'a>
             .value_parser(value_parser!(u64).range(1..)),
         ArgumentKind::Edition => arg
             .long(argument.name)
-            .value_parser(value_parser!(u64).range(1..4)),
+            .value_parser(value_parser!(u64).range(1..5)),
     }
 }

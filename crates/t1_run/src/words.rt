@@ -88,7 +88,7 @@ pub fn number(text: Option<&str>) -> Option<u64>
 
 /// The edition whose number an argument was given; the first without it.
 pub fn edition(text: Option<&str>) -> Edition
-    requires { IsTextOfNumber 1 3 (option_map (λ s. s.now) text) }
+    requires { IsTextOfNumber 1 4 (option_map (λ s. s.now) text) }
     ensures { IsEditionOrFirst (option_map (λ s. s.now) text.entry) result }
 {
     number(text)

@@ -50,7 +50,7 @@ const OPTIONS: &[Argument<'static>] = &[
         name: "edition",
         kind: ArgumentKind::Edition,
         value: "N",
-        help: "Finds faults by edition 1, 2 or 3 of the rule book [default: 1]",
+        help: "Finds faults by edition 1, 2, 3 or 4 of the rule book [default: 1]",
     },
     Argument {
         name: "waive",

@@ -1,16 +1,12 @@
--- What one segment breaks, what several do, and what a step does.
+-- What segments break together, and what a step does.
 use Rattle.std.specs.Prelude.{◌||◌, not, Bool, false, Option, List}
 use Rattle.t1_char.specs.Steps.{StepView}
-use Rattle.t1_outline.specs.declared.segment.Segment.{Segment}
 use Rattle.t1_outline.specs.Outlines.{drawn}
 use Rattle.t1_drawing.specs.declared.faults.SegmentFaults.{SegmentFaults}
 use Rattle.t1_drawing.specs.declared.glyph.DrawingFaults.{DrawingFaults}
 use Rattle.t1_drawing.specs.declared.font_box.FontBox.{FontBox}
-use Rattle.t1_drawing.specs.Curves.{is_flat, lacks_extreme}
 use Rattle.t1_drawing.specs.DrawingRules.{ends_clockwise, ends_untouched}
 use Rattle.t1_drawing.specs.Drawings.{faults_in}
-use Rattle.t1_drawing.specs.FontBoxes.{is_first_outside}
-use Rattle.t1_drawing.specs.Lines.{goes_straight_on, has_no_length, turns_back}
 use Rattle.t1_drawing.specs.Moves.{moves_again}
 use Rattle.t1_drawing.specs.StemEdges.{sets_adjacent, sets_negative_width}
 use Rattle.t1_drawing.specs.Strokes.{segments_of}
@@ -33,16 +29,6 @@ joined one other = record {
   goes_straight_on = one.goes_straight_on || other.goes_straight_on;
   is_flat = one.is_flat || other.is_flat;
   lacks_extreme = one.lacks_extreme || other.lacks_extreme;
-}
-
-abbrev pub faults_at : Option FontBox → List Segment → Segment → SegmentFaults
-faults_at box before s = record {
-  is_outside = is_first_outside box before s;
-  has_no_length = has_no_length before s;
-  turns_back = turns_back before s;
-  goes_straight_on = goes_straight_on before s;
-  is_flat = is_flat before s;
-  lacks_extreme = lacks_extreme before s;
 }
 
 abbrev pub drawing_faults : Option FontBox → List StepView → StepView → DrawingFaults

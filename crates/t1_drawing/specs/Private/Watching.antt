@@ -1,5 +1,5 @@
 -- What a watcher of stems keeps, with a segment more and with stems more.
-use Rattle.std.specs.Prelude.{◌≡◌, ℤ, ◌&&◌, ◌||◌, nat_le, not, if◌then◌else◌, Bool, true, false, Option, List, [], ◌∷◌, ◌++◌, length, map}
+use Rattle.std.specs.Prelude.{◌≡◌, ◌-◌, ℕ, ℤ, ◌&&◌, ◌||◌, nat_le, not, if◌then◌else◌, Bool, true, false, Option, List, [], ◌∷◌, ◌++◌, length, map}
 use Rattle.std.specs.List.{list_any}
 use Rattle.std.specs.Ordering.{int_eq}
 use Rattle.t1_char.specs.Steps.{StepView}
@@ -8,6 +8,7 @@ use Rattle.t1_drawing.specs.declared.direction.Direction.TheVariants.{Across, Up
 use Rattle.t1_drawing.specs.declared.touching.Extent.{Extent}
 use Rattle.t1_drawing.specs.declared.touching.Sidebearing.{Sidebearing}
 use Rattle.t1_drawing.specs.declared.touching.TouchWatcher.{TouchWatcher}
+use Rattle.t1_drawing.specs.declared.touching.UntouchedStem.{UntouchedStem}
 use Rattle.t1_drawing.specs.declared.touching.WatchedStem.{WatchedStem}
 use Rattle.t1_drawing.specs.Touching.{SetStem, coordinate, extent_by, high_edge, is_stroke_by, is_touched, low_edge, stems_set, touches_one}
 use Rattle.t1_outline.specs.declared.segment.Segment.{Segment}
@@ -50,13 +51,20 @@ abbrev pub draws_on : Drawing → List Segment → Drawing
 draws_on d [] = d
 draws_on d (segment ∷ more) = draws_on (draw_on d segment) more
 
--- Where the watcher says that it is done, each stem is touched.
+-- A stem that isn't touched, and as one of so many.
+abbrev pub is_left : WatchedStem → Bool
+is_left stem = not stem.touched
+
+abbrev pub left_as : Direction → ℕ → WatchedStem → UntouchedStem
+left_as direction count stem = record { direction = direction; low = stem.low; high = stem.high; more = count - 1 }
+
+-- Where the watcher says that it is done with a direction, each stem of it is touched.
 abbrev pub all_touched : List WatchedStem → Bool
 all_touched stems = not (list_any (λ stem. not stem.touched) stems)
 
 pub record IsDone (w : TouchWatcher) : Type 0 where
-  pub across : w.is_done ≡ true → all_touched w.across.items ≡ true
-  pub upright : w.is_done ≡ true → all_touched w.upright.items ≡ true
+  pub across : w.across_done ≡ true → all_touched w.across.items ≡ true
+  pub upright : w.upright_done ≡ true → all_touched w.upright.items ≡ true
 
 -- The step sets no stem, and no sidebearing.
 pub record SetsNothing (step : StepView) : Type 0 where

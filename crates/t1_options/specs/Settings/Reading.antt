@@ -62,7 +62,7 @@ key_of name =
 -- What a key wants, as is printed where its value is nothing of it.
 abbrev pub wants_of : Key → List ℕ
 wants_of Baseline = codes "baseline wants a file"
-wants_of Edition = codes "edition wants 1, 2 or 3"
+wants_of Edition = codes "edition wants 1, 2, 3 or 4"
 wants_of Except = codes "except wants codes of rules or their letters, as [\"H02\", \"Z\"]"
 wants_of Exclude = codes "exclude wants globs, as [\"old/**\"]"
 wants_of FailOn = codes "fail-on wants levels, as [\"must\", \"should\"]"

@@ -18,7 +18,7 @@ pub struct Settings {
     pub file: String,
     /// `baseline`: a file, below the folder of the settings file.
     pub baseline: Option<String>,
-    /// `edition`: 1, 2 or 3.
+    /// `edition`: 1, 2, 3 or 4.
     pub edition: Option<&'static str>,
     /// `except`: codes of rules or their letters.
     pub except: Vec<String>,
@@ -172,7 +172,7 @@ fn wants_of(key: Key) -> &'static str
 {
     match key {
         Key::Baseline => "baseline wants a file",
-        Key::Edition => "edition wants 1, 2 or 3",
+        Key::Edition => "edition wants 1, 2, 3 or 4",
         Key::Except => "except wants codes of rules or their letters, as [\"H02\", \"Z\"]",
         Key::Exclude => "exclude wants globs, as [\"old/**\"]",
         Key::FailOn => "fail-on wants levels, as [\"must\", \"should\"]",

@@ -70,20 +70,20 @@ const TEXTS: &[(&str, &str)] = &[
     ),
     // What is no value of its key.
     (
-        "edition = 4",
-        "t1check-all: .t1check.toml: edition wants 1, 2 or 3\n",
+        "edition = 5",
+        "t1check-all: .t1check.toml: edition wants 1, 2, 3 or 4\n",
     ),
     (
         "edition = -1",
-        "t1check-all: .t1check.toml: edition wants 1, 2 or 3\n",
+        "t1check-all: .t1check.toml: edition wants 1, 2, 3 or 4\n",
     ),
     (
         "edition = '1'",
-        "t1check-all: .t1check.toml: edition wants 1, 2 or 3\n",
+        "t1check-all: .t1check.toml: edition wants 1, 2, 3 or 4\n",
     ),
     (
         "edition = 1.0",
-        "t1check-all: .t1check.toml: edition wants 1, 2 or 3\n",
+        "t1check-all: .t1check.toml: edition wants 1, 2, 3 or 4\n",
     ),
     (
         "baseline = ''",

@@ -1,6 +1,6 @@
 //! A glyph, executed up to the next step that breaks a rule.
 
-ghost use Rattle.std.specs.Prelude.{◌≡◌, ◌<◌, ◌≤◌, ◌+◌, false, MatchOption, length};
+ghost use Rattle.std.specs.Prelude.{◌≡◌, ◌<◌, ◌≤◌, ◌+◌, true, false, MatchOption, length};
 ghost use Rattle.t1_report.specs.Checked.{checked, step_limit};
 ghost use Rattle.t1_report.specs.Private.Units.{IsDrawn, IsFirst, IsQuietFrom, IsRun, executed};
 ghost use Rattle.t1_report.specs.Walks.{turns_of_glyph};
@@ -89,14 +89,12 @@ impl<'a> GlyphRun<'a> {
         ensures font { executed self.new.machine ≡ executed self.old.machine }
         ensures glyph { self.new.machine.glyph ≡ self.old.machine.glyph }
     {
-        // Each arm has a loop of its own, in which no test of the edition is left.
         if sidebearings.edition().has_latest_rules() {
-            next_broken(
+            next_drawing(
                 &mut self.machine,
                 &mut self.watches,
                 &mut self.drawing,
                 sidebearings,
-                true,
                 unit,
             )
         } else {
@@ -110,6 +108,36 @@ impl<'a> GlyphRun<'a> {
             )
         }
     }
+}
+
+/// The next step of a machine that breaks a rule, in an edition that has rules on the drawing. Its loop is in a function of its own, so that
+/// the other one's is small enough to have all of its calls inlined.
+#[inline(never)]
+fn next_drawing(
+    machine: &mut Machine<'_>,
+    watches: &mut Watches,
+    drawing: &mut DrawingWatcher,
+    sidebearings: &Sidebearings,
+    unit: u32,
+) -> Option<Found>
+    requires draws { has_latest_rules machine.old.edition ≡ true }
+    requires run { IsRun machine.old watches.old }
+    requires drawn { IsDrawn machine.old drawing.old }
+    requires sidebearings { AreOf machine.old.font sidebearings.now }
+    requires edition { sidebearings.now.edition ≡ machine.old.edition }
+    requires unit { unit ≡ machine.old.glyph + 1 }
+    ensures found { MatchOption result
+        (IsQuietFrom (executed machine.old) unit (machine.old.counted + 1))
+        (λ found. IsFirst (executed machine.old) unit (machine.old.counted + 1) found) }
+    ensures counted { MatchOption result
+        (machine.new.counted ≡ turns_of_glyph (executed machine.old) machine.old.glyph)
+        (λ found. machine.new.counted ≡ found.step) }
+    ensures run { IsRun machine.new watches.new }
+    ensures drawn { IsDrawn machine.new drawing.new }
+    ensures font { executed machine.new ≡ executed machine.old }
+    ensures glyph { machine.new.glyph ≡ machine.old.glyph }
+{
+    next_broken(machine, watches, drawing, sidebearings, true, unit)
 }
 
 /// The next step of a machine that breaks a rule; `draws` says that the edition has rules on the drawing.

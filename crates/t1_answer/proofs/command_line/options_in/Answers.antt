@@ -14,7 +14,7 @@ max_is_number : IsNumberArgument t1check 0 18446744073709551615 (codes "max")
 unfolding t1check
 max_is_number = (1, max_rule, lit< tt, refl, (refl, refl))
 
-edition_is_number : IsNumberArgument t1check 1 3 (codes "edition")
+edition_is_number : IsNumberArgument t1check 1 4 (codes "edition")
 unfolding t1check
 edition_is_number = (3, edition_rule, lit< tt, refl, (refl, refl))
 
@@ -34,7 +34,7 @@ number-max-requires c =
 
 pub edition-edition-requires : goal.edition-edition-requires
 edition-edition-requires c =
-    subst (IsTextOfNumber 1 3) (sym c.get_str-4.ensures) (c.requires.1.number 1 3 (codes "edition") edition_is_number)
+    subst (IsTextOfNumber 1 4) (sym c.get_str-4.ensures) (c.requires.1.number 1 4 (codes "edition") edition_is_number)
 
 pub returns : goal.returns
 returns c words parsed =

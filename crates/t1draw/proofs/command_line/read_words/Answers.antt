@@ -12,8 +12,8 @@ plain : IsPlainApp t1draw
 unfolding t1draw
 plain = record { own = refl; distinct = refl; plain = refl; negates = refl; simple = refl; free = refl; leaf = refl; alone = refl }
 
--- the program's rules take 1 to 3 for --edition
-edition_is_number : IsNumberArgument t1draw 1 3 (codes "edition")
+-- the program's rules take 1 to 4 for --edition
+edition_is_number : IsNumberArgument t1draw 1 4 (codes "edition")
 unfolding t1draw
 edition_is_number = (0, edition_rule, lit< tt, refl, (refl, refl))
 
@@ -41,7 +41,7 @@ parse-requires g c = record { plain = subst IsPlainApp (sym c.in_ok-command.ensu
 pub edition-edition-requires : goal.edition-edition-requires
 edition-edition-requires g c =
     let parsed = by_rules t1draw c.in_ok-command.ensures c.in_ok-matches.ensures.parsed in
-    subst (IsTextOfNumber 1 3) (sym c.get_str.ensures) (parsed.number 1 3 (codes "edition") edition_is_number)
+    subst (IsTextOfNumber 1 4) (sym c.get_str.ensures) (parsed.number 1 4 (codes "edition") edition_is_number)
 
 pub given_in-given-requires-clause-step : goal.given_in-given-requires-clause-step
 given_in-given-requires-clause-step g c =

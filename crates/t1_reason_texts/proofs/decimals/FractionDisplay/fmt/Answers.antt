@@ -39,7 +39,7 @@ loop-place-preserved g c = record {
         has_written_append _ _ _ _ _ _ so_far.1 (search rules),
         append_assoc so_far.0 _ _
             ∙ ap (λ t. so_far.0 ++ t)
-            (one_place (one_of c.args.self.now.unit) (18 - c.loop-place._place) (18 - (c.loop-place._place + 1)) c.loop-place.rest
+            (one_place (one_of c.args.self.now.unit) (34 - c.loop-place._place) (34 - (c.loop-place._place + 1)) c.loop-place.rest
             c.saturating_mul-tenths.result c.whole-digit.result c.part-rest.result (omega (arith, c.loop-place-test.true))
             (omega (arith, c.if-rest-eq0.false)) tenths c.whole-digit.ensures c.part-rest.ensures.value)
             ∙ so_far.2,
@@ -49,4 +49,4 @@ loop-place-preserved g c = record {
 pub returns-clause-writes : goal.returns-clause-writes
 returns-clause-writes g c = λ plain ok.
     let so_far = c.loop-place.invariant.written plain in
-    has_written_of_eq _ _ _ _ _ (rw (no_place _ (18 - c.loop-place._place) c.loop-place.rest (omega (arith, c.loop-place-test.false)), append-nil) at so_far.2) so_far.1
+    has_written_of_eq _ _ _ _ _ (rw (no_place _ (34 - c.loop-place._place) c.loop-place.rest (omega (arith, c.loop-place-test.false)), append-nil) at so_far.2) so_far.1

@@ -9,23 +9,22 @@ use Rattle.t1_drawing.specs.DrawingRules.{box_of, breaks_own}
 use Rattle.t1_rules.specs.Components.{components_of}
 use Rattle.t1_rules.specs.Book.{last_number_of_third, number_of}
 use Rattle.t1_rules.specs.Mask.{has}
+use Rattle.t1_reasons.specs.DrawingReasons.{drawing_reason}
 use Rattle.t1_reasons.specs.GlyphReasons.{IsAnswer, reason_at, steps_in}
-use Rattle.t1_reasons.proofs.Walking.{both_kinds, drawing_alone, few_steps, no_reason_at_the_end, reason_in_hand, reason_past_the_limit}
+use Rattle.t1_reasons.proofs.Walking.{both_kinds, few_steps, no_reason_at_the_end, reason_in_hand, reason_past_the_limit}
 use Rattle.t1_reasons.proofs.glyph_reasons.GlyphReasons.reason_here.Goals as goal
 
 pub returns-then-number-gt-LAST_OF_THIRD : goal.returns-then-number-gt-LAST_OF_THIRD
 returns-then-number-gt-LAST_OF_THIRD c =
     let m = c.self.inside.machine in
     let n = number_of c.args.rule in
-    let before = take (m.counted - 1) (steps_in m) in
     let counted : c.counted.result ≡ m.counted = c.counted.ensures.counted in
     let some : 0 < m.counted = omega (arith, counted, c.if-counted-eq0.false) in
     let within : m.counted ≤ length (steps_in m) = subst (λ (a : Answer). IsAnswer a m) c.in-Step.is c.self.invariant.0.answer in
     let past : last_number_of_third < n = omega (arith, c.if-number-gt-LAST_OF_THIRD.true, c.number.ensures.number) in
-    subst (λ (x : MachineView). c.drawing_reason.result ≡ reason_at x c.args.rule x.counted) c.self.view_is
-    (c.drawing_reason.ensures
-    ∙ rw (c.self.invariant.0.broken some within n, drawing_alone m.edition (box_of m.font) n before m.step.step past)
-    (sym (reason_in_hand m c.args.rule some within c.self.invariant.0.in_hand ∙ rw (lt-ltb last_number_of_third n past) refl)))
+    c.drawing_reason.ensures
+    ∙ subst (λ (x : MachineView). drawing_reason x.edition (box_of x.font) c.args.rule (take (x.counted - 1) (steps_in x)) x.step.step ≡ reason_at x c.args.rule x.counted) c.self.view_is
+    (sym (reason_in_hand m c.args.rule some within c.self.invariant.0.in_hand ∙ rw (lt-ltb last_number_of_third n past) refl))
 
 pub returns-else-number-gt-LAST_OF_THIRD : goal.returns-else-number-gt-LAST_OF_THIRD
 returns-else-number-gt-LAST_OF_THIRD c =

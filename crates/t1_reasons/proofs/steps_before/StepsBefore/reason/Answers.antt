@@ -9,7 +9,8 @@ use Rattle.t1_reasons.proofs.LawProofs.{tells_where, told_reason}
 use Rattle.t1_reasons.proofs.steps_before.StepsBefore.reason.Goals as goal
 
 pub returns-in-H02 : goal.returns-in-H02
-returns-in-H02 c = λ edition before st short broken. rw c.in-H02.is (c.stem_reason.ensures edition before st short)
+returns-in-H02 c = λ edition before st short broken.
+    rw c.in-H02.is (c.stem_pair.ensures edition before st short ∙ rw (st.edition_is) refl)
 
 pub returns-in-X05 : goal.returns-in-X05
 returns-in-X05 c = λ edition before st short broken. rw c.in-X05.is (c.miss_reason.ensures edition before st)
