@@ -1,9 +1,9 @@
 -- How far from the origin segments are drawn, and how many.
-use Rattle.std.specs.Prelude.{ℕ, ℤ, ◌+◌, ◌*◌, ◌≤◌, List, length}
+use Rattle.std.specs.Prelude.{ℕ, ◌+◌, ◌*◌, ◌≤◌, List, length}
 use Rattle.std.specs.List.{All}
 use Rattle.t1_outline.specs.declared.segment.Segment.{Segment}
 use Rattle.t1_outline.specs.declared.segment.Segment.TheVariants.{Move, Line, Curve, Close}
-use Rattle.t1_rules.specs.Watches.{IsNear, IsWithin, most_steps, reach}
+use Rattle.t1_rules.specs.Watches.{IsNear, most_steps}
 
 -- So many ways lead to any point that is drawn: those of the steps before, and the three of a curve.
 abbrev pub most_ways : ℕ
@@ -14,13 +14,6 @@ IsDrawnNear (Move p) = IsNear most_ways p
 IsDrawnNear (Line end) = IsNear most_ways end
 IsDrawnNear (Curve one two end) = IsNear most_ways one × IsNear most_ways two × IsNear most_ways end
 IsDrawnNear Close = Unit {0}
-
--- The coordinates of a curve's four points.
-pub record AreCoordinates (start one two end : ℤ) : Type 0 where
-  pub first : IsWithin (most_ways * reach) start
-  pub second : IsWithin (most_ways * reach) one
-  pub third : IsWithin (most_ways * reach) two
-  pub last : IsWithin (most_ways * reach) end
 
 -- A step draws at most three segments.
 abbrev pub most_drawn : ℕ

@@ -21,11 +21,16 @@ font_box (left ∷ bottom ∷ right ∷ top ∷ []) =
     if is_box left bottom right top then Some (record { left = left; bottom = bottom; right = right; top = top }) else None
 font_box _ = None
 
--- A coordinate in units of 1/65536 is a unit or more below the first number, or above the second. These are in billionths.
+-- A coordinate in units of 1/65536 is a unit or more below an edge, or above one. Edges are in billionths.
+abbrev pub is_under : ℤ → ℤ → Bool
+is_under edge z = int_le (z *ℤ pos billion) ((edge -ℤ pos billion) *ℤ pos 65536)
+
+abbrev pub is_over : ℤ → ℤ → Bool
+is_over edge z = int_le ((edge +ℤ pos billion) *ℤ pos 65536) (z *ℤ pos billion)
+
+-- It is so far below the first edge, or above the second.
 abbrev pub is_off : ℤ → ℤ → ℤ → Bool
-is_off least greatest z =
-    int_le (z *ℤ pos billion) ((least -ℤ pos billion) *ℤ pos 65536)
-    || int_le ((greatest +ℤ pos billion) *ℤ pos 65536) (z *ℤ pos billion)
+is_off least greatest z = is_under least z || is_over greatest z
 
 abbrev pub is_outside : FontBox → Point → Bool
 is_outside box p = is_off box.left box.right p.x || is_off box.bottom box.top p.y

@@ -15,8 +15,8 @@ pub enum Direction {
 }
 
 impl Direction {
-    /// The coordinate that stems bound, in units of 1/65536.
-    pub(crate) fn coordinate(self, point: Point) -> i64
+    /// The coordinate of a point that stems bound, in units of 1/65536.
+    pub fn coordinate(self, point: Point) -> i64
         ensures { result ≡ coordinate self point }
     {
         match self {

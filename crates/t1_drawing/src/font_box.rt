@@ -5,7 +5,7 @@ ghost use Rattle.std.specs.Ordering.{int_eq};
 ghost use Rattle.t1_scan.specs.Numbers.{billion};
 ghost use Rattle.t1_drawing.specs.DrawingRules.{box_of};
 ghost use Rattle.t1_drawing.specs.declared.font_box.FontBox.{FontBox as Boxes};
-ghost use Rattle.t1_drawing.specs.FontBoxes.{ends_outside, ends_outside_box, font_box, is_box, is_outside};
+ghost use Rattle.t1_drawing.specs.FontBoxes.{ends_outside, ends_outside_box, font_box, is_box, is_outside, is_over, is_under};
 ghost use Rattle.t1_drawing.specs.Private.Limits.{limits_of};
 
 use t1_char::UNIT;
@@ -61,6 +61,20 @@ fn is_ordered(lower: i64, upper: i64) -> bool
     ensures { result ≡ int_le lower upper }
 {
     lower <= upper
+}
+
+/// Whether a point's coordinate, in units of 1/65536, is a unit or more below an edge of a box, in units of 10^-9.
+pub fn is_under(edge: i64, place: i64) -> bool
+    ensures { result ≡ is_under edge place }
+{
+    of_point(place) <= a_unit_below(edge)
+}
+
+/// Whether it is a unit or more above one.
+pub fn is_over(edge: i64, place: i64) -> bool
+    ensures { result ≡ is_over edge place }
+{
+    a_unit_above(edge) <= of_point(place)
 }
 
 /// Whether a coordinate is a unit or more below the first of a box's numbers, or above the second, by where that is.

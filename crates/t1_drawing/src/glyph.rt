@@ -27,7 +27,7 @@ use crate::segments::{SegmentWatcher, TracedSegments};
 use crate::stem_edges::{sets_adjacent, sets_negative_width};
 use crate::touching::{TouchWatcher, UntouchedStem};
 use t1_char::{CharToken, Command, Step, is_callothersubr, is_end};
-use t1_outline::{Around, Nib, Segment, spoils_flex};
+use t1_outline::{Around, Nib, Segment, Segments, spoils_flex};
 use t1_rules::{Mask, Rule, Watch, Watches, closes, is_line, is_move};
 
 /// Which rules on the drawing a step breaks.
@@ -60,6 +60,13 @@ impl DrawingFaults {
             | self.sets_adjacent
             | self.sets_negative_width)
     }
+}
+
+/// The rules that a step breaks, and its segments.
+#[derive(Drop)]
+struct Seen {
+    broken: Mask,
+    drawn: Segments,
 }
 
 /// What a step breaks, and what it draws.
@@ -120,7 +127,7 @@ impl DrawingWatcher {
             ≡ (breaks (step_rules edition) n before (step_view step.now) || breaks (drawing_rules box) n before (step_view step.now)) }
     {
         if watches.is_in_flex() {
-            return self.trace(watches, step).broken;
+            return self.see_any(watches, step).broken;
         }
         if is_silent(step.token) {
             return watches.see(step);
@@ -131,7 +138,7 @@ impl DrawingWatcher {
                 if draws_nothing(step.token) {
                     self.see_setting(watches, step)
                 } else {
-                    self.trace(watches, step).broken
+                    self.see_any(watches, step).broken
                 }
             }
         }
@@ -198,8 +205,56 @@ impl DrawingWatcher {
         }))
     }
 
-    /// The same, with what the step draws.
+    /// The same of any step, with what it draws.
     #[inline(never)]
+    fn see_any(&mut self, watches: &mut Watches, step: &Step) -> Seen
+        requires { (edition : Editions) × ((box : Option Boxes) × ((before : List StepView) ×
+            (WatchesStandFor edition watches.old before × (DrawingStandsFor box self.old before × (length before < most_steps))))) }
+        ensures watches { (edition : Editions) (before : List StepView) →
+            WatchesStandFor edition watches.old before → length before < most_steps →
+            WatchesStandFor edition watches.new (before ++ step_view step.now ∷ []) }
+        ensures stands { (edition : Editions) (box : Option Boxes) (before : List StepView) →
+            WatchesStandFor edition watches.old before → DrawingStandsFor box self.old before → length before < most_steps →
+            DrawingStandsFor box self.new (before ++ step_view step.now ∷ []) }
+        ensures answer { (edition : Editions) (box : Option Boxes) (before : List StepView) →
+            WatchesStandFor edition watches.old before → DrawingStandsFor box self.old before → length before < most_steps →
+            (n : ℕ) → has result.broken n
+            ≡ (breaks (step_rules edition) n before (step_view step.now) || breaks (drawing_rules box) n before (step_view step.now)) }
+        ensures drawn { (edition : Editions) (box : Option Boxes) (before : List StepView) →
+            WatchesStandFor edition watches.old before → DrawingStandsFor box self.old before → length before < most_steps →
+            result.drawn.items ≡ drawn before (step_view step.now) }
+    {
+        let start = watches.point();
+        let is_in_flex = watches.is_in_flex();
+        let sets_adjacent = sets_adjacent(step, watches.across(), watches.upright());
+        let ends_clockwise = ends_clockwise(step, &self.segments);
+        let ends_untouched = ends_untouched(step, &self.touches);
+        let moves_again = self.moves.see(step, is_in_flex);
+        let broken = watches.see(step);
+        let around = Around {
+            start,
+            end: watches.point(),
+            is_in_flex,
+            spoils_flex: spoils_flex(broken),
+        };
+        let drawn = self.nib.draw(step, around);
+        let segments = self.segments.see(drawn.as_slice());
+        self.touches.see(step, drawn.as_slice());
+        let own = rules_in(DrawingFaults {
+            segments,
+            ends_clockwise,
+            moves_again,
+            ends_untouched,
+            sets_adjacent,
+            sets_negative_width: sets_negative_width(step),
+        });
+        Seen {
+            broken: broken.join(own),
+            drawn,
+        }
+    }
+
+    /// The same, with what the step draws, and what each of its segments breaks.
     pub fn trace(&mut self, watches: &mut Watches, step: &Step) -> TracedStep
         requires { (edition : Editions) × ((box : Option Boxes) × ((before : List StepView) ×
             (WatchesStandFor edition watches.old before × (DrawingStandsFor box self.old before × (length before < most_steps))))) }
@@ -217,33 +272,11 @@ impl DrawingWatcher {
             WatchesStandFor edition watches.old before → DrawingStandsFor box self.old before → length before < most_steps →
             result.segments.items ≡ traced box (segments_of before) (drawn before (step_view step.now)) }
     {
-        let start = watches.point();
-        let is_in_flex = watches.is_in_flex();
-        let sets_adjacent = sets_adjacent(step, watches.across(), watches.upright());
-        let ends_clockwise = ends_clockwise(step, &self.segments);
-        let ends_untouched = ends_untouched(step, &self.touches);
-        let moves_again = self.moves.see(step, is_in_flex);
-        let broken = watches.see(step);
-        let around = Around {
-            start,
-            end: watches.point(),
-            is_in_flex,
-            spoils_flex: spoils_flex(broken),
-        };
-        let drawn = self.nib.draw(step, around);
-        let trace = self.segments.see(drawn.as_slice());
-        self.touches.see(step, drawn.as_slice());
-        let own = rules_in(DrawingFaults {
-            segments: trace.faults,
-            ends_clockwise,
-            moves_again,
-            ends_untouched,
-            sets_adjacent,
-            sets_negative_width: sets_negative_width(step),
-        });
+        let before = self.segments;
+        let seen = self.see_any(watches, step);
         TracedStep {
-            broken: broken.join(own),
-            segments: trace.segments,
+            broken: seen.broken,
+            segments: before.traced(seen.drawn.as_slice()),
         }
     }
 }

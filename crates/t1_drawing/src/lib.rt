@@ -29,15 +29,17 @@ mod stem_tests;
 mod tests;
 mod touching;
 
+pub use curves::{at_half, at_quarter, is_beyond};
 pub use direction::Direction;
 pub use faults::SegmentFaults;
-pub use font_box::FontBox;
+pub use font_box::{FontBox, is_over, is_under};
 pub use glyph::{DrawingWatcher, TracedStep};
 pub use laws::{
     curves_without_extremes_go_beyond, drawing_rules_come_last, drawn_segments_can_be_seen,
     flat_curves_are_on_a_line, stems_stay, turned_subpaths_have_the_opposite_area,
     untouched_stems_lie_off,
 };
+pub use points::end_of;
 pub use segments::{TracedSegment, TracedSegments};
 pub use stem_edges::{are_adjacent, has_negative_width};
 pub use touching::UntouchedStem;

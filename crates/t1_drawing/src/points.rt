@@ -108,7 +108,7 @@ pub(crate) fn is_straight(one: Point, other: Point) -> bool
 }
 
 /// Where a segment ends, unless it is closepath.
-pub(crate) fn end_of(segment: Segment) -> Option<Point>
+pub fn end_of(segment: Segment) -> Option<Point>
     ensures value { result ≡ end_of segment }
     ensures near { IsDrawnNear segment → IfSome result (IsNear most_ways) }
 {

@@ -46,13 +46,6 @@ pub struct TracedSegment {
 /// What a step draws, in order.
 pub type TracedSegments = ArrayVec<TracedSegment, MOST_SEGMENTS>;
 
-/// What a step draws, and what it breaks.
-#[derive(Drop)]
-pub(crate) struct Trace {
-    pub(crate) faults: SegmentFaults,
-    pub(crate) segments: TracedSegments,
-}
-
 /// Keeps a further segment, as far as a step draws so many.
 fn keep(segments: &mut TracedSegments, segment: TracedSegment)
     ensures { length segments.old.items < most_drawn → segments.new.items ≡ segments.old.items ++ segment ∷ [] }
@@ -76,36 +69,47 @@ impl SegmentWatcher {
         }
     }
 
-    /// Sees what a step draws, given that it saw what the steps before drew. Returns what the step breaks, and what each of its segments does;
-    /// of more segments than a step draws the first ones.
-    pub(crate) fn see(&mut self, here: &[Segment]) -> Trace
+    /// Sees what a step draws, given that it saw what the steps before drew. Returns what the step breaks.
+    pub(crate) fn see(&mut self, here: &[Segment]) -> SegmentFaults
         requires { (box : Option Boxes) × ((before : List Segments) ×
             (SegmentsStandFor box self.old before × CanBeDrawn before here.now)) }
         ensures faults { (box : Option Boxes) (before : List Segments) →
             SegmentsStandFor box self.old before → CanBeDrawn before here.now →
-            result.faults ≡ faults_in box before here.now }
-        ensures traced { (box : Option Boxes) (before : List Segments) →
-            SegmentsStandFor box self.old before → CanBeDrawn before here.now → length here.now ≤ most_drawn →
-            result.segments.items ≡ traced box before here.now }
+            result ≡ faults_in box before here.now }
         ensures stands { (box : Option Boxes) (before : List Segments) →
             SegmentsStandFor box self.old before → CanBeDrawn before here.now →
             SegmentsStandFor box self.new (before ++ here.now) }
     {
         let mut faults = SegmentFaults::none();
+        for segment in here {
+            faults = faults.join(self.see_one(*segment));
+        }
+        faults
+    }
+
+    /// What a step draws, each segment with what it breaks, given what the steps before drew; of more segments than a step draws the
+    /// first ones.
+    pub(crate) fn traced(self, here: &[Segment]) -> TracedSegments
+        requires { (box : Option Boxes) × ((before : List Segments) ×
+            (SegmentsStandFor box self before × CanBeDrawn before here.now)) }
+        ensures { (box : Option Boxes) (before : List Segments) →
+            SegmentsStandFor box self before → CanBeDrawn before here.now → length here.now ≤ most_drawn →
+            result.items ≡ traced box before here.now }
+    {
+        let mut watcher = self;
         let mut segments = ArrayVec::new();
         for segment in here {
-            let (line_start, start) = (self.line_start, self.start);
-            let own = self.see_one(*segment);
-            faults = faults.join(own);
-            let here = TracedSegment {
+            let (line_start, start) = (watcher.line_start, watcher.start);
+            let faults = watcher.see_one(*segment);
+            let traced = TracedSegment {
                 line_start,
                 start,
                 segment: *segment,
-                faults: own,
+                faults,
             };
-            keep(&mut segments, here);
+            keep(&mut segments, traced);
         }
-        Trace { faults, segments }
+        segments
     }
 
     /// P05: whether the subpaths together run clockwise, at the end of the glyph.

@@ -10,7 +10,7 @@ use Rattle.t1_char.specs.Turns.{MachineView}
 use Rattle.t1_outline.specs.Private.Outlining.{steps_in}
 use Rattle.t1_font.specs.Fonts.{glyph_name}
 use Rattle.t1_char.specs.declared.edition.Edition.{Edition}
-use Rattle.t1_picture.specs.declared.bands.Direction.{Direction}
+use Rattle.t1_drawing.specs.declared.direction.Direction.{Direction}
 use Rattle.t1_picture.specs.declared.causes.Cause.{Cause}
 use Rattle.t1_picture.specs.declared.causes.StemPlace.{StemPlace}
 use Rattle.t1_picture.specs.declared.marks.FaultMark.{FaultMark}

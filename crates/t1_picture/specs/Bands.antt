@@ -9,8 +9,8 @@ use Rattle.t1_font.specs.Fonts.{FontValue}
 use Rattle.t1_font.specs.Keys.{index_of}
 use Rattle.t1_font.specs.Values.{Value, absent, numbers}
 use Rattle.t1_picture.specs.declared.bands.Band.{Band}
-use Rattle.t1_picture.specs.declared.bands.Direction.{Direction}
-use Rattle.t1_picture.specs.declared.bands.Direction.TheVariants.{Across, Upright}
+use Rattle.t1_drawing.specs.declared.direction.Direction.{Direction}
+use Rattle.t1_drawing.specs.declared.direction.Direction.TheVariants.{Across, Upright}
 use Rattle.t1_picture.specs.declared.bounds.Bounds.{Bounds}
 use Rattle.t1_reason_texts.specs.declared.decimals.Exact.{Exact}
 use Rattle.t1_picture.specs.declared.frame.Frame.{Frame}

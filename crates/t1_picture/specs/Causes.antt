@@ -9,11 +9,10 @@ use Rattle.t1_font.specs.declared.key.Key.{Key}
 use Rattle.t1_font.specs.declared.key.Key.TheVariants.{BlueValues, OtherBlues}
 use Rattle.t1_font.specs.Fonts.{FontValue}
 use Rattle.t1_font.specs.Values.{Value, numbers}
-use Rattle.t1_drawing.specs.declared.direction.Direction.{Direction as Directions}
-use Rattle.t1_drawing.specs.declared.direction.Direction.TheVariants.{Across as AcrossGlyph, Upright as UprightInGlyph}
+use Rattle.t1_drawing.specs.declared.direction.Direction.{Direction}
+use Rattle.t1_drawing.specs.declared.direction.Direction.TheVariants.{Across, Upright}
 use Rattle.t1_drawing.specs.declared.touching.UntouchedStem.{UntouchedStem}
-use Rattle.t1_picture.specs.declared.bands.Direction.{Direction}
-use Rattle.t1_picture.specs.declared.bands.Direction.TheVariants.{Across, Upright}
+use Rattle.t1_drawing.specs.Touching.{coordinate}
 use Rattle.t1_picture.specs.declared.causes.Cause.{Cause}
 use Rattle.t1_picture.specs.declared.causes.Cause.TheVariants.{Accent, Base, Ends, Miss as Missed, Outside as OutsidePoint, Stem as NamedOne, Untouched as LeftAlone, Zone}
 use Rattle.t1_picture.specs.declared.causes.Role.{Role}
@@ -48,16 +47,12 @@ abbrev pub direction_among : List StepView → ℕ → Option Direction
 direction_among steps zero = None
 direction_among steps (suc place) = direction_of_step (slice_get steps place)
 
--- What the positions of stems count from, of the sidebearing point.
-abbrev pub start_along : Direction → Point → ℤ
-start_along Across start = start.y
-start_along Upright start = start.x
-
--- A stem that a reason names: its band, as the bands in force are placed, and its edges, as the font counts them.
+-- A stem that a reason names: its band, as the bands in force are placed, and its edges, as the font counts them. Positions count from the
+-- sidebearing point.
 abbrev pub named_stem : Edition → Point → Role → Stem → Direction → Cause
 named_stem edition start role stem direction =
     NamedOne (record {
-      band = band_of direction (start_along direction start) edition stem;
+      band = band_of direction (coordinate direction start) edition stem;
       lower = lower_edge edition stem;
       upper = upper_edge edition stem;
       role = role;
@@ -71,22 +66,14 @@ abbrev pub stem_cause : StemPlace → Role → Stem → List Cause
 stem_cause place role stem = option_to_list (stem_at place role stem)
 
 -- A stem that nothing touches: its edges are absolute.
-abbrev pub band_direction : Directions → Direction
-band_direction AcrossGlyph = Across
-band_direction UprightInGlyph = Upright
-
-abbrev pub untouched_along : Direction → ℤ → UntouchedStem → Cause
-untouched_along direction start stem =
-    LeftAlone (record {
-      band = record { direction = direction; lower = stem.low; upper = stem.high };
-      lower = kept (stem.low -ℤ start);
-      upper = kept (stem.high -ℤ start);
-      role = Own;
-    })
-
 abbrev pub untouched_stem : Point → UntouchedStem → Cause
 untouched_stem start stem =
-    let direction = band_direction stem.direction in untouched_along direction (start_along direction start) stem
+    LeftAlone (record {
+      band = record { direction = stem.direction; lower = stem.low; upper = stem.high };
+      lower = kept (stem.low -ℤ coordinate stem.direction start);
+      upper = kept (stem.high -ℤ coordinate stem.direction start);
+      role = Own;
+    })
 
 -- ---- zones
 

@@ -9,7 +9,7 @@ use Rattle.t1_font.specs.Fonts.{FontValue, glyph_name}
 use Rattle.t1_outline.specs.declared.parts.SeacPart.{SeacPart}
 use Rattle.t1_outline.specs.declared.parts.SeacPart.TheVariants.{There}
 use Rattle.t1_outline.specs.declared.parts.SeacParts.{SeacParts}
-use Rattle.t1_picture.specs.declared.bands.Direction.{Direction}
+use Rattle.t1_drawing.specs.declared.direction.Direction.{Direction}
 use Rattle.t1_picture.specs.declared.causes.Cause.{Cause}
 use Rattle.t1_picture.specs.declared.causes.StemPlace.{StemPlace}
 use Rattle.t1_picture.specs.declared.faults.FaultLayers.{FaultLayers}

@@ -1,7 +1,7 @@
 -- What a marked stem, point or zone is of: a reason names it.
 use Rattle.std.specs.Prelude.{◌≡◌, ◌⊎◌, ◌↔◌, ⊤, ◌==◌, true, Some, List}
 use Rattle.std.specs.List.{Contains}
-use Rattle.t1_picture.specs.declared.bands.Direction.{Direction}
+use Rattle.t1_drawing.specs.declared.direction.Direction.{Direction}
 use Rattle.t1_picture.specs.declared.causes.Cause.{Cause}
 use Rattle.t1_picture.specs.declared.causes.Cause.TheVariants.{Accent, Base, Ends, Miss as Missed, Outside as OutsidePoint, Stem as NamedOne, Untouched as LeftAlone, Zone}
 use Rattle.t1_picture.specs.declared.causes.NamedStem.{NamedStem}

@@ -13,8 +13,8 @@ use Rattle.t1_outline.specs.declared.segment.Segment.{Segment}
 use Rattle.t1_outline.specs.Outlines.{drawn, drawn_of}
 use Rattle.t1_outline.specs.Parts.{composition_of, sidebearing_by}
 use Rattle.t1_picture.specs.declared.bands.Band.{Band}
-use Rattle.t1_picture.specs.declared.bands.Direction.{Direction}
-use Rattle.t1_picture.specs.declared.bands.Direction.TheVariants.{Across, Upright}
+use Rattle.t1_drawing.specs.declared.direction.Direction.{Direction}
+use Rattle.t1_drawing.specs.declared.direction.Direction.TheVariants.{Across, Upright}
 use Rattle.t1_picture.specs.Bands.{band_of}
 use Rattle.t1_picture.specs.Layers.{LayersView, begun, segment_text, with_bands, with_gap, with_segments}
 use Rattle.t1_picture.specs.Subpaths.{behind, placed}

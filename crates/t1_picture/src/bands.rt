@@ -9,6 +9,7 @@ use crate::bounds::Bounds;
 use crate::frame::Frame;
 use std::alloc::AllocError;
 use t1_char::{Edition, UNIT};
+use t1_drawing::Direction;
 use t1_font::{Entry, Font, Key};
 use t1_reason_texts::{Exact, coordinate, value};
 use t1_rules::Stem;
@@ -21,15 +22,6 @@ const BLUE_VALUES: usize = 7;
 
 /// How many OtherBlues has.
 const OTHER_BLUES: usize = 5;
-
-/// Which way stems lie.
-#[derive(Clone, Copy, Debug, PartialEq, Eq)]
-pub(crate) enum Direction {
-    /// Those of hstem and hstem3, from left to right.
-    Across,
-    /// Those of vstem and vstem3, from bottom to top.
-    Upright,
-}
 
 /// A stem as it is drawn, by its edges in units of 1/65536.
 #[derive(Clone, Copy, Debug, PartialEq, Eq)]

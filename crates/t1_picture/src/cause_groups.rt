@@ -4,7 +4,7 @@ ghost use Rattle.std.specs.Prelude.{◌≡◌, ◌++◌, OnOk, string_bytes};
 ghost use Rattle.std.specs.List.{flat_map};
 ghost use Rattle.t1_picture.specs.CauseTexts.{cause_band, cause_line, cause_lines_part, cause_numbers, cause_points, cause_points_part, causes_part, causes_start, column_of, edge_at, edge_numbers, edge_text, edges_part, first_row, lower_number, lower_place, near_coordinate, second_row, upper_number, upper_place, with_cause, with_causes};
 
-use crate::bands::{Direction, write_across};
+use crate::bands::write_across;
 use crate::bounds::Bounds;
 use crate::causes::{Cause, NamedStem, Role};
 use crate::frame::Frame;
@@ -13,6 +13,7 @@ use crate::starts::{start_marks, start_numbers, start_path};
 use crate::texts::{END, END_OF_DATA, push};
 use std::alloc::AllocError;
 use t1_char::UNIT;
+use t1_drawing::Direction;
 use t1_font::BILLION;
 use t1_reason_texts::{Exact, coordinate, value};
 use t1_rules::Point;

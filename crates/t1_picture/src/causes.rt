@@ -3,13 +3,13 @@
 ghost use Rattle.std.specs.Prelude.{◌≡◌, ◌<◌, ◌+◌, ◌*◌, ◌++◌, OnOk, slice_get};
 ghost use Rattle.std.specs.Option.{option_to_list};
 ghost use Rattle.t1_font.specs.Entries.{entry_view};
-ghost use Rattle.t1_picture.specs.Causes.{band_direction, causes_in, causes_of_reason, component_causes, direction_of, means_components, named_stem, start_along, stem_at, untouched_stem, zone_at, zone_by, zone_in, zone_key, zone_of_key};
+ghost use Rattle.t1_picture.specs.Causes.{causes_in, causes_of_reason, component_causes, direction_of, means_components, named_stem, stem_at, untouched_stem, zone_at, zone_by, zone_in, zone_key, zone_of_key};
 
-use crate::bands::{Band, Direction, lower_edge, number_at, upper_edge};
+use crate::bands::{Band, lower_edge, number_at, upper_edge};
 use crate::view::View;
 use std::alloc::AllocError;
 use t1_char::{CharToken, Command, Edition};
-use t1_drawing::UntouchedStem;
+use t1_drawing::{Direction, UntouchedStem};
 use t1_font::{Entry, Font, Key};
 use t1_reasons::Reason;
 use t1_rules::{Edges, INDEXES, Point, Rule, Stem, key_among};
@@ -92,21 +92,11 @@ fn named_stem(edition: Edition, start: Point, role: Role, stem: Stem, direction:
     ensures { result ≡ named_stem edition start role stem direction }
 {
     Cause::Stem(NamedStem {
-        band: Band::of(stem, direction, start_along(direction, start), edition),
+        band: Band::of(stem, direction, direction.coordinate(start), edition),
         lower: lower_edge(stem, edition),
         upper: upper_edge(stem, edition),
         role,
     })
-}
-
-/// What positions of a direction count from.
-fn start_along(direction: Direction, start: Point) -> i64
-    ensures { result ≡ start_along direction start }
-{
-    match direction {
-        Direction::Across => start.y,
-        Direction::Upright => start.x,
-    }
 }
 
 /// The direction of the stems that a token sets, if it sets some.
@@ -169,11 +159,10 @@ fn add_causes_in(
 fn untouched_stem(start: Point, stem: UntouchedStem) -> Cause
     ensures { result ≡ untouched_stem start stem }
 {
-    let direction = band_direction(stem.direction);
-    let start = start_along(direction, start);
+    let start = stem.direction.coordinate(start);
     Cause::Untouched(NamedStem {
         band: Band {
-            direction,
+            direction: stem.direction,
             lower: stem.low,
             upper: stem.high,
         },
@@ -181,16 +170,6 @@ fn untouched_stem(start: Point, stem: UntouchedStem) -> Cause
         upper: stem.high.saturating_sub(start),
         role: Role::Own,
     })
-}
-
-/// The direction of the bands of stems.
-fn band_direction(direction: t1_drawing::Direction) -> Direction
-    ensures { result ≡ band_direction direction }
-{
-    match direction {
-        t1_drawing::Direction::Across => Direction::Across,
-        t1_drawing::Direction::Upright => Direction::Upright,
-    }
 }
 
 /// Adds both components, where a rule may mean either.

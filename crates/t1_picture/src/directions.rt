@@ -5,11 +5,11 @@ ghost use Rattle.t1_outline.specs.Private.Outlining.{steps_in};
 ghost use Rattle.t1_picture.specs.Causes.{direction_among};
 ghost use Rattle.t1_picture.specs.Private.Runs.{IsOfSameGlyph};
 
-use crate::bands::Direction;
 use crate::causes::direction_of;
 use crate::run::{Next, Run};
 use std::marker::Model;
 use t1_char::Edition;
+use t1_drawing::Direction;
 use t1_font::Font;
 
 /// The directions of a glyph's steps, in the order of the steps. It executes the glyph once.

@@ -5,11 +5,12 @@ ghost use Rattle.t1_picture.specs.Layers.{begun, layers_view, mark_text, no_laye
 ghost use Rattle.t1_outline.specs.declared.segment.Segment.TheVariants.{Curve};
 ghost use Rattle.t1_picture.specs.Parts.{bands_of};
 
-use crate::bands::{Band, Direction};
+use crate::bands::Band;
 use crate::bounds::Bounds;
 use crate::subpath::{Subpath, placed};
 use std::alloc::{AllocError, Global};
 use t1_char::Edition;
+use t1_drawing::Direction;
 use t1_outline::Segment;
 use t1_reason_texts::{Coordinates, Exact, coordinate};
 use t1_rules::{Point, Stem};

@@ -11,7 +11,6 @@ ghost use Rattle.t1_picture.specs.Subjects.{subject_of};
 ghost use Rattle.t1_picture.specs.Views.{CanBeDrawn};
 ghost use Rattle.t1_report.specs.Faults.{fault_value};
 
-use crate::bands::Direction;
 use crate::causes::{Cause, StemPlace, add_cause, add_causes, zone_at};
 use crate::directions::Directions;
 use crate::faults::{Faults, add_lines};
@@ -19,6 +18,7 @@ use crate::marks::{FaultMark, Marks};
 use crate::run::Run;
 use crate::view::View;
 use std::alloc::{AllocError, Global};
+use t1_drawing::Direction;
 use t1_font::Font;
 use t1_reasons::{Reason, ReportReasons};
 use t1_report::Fault;

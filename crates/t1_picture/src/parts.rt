@@ -16,13 +16,13 @@ ghost use Rattle.t1_report.specs.Traces.{step_line};
 ghost use Rattle.t1_rules.specs.StepRules.Paths.{in_flex};
 ghost use Rattle.t1_rules.specs.StepRules.Stems.{hint_set, lies_across, stands_upright};
 
-use crate::bands::Direction;
 use crate::layers::Layers;
 use crate::run::{Next, Run};
 use crate::subpath::behind;
 use crate::texts::{add_line, written_line};
 use std::alloc::{AllocError, Global};
 use t1_char::{Edition, Step};
+use t1_drawing::Direction;
 use t1_font::Font;
 use t1_forms::Text;
 use t1_outline::{Composition, DrawnStep, Part};

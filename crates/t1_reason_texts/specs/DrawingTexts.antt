@@ -1,9 +1,10 @@
 -- What the texts of reasons on the drawing are made of.
-use Rattle.std.specs.Prelude.{ℕ, ℤ, pos, ◌+ℤ◌, ◌-ℤ◌, ◌*ℤ◌, ◌==◌, int_le, if◌then◌else◌, Bool, Option, Some, List, [], ◌++◌, codes}
+use Rattle.std.specs.Prelude.{ℕ, ℤ, ◌==◌, if◌then◌else◌, Option, Some, List, [], ◌++◌, codes}
 use Rattle.std.specs.Fmt.{decimal}
 use Rattle.t1_drawing.specs.declared.direction.Direction.{Direction}
 use Rattle.t1_drawing.specs.declared.direction.Direction.TheVariants.{Across, Upright}
 use Rattle.t1_drawing.specs.declared.font_box.FontBox.{FontBox}
+use Rattle.t1_drawing.specs.FontBoxes.{is_over, is_under}
 use Rattle.t1_drawing.specs.declared.touching.UntouchedStem.{UntouchedStem}
 use Rattle.t1_outline.specs.declared.segment.Segment.{Segment}
 use Rattle.t1_outline.specs.Laws.Points.{end_of}
@@ -15,16 +16,8 @@ use Rattle.t1_reason_texts.specs.Decimals.{coordinate_of, coordinate_text, exact
 use Rattle.t1_rules.specs.declared.rule.Rule.{Rule}
 use Rattle.t1_rules.specs.declared.rule.Rule.TheVariants.{P06, P07, P08}
 use Rattle.t1_rules.specs.declared.step_rules.flex.Point.{Point}
-use Rattle.t1_scan.specs.Numbers.{billion}
 
--- P04: a coordinate is a unit or more below an edge of FontBBox, or above one. Edges are in billionths.
-abbrev pub is_under : ℤ → ℤ → Bool
-is_under edge z = int_le (z *ℤ pos billion) ((edge -ℤ pos billion) *ℤ pos 65536)
-
-abbrev pub is_over : ℤ → ℤ → Bool
-is_over edge z = int_le ((edge +ℤ pos billion) *ℤ pos 65536) (z *ℤ pos billion)
-
--- The first side on which a point is outside.
+-- P04: the first side on which a point is outside.
 abbrev pub side_of : Point → FontBox → Side
 side_of p box =
     if is_under box.left p.x then Left

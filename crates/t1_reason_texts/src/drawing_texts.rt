@@ -1,23 +1,12 @@
 //! What the texts of reasons on the drawing are made of.
 
-ghost use Rattle.std.specs.Prelude.{◌≡◌, ◌*ℤ◌, ◌+ℤ◌, ◌-ℤ◌, pos, Some};
-ghost use Rattle.t1_outline.specs.Laws.Points.{end_of};
-ghost use Rattle.t1_reason_texts.specs.DrawingTexts.{axis_word, beyond_text, drawn_text, is_over, is_under, more_text, outside_text, place_text, quarters_word, side_axis, side_edge, side_of, side_place, side_words, stroke_text, untouched_text};
-ghost use Rattle.t1_scan.specs.Numbers.{billion};
+ghost use Rattle.std.specs.Prelude.{◌≡◌, Some};
+ghost use Rattle.t1_reason_texts.specs.DrawingTexts.{axis_word, beyond_text, drawn_text, more_text, outside_text, place_text, quarters_word, side_axis, side_edge, side_of, side_place, side_words, stroke_text, untouched_text};
 
 use crate::decimals::{Coordinates, Exact, Unit, coordinate, value};
 use std::fmt;
-use t1_char::UNIT;
-use t1_drawing::{Direction, FontBox, UntouchedStem};
-use t1_font::BILLION;
-use t1_outline::Segment;
+use t1_drawing::{Direction, FontBox, UntouchedStem, is_over, is_under};
 use t1_rules::{Point, Rule};
-
-/// A unit of character space, as points count it.
-const POINT_UNIT: i128 = UNIT as i128;
-
-/// The same, as the numbers of a font count it.
-const FONT_UNIT: i128 = BILLION as i128;
 
 /// A point outside FontBBox.
 #[derive(Clone, Copy)]
@@ -132,53 +121,6 @@ impl Side {
             Side::Below => value(font_box.bottom),
             Side::Above => value(font_box.top),
         }
-    }
-}
-
-/// Whether a coordinate is a unit or more below an edge of FontBBox.
-fn is_under(edge: i64, place: i64) -> bool
-    ensures { result ≡ is_under edge place }
-{
-    of_point(place) <= a_unit_below(edge)
-}
-
-/// Whether it is a unit or more above one.
-fn is_over(edge: i64, place: i64) -> bool
-    ensures { result ≡ is_over edge place }
-{
-    a_unit_above(edge) <= of_point(place)
-}
-
-/// A point's coordinate, in units of 1/65536 of 10^-9.
-fn of_point(place: i64) -> i128
-    ensures { result ≡ place *ℤ pos billion }
-{
-    i128::from(place) * FONT_UNIT
-}
-
-/// What is a unit below an edge, in the same units.
-fn a_unit_below(edge: i64) -> i128
-    ensures { result ≡ (edge -ℤ pos billion) *ℤ pos 65536 }
-{
-    (i128::from(edge) - FONT_UNIT) * POINT_UNIT
-}
-
-/// What is a unit above it.
-fn a_unit_above(edge: i64) -> i128
-    ensures { result ≡ (edge +ℤ pos billion) *ℤ pos 65536 }
-{
-    (i128::from(edge) + FONT_UNIT) * POINT_UNIT
-}
-
-/// Where a segment ends, unless it is closepath.
-pub(crate) fn end_of(segment: Segment) -> Option<Point>
-    ensures { result ≡ end_of segment }
-{
-    match segment {
-        Segment::Move(point) => Some(point),
-        Segment::Line(end) => Some(end),
-        Segment::Curve(_, _, end) => Some(end),
-        Segment::Close => None,
     }
 }
 

@@ -4,11 +4,10 @@ ghost use Rattle.std.specs.Prelude.{◌≡◌};
 ghost use Rattle.t1_reason_texts.specs.Fields.{coordinate_field, drawing_fields_of, fields_of, font_fields_of, listed, stroke_fields, value_field, word_fields_of};
 
 use crate::decimals::{Exact, Unit, coordinate, value};
-use crate::drawing_texts::end_of;
 use Field::{CodeName, Count, GlyphName, Holds};
 use Fields::{Five, Four, One, Three, Two};
 use t1_char::{CharToken, Command};
-use t1_drawing::{Direction, FontBox};
+use t1_drawing::{Direction, FontBox, end_of};
 use t1_font::Encoding;
 use t1_reasons::{EntryKind, FontText, Found, Reason};
 use t1_rules::{Edges, Point, Stem};

@@ -4,7 +4,7 @@ ghost use Rattle.std.specs.Prelude.{◌≡◌, Some, IfOk, option_map};
 ghost use Rattle.t1_reason_texts.specs.Texts.{drawing_reason_text, font_reason_text, numbers_reason_text, outline_reason_text, reason_text, says_more, shown_text};
 
 use crate::decimals::{Coordinates, Exact, Unit, coordinate, value};
-use crate::drawing_texts::{BeyondText, OutsideText, StrokeText, UntouchedText, end_of};
+use crate::drawing_texts::{BeyondText, OutsideText, StrokeText, UntouchedText};
 use crate::font_texts::{
     EntryText, FoundText, SubrEntryText, encoded_name, form_words, has_two, says_last,
 };
@@ -25,6 +25,7 @@ use arrayvec::ArrayString;
 use std::fmt;
 use std::fmt::Write;
 use t1_char::{CharToken, command_name};
+use t1_drawing::end_of;
 use t1_font::Font;
 use t1_reasons::{EntryKind, Reason, Unused, fuzz_across, fuzz_that_does, scale_that_does};
 use t1_rules::Rule;

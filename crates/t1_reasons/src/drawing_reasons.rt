@@ -1,19 +1,15 @@
 //! Reasons of the rules on the drawing: Type 1 Font Format 1.1, chapters 2, 3 and 5.
 
-ghost use Rattle.std.specs.Prelude.{◌≡◌, ◌^◌, ◌+ℤ◌, ◌*ℤ◌, pos, int_le, find};
-ghost use Rattle.t1_drawing.specs.Curves.{at_half, at_quarter, is_beyond, three_units};
-ghost use Rattle.t1_rules.specs.Watches.{IsWithin};
-ghost use Rattle.t1_outline.specs.Laws.Points.{end_of};
+ghost use Rattle.std.specs.Prelude.{◌≡◌, find};
 ghost use Rattle.t1_reasons.specs.DrawingReasons.{are_beyond, area_of_drawing, beyond_at, beyond_of, beyonds_along, breaks_rule, fault_of, first_beyond, or_nothing, outside_of, stem_left, told_of_segment, told_of_segments};
 
 use crate::reason::Reason;
-use t1_char::UNIT;
-use t1_drawing::{Direction, FontBox, SegmentFaults, TracedSegment, UntouchedStem};
+use t1_drawing::{
+    Direction, FontBox, SegmentFaults, TracedSegment, UntouchedStem, at_half, at_quarter, end_of,
+    is_beyond,
+};
 use t1_outline::Segment;
 use t1_rules::{Point, Rule};
-
-/// Three units of character space, in units of 1/65536, 64 times.
-const THREE_UNITS: i128 = 64 * (3 * UNIT as i128);
 
 /// A reason, or that there is nothing more to tell.
 pub(crate) fn or_nothing(reason: Option<Reason>) -> Reason
@@ -100,18 +96,6 @@ fn told_of_segment(font_box: Option<FontBox>, rule: Rule, traced: TracedSegment)
     }
 }
 
-/// Where a segment ends, unless it is closepath.
-fn end_of(segment: Segment) -> Option<Point>
-    ensures { result ≡ end_of segment }
-{
-    match segment {
-        Segment::Move(point) => Some(point),
-        Segment::Line(end) => Some(end),
-        Segment::Curve(_, _, end) => Some(end),
-        Segment::Close => None,
-    }
-}
-
 /// A point outside FontBBox.
 fn outside_of(font_box: Option<FontBox>, point: Option<Point>) -> Reason
     ensures { result ≡ outside_of font_box point }
@@ -174,86 +158,4 @@ fn beyond_at(direction: Direction, quarters: u8, start: i64, end: i64, place: i1
         start,
         end,
     }
-}
-
-/// Whether a coordinate, 64 times, is three units or more above both ends, or below both.
-#[tactic(auto, unfolding(t1_drawing::specs::Curves::is_beyond))]
-fn is_beyond(start: i64, end: i64, place: i128) -> bool
-    requires { IsWithin (2 ^ 80) place }
-    ensures { result ≡ is_beyond start end place }
-{
-    let start = sixty_fourfold(start);
-    let end = sixty_fourfold(end);
-    (is_above(start, place) & is_above(end, place))
-        | (is_above(place, start) & is_above(place, end))
-}
-
-fn sixty_fourfold(coordinate: i64) -> i128
-    ensures value { result ≡ pos 64 *ℤ coordinate }
-    ensures within { IsWithin (2 ^ 80) result }
-{
-    64 * i128::from(coordinate)
-}
-
-/// Whether a place is three units or more above another, both 64 times.
-fn is_above(other: i128, place: i128) -> bool
-    requires { IsWithin (2 ^ 80) other }
-    ensures { result ≡ int_le (other +ℤ pos three_units) place }
-{
-    other + THREE_UNITS <= place
-}
-
-/// 64 times the coordinate of a curve at 1/4 of its parameter.
-#[tactic(auto, unfolding(t1_drawing::specs::Curves::at_quarter))]
-fn at_quarter(start: i64, one: i64, two: i64, end: i64) -> i128
-    ensures value { result ≡ at_quarter start one two end }
-    ensures within { IsWithin (2 ^ 80) result }
-{
-    sum(twenty_sevenfold(start, one), nine_and_one(two, end))
-}
-
-/// 64 times that at 1/2.
-#[tactic(auto, unfolding(t1_drawing::specs::Curves::at_half))]
-fn at_half(start: i64, one: i64, two: i64, end: i64) -> i128
-    ensures value { result ≡ at_half start one two end }
-    ensures within { IsWithin (2 ^ 80) result }
-{
-    sum(eightfold(start, end), twenty_fourfold(one, two))
-}
-
-fn twenty_sevenfold(one: i64, other: i64) -> i128
-    ensures value { result ≡ pos 27 *ℤ (one +ℤ other) }
-    ensures within { IsWithin (2 ^ 79) result }
-{
-    27 * (i128::from(one) + i128::from(other))
-}
-
-fn eightfold(one: i64, other: i64) -> i128
-    ensures value { result ≡ pos 8 *ℤ (one +ℤ other) }
-    ensures within { IsWithin (2 ^ 79) result }
-{
-    8 * (i128::from(one) + i128::from(other))
-}
-
-fn twenty_fourfold(one: i64, other: i64) -> i128
-    ensures value { result ≡ pos 24 *ℤ (one +ℤ other) }
-    ensures within { IsWithin (2 ^ 79) result }
-{
-    24 * (i128::from(one) + i128::from(other))
-}
-
-fn nine_and_one(one: i64, other: i64) -> i128
-    ensures value { result ≡ pos 9 *ℤ one +ℤ other }
-    ensures within { IsWithin (2 ^ 79) result }
-{
-    9 * i128::from(one) + i128::from(other)
-}
-
-fn sum(one: i128, other: i128) -> i128
-    requires one { IsWithin (2 ^ 79) one }
-    requires other { IsWithin (2 ^ 79) other }
-    ensures value { result ≡ one +ℤ other }
-    ensures within { IsWithin (2 ^ 80) result }
-{
-    one + other
 }
