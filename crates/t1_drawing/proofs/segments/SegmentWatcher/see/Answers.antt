@@ -1,11 +1,10 @@
-use Rattle.std.proofs.Common.{ℕ, List, [], ◌∷◌, ◌++◌, ◌≡◌, ◌∙◌, ap, get_or, length, refl, subst, sym, take, arith}
-use Rattle.std.proofs.lemmas.List.{length-take-le}
+use Rattle.std.proofs.Common.{ℕ, List, ◌++◌, ◌∙◌, ap, get_or, subst, sym, take}
 use Rattle.t1_outline.specs.declared.segment.Segment.{Segment}
 use Rattle.t1_outline.specs.declared.segment.Segment.TheVariants.{Move}
 use Rattle.t1_rules.specs.StepRules.Flex.{origin}
-use Rattle.t1_drawing.specs.Drawings.{faults_in, traced, traced_at}
+use Rattle.t1_drawing.specs.Drawings.{faults_in}
 use Rattle.t1_drawing.specs.Private.Standing.{SegmentsStandFor}
-use Rattle.t1_drawing.proofs.Drawing.{drawn_at, faults_more, longer, taken, traced_length, traced_more}
+use Rattle.t1_drawing.proofs.Drawing.{drawn_at, faults_more, longer, taken}
 use Rattle.t1_drawing.proofs.segments.SegmentWatcher.see.Goals as goal
 
 pub loop-segment-preserved : goal.loop-segment-preserved
@@ -16,28 +15,15 @@ loop-segment-preserved c =
     let within = c.loop-segment-test.true in
     record {
       stands = λ box before st can.
-          subst (SegmentsStandFor box c.see_one-own.new.self) (sym (longer before here i none within))
-          (c.see_one-own.ensures.stands box (before ++ take i here) (c.loop-segment.invariant.stands box before st can)
+          subst (SegmentsStandFor box c.see_one.new.self) (sym (longer before here i none within))
+          (c.see_one.ensures.stands box (before ++ take i here) (c.loop-segment.invariant.stands box before st can)
           (drawn_at before here i none within can));
       faults = λ box before st can.
           c.join-faults.ensures
           ∙ rw (
             c.loop-segment.invariant.faults box before st can,
-            c.see_one-own.ensures.faults box (before ++ take i here) (c.loop-segment.invariant.stands box before st can)
+            c.see_one.ensures.faults box (before ++ take i here) (c.loop-segment.invariant.stands box before st can)
                 (drawn_at before here i none within can),
           ) (faults_more box before (take i here) (get_or here i none))
           ∙ ap (faults_in box before) (sym (taken here i none within));
-      traced = λ box before st can few.
-          let stands = c.loop-segment.invariant.stands box before st can in
-          let earlier = c.loop-segment.invariant.traced box before st can few in
-          let all : length (take i here) ≡ i = length-take-le i here (omega (arith, within)) in
-          let fits = ap length earlier ∙ traced_length box before (take i here) ∙ all in
-          c.keep.ensures (omega (arith, fits, few, within))
-          ∙ rw (
-            earlier,
-            stands.line_start,
-            stands.start,
-            c.see_one-own.ensures.faults box (before ++ take i here) stands (drawn_at before here i none within can),
-          ) (sym (traced_more box before (take i here) (get_or here i none)))
-          ∙ ap (traced box before) (sym (taken here i none within));
     }
