@@ -1,5 +1,5 @@
 -- What one step more changes for the stems of a glyph and what is drawn beside them.
-use Rattle.std.proofs.Common.{◌≡◌, ◌+◌, ℕ, ℤ, Some, option_map, ◌||◌, not, nat_le, if◌then◌else◌, Bool, true, false, Option, None, List, [], ◌∷◌, ◌++◌, length, map, refl, sym, ap, ◌∙◌, append_assoc, append-nil, arith}
+use Rattle.std.proofs.Common.{◌≡◌, ◌+◌, ◌<◌, ℕ, zero, suc, ℤ, Some, get_or, take, option_map, ◌||◌, not, nat_le, if◌then◌else◌, Bool, true, false, Option, None, List, [], ◌∷◌, ◌++◌, length, map, refl, sym, ap, subst, ◌∙◌, append_assoc, append-nil, arith}
 use Rattle.std.proofs.Math.Bool.{or-false, or_assoc}
 use Rattle.std.proofs.lemmas.List.{length-map, map-append}
 use Rattle.std.proofs.lemmas.List.Folds.{list_any-append}
@@ -13,6 +13,7 @@ use Rattle.t1_drawing.specs.declared.touching.WatchedStem.{WatchedStem}
 use Rattle.t1_drawing.specs.Strokes.{Stroke, end_of_steps, segments_of, strokes_after, strokes_at, strokes_from}
 use Rattle.t1_drawing.specs.Touching.{SetStem, coordinate, extent_by, has_edges_of, is_stroke, is_touched, is_untouched, set_after, set_at, set_from, setting_width, sidebearing_point, stems_of_glyph, stems_set, touches, touches_one, untouched_of, with_stem, with_stems}
 use Rattle.t1_drawing.specs.Private.Watching.{Drawing, all_touched, draw_on, draws_on, has_edges, is_left, left_as, point_on, touched_by, watched, with_stem_from, with_stems_from}
+use Rattle.t1_drawing.proofs.Mapped.{mapped_to}
 use Rattle.t1_drawing.proofs.NearLaws.{steps_add_what_they_draw}
 use Rattle.t1_outline.specs.declared.segment.Segment.{Segment}
 use Rattle.t1_outline.specs.Laws.Points.{end_of, last_end}
@@ -132,6 +133,20 @@ touched_stay e (s ∷ ss) all = go s.touched refl all (touched_stay e ss)
     go false is all rest = let no : false ≡ true = all in cc
     go true is all rest =
         rw (touched_stays e s is, rest all) refl
+
+-- One more of those that are touched.
+pub touched_more : (f : WatchedStem → WatchedStem) (i : ℕ) (stems : List WatchedStem) (d : WatchedStem) → i < length stems
+    → all_touched (map f (take i stems)) ≡ true → (f (get_or (mapped_to f i stems) i d)).touched ≡ true → all_touched (map f (take (suc i) stems)) ≡ true
+touched_more f i [] d fits all last = absurd (omega (arith, fits))
+touched_more f zero (s ∷ ss) d fits all last = subst (λ t. not (not t || false) ≡ true) (sym last) refl
+touched_more f (suc i) (s ∷ ss) d fits all last = go (f s).touched refl all (touched_more f i ss d (omega (arith, fits)))
+  where
+    go : (touched : Bool) → (f s).touched ≡ touched → not (not touched || list_any (λ stem. not stem.touched) (map f (take i ss))) ≡ true
+        → (all_touched (map f (take i ss)) ≡ true → (f (get_or (mapped_to f i ss) i d)).touched ≡ true → all_touched (map f (take (suc i) ss)) ≡ true)
+        → all_touched (map f (take (suc (suc i)) (s ∷ ss))) ≡ true
+    go false is all rest = let no : false ≡ true = all in cc
+    go true is all rest =
+        subst (λ t. not (not t || list_any (λ stem. not stem.touched) (map f (take (suc i) ss))) ≡ true) (sym is) (rest all last)
 
 -- What is no line and no curve touches nothing.
 pub touched_by_nothing : (stems : List WatchedStem) → map (touched_by None) stems ≡ stems

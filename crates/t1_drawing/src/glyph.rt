@@ -127,7 +127,7 @@ impl DrawingWatcher {
             ≡ (breaks (step_rules edition) n before (step_view step.now) || breaks (drawing_rules box) n before (step_view step.now)) }
     {
         if watches.is_in_flex() {
-            return self.see_any(watches, step).broken;
+            return self.see_any(watches, step);
         }
         if is_silent(step.token) {
             return watches.see(step);
@@ -138,7 +138,7 @@ impl DrawingWatcher {
                 if draws_nothing(step.token) {
                     self.see_setting(watches, step)
                 } else {
-                    self.see_any(watches, step).broken
+                    self.see_any(watches, step)
                 }
             }
         }
@@ -205,9 +205,28 @@ impl DrawingWatcher {
         }))
     }
 
-    /// The same of any step, with what it draws.
+    /// The same of any step.
     #[inline(never)]
-    fn see_any(&mut self, watches: &mut Watches, step: &Step) -> Seen
+    fn see_any(&mut self, watches: &mut Watches, step: &Step) -> Mask
+        requires { (edition : Editions) × ((box : Option Boxes) × ((before : List StepView) ×
+            (WatchesStandFor edition watches.old before × (DrawingStandsFor box self.old before × (length before < most_steps))))) }
+        ensures watches { (edition : Editions) (before : List StepView) →
+            WatchesStandFor edition watches.old before → length before < most_steps →
+            WatchesStandFor edition watches.new (before ++ step_view step.now ∷ []) }
+        ensures stands { (edition : Editions) (box : Option Boxes) (before : List StepView) →
+            WatchesStandFor edition watches.old before → DrawingStandsFor box self.old before → length before < most_steps →
+            DrawingStandsFor box self.new (before ++ step_view step.now ∷ []) }
+        ensures answer { (edition : Editions) (box : Option Boxes) (before : List StepView) →
+            WatchesStandFor edition watches.old before → DrawingStandsFor box self.old before → length before < most_steps →
+            (n : ℕ) → has result n
+            ≡ (breaks (step_rules edition) n before (step_view step.now) || breaks (drawing_rules box) n before (step_view step.now)) }
+    {
+        self.see_drawn(watches, step).broken
+    }
+
+    /// The same, with what the step draws.
+    #[inline(always)]
+    fn see_drawn(&mut self, watches: &mut Watches, step: &Step) -> Seen
         requires { (edition : Editions) × ((box : Option Boxes) × ((before : List StepView) ×
             (WatchesStandFor edition watches.old before × (DrawingStandsFor box self.old before × (length before < most_steps))))) }
         ensures watches { (edition : Editions) (before : List StepView) →
@@ -273,7 +292,7 @@ impl DrawingWatcher {
             result.segments.items ≡ traced box (segments_of before) (drawn before (step_view step.now)) }
     {
         let before = self.segments;
-        let seen = self.see_any(watches, step);
+        let seen = self.see_drawn(watches, step);
         TracedStep {
             broken: seen.broken,
             segments: before.traced(seen.drawn.as_slice()),

@@ -184,15 +184,17 @@ impl Extent {
 }
 
 impl WatchedStem {
-    /// After a line or a curve more.
-    fn touched_by(self, extent: Extent) -> WatchedStem
-        ensures { result ≡ touched_by (Some extent) self }
+    /// Sees a line or a curve more. Returns whether the stem is touched now.
+    #[inline(always)]
+    fn see(&mut self, extent: Extent) -> bool
+        ensures stem { self.new ≡ touched_by (Some extent) self.old }
+        ensures touched { result ≡ self.new.touched }
     {
         if self.touched {
-            return self;
+            return true;
         }
-        let touched = extent.touches_one(self.low, self.high);
-        WatchedStem { touched, ..self }
+        self.touched = extent.touches_one(self.low, self.high);
+        self.touched
     }
 
     fn has_edges(self, low: i64, high: i64) -> bool
@@ -202,22 +204,31 @@ impl WatchedStem {
     }
 }
 
-/// Stems that something is drawn beside.
-fn touch_all(stems: &mut [WatchedStem], extent: Extent)
-    ensures { stems.new ≡ map (touched_by (Some extent)) stems.old }
+/// Stems that something is drawn beside. Returns whether all are touched now.
+fn touch_all(stems: &mut [WatchedStem], extent: Extent) -> bool
+    ensures stems { stems.new ≡ map (touched_by (Some extent)) stems.old }
+    ensures all { result ≡ true → all_touched stems.new ≡ true }
 {
+    let mut all = true;
     for stem in stems.iter_mut() {
-        *stem = stem.touched_by(extent);
+        all = stem.see(extent) & all;
     }
+    all
 }
 
-/// The same of a segment that may be no line and no curve.
-fn touch(stems: &mut WatchedStems, direction: Direction, start: Option<Point>, segment: Segment)
-    ensures { stems.new.items ≡ map (touched_by (extent_by (coordinate direction) start segment)) stems.old.items }
+/// The same of a segment that may be no line and no curve: then it isn't known.
+fn touch(
+    stems: &mut WatchedStems,
+    direction: Direction,
+    start: Option<Point>,
+    segment: Segment,
+) -> bool
+    ensures stems { stems.new.items ≡ map (touched_by (extent_by (coordinate direction) start segment)) stems.old.items }
+    ensures all { result ≡ true → all_touched stems.new.items ≡ true }
 {
     match direction.extent(start, segment) {
         Some(extent) => touch_all(stems.as_mut_slice(), extent),
-        None => (),
+        None => false,
     }
 }
 
@@ -237,8 +248,7 @@ fn touch_on(
     if *are_done {
         return;
     }
-    touch(stems, direction, start, segment);
-    *are_done = !one_is_untouched(stems.as_slice());
+    *are_done = touch(stems, direction, start, segment);
 }
 
 fn is_stroke(segment: Segment) -> bool

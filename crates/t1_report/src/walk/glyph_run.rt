@@ -199,8 +199,11 @@ fn go_on(machine: &mut Machine<'_>, watches: &mut Watches, draws: bool) -> Answe
     ensures font { executed machine.new ≡ executed machine.old }
     ensures glyph { machine.new.glyph ≡ machine.old.glyph }
 {
+    if draws {
+        return go_on_by_numbers(machine, watches);
+    }
     // Each arm has a machine of its own, which tests no more what it passes.
-    match passing_by(watches, machine.counted(), draws) {
+    match passing_by(watches, machine.counted()) {
         Passing::Returned => machine.go_far(Passing::Returned).answer,
         Passing::Numbers => machine.go_far(Passing::Numbers).answer,
         Passing::Lines => {
@@ -209,6 +212,22 @@ fn go_on(machine: &mut Machine<'_>, watches: &mut Watches, draws: bool) -> Answe
             far.answer
         }
         Passing::Moves => go_on_by_moves(machine, watches),
+    }
+}
+
+/// The same where lines and moves are told too.
+#[inline(never)]
+fn go_on_by_numbers(machine: &mut Machine<'_>, watches: &Watches) -> Answer
+    requires run { IsRun machine.old watches.now }
+    requires near { machine.old.counted ≤ step_limit (executed machine.old) }
+    ensures asked { HasGone machine.old watches.now machine.new watches.now (answer_view result machine.new.step) }
+    ensures font { executed machine.new ≡ executed machine.old }
+    ensures glyph { machine.new.glyph ≡ machine.old.glyph }
+{
+    if watches.is_calm() {
+        machine.go_far(Passing::Numbers).answer
+    } else {
+        machine.go_far(Passing::Returned).answer
     }
 }
 
@@ -227,15 +246,15 @@ fn go_on_by_moves(machine: &mut Machine<'_>, watches: &mut Watches) -> Answer
     far.answer
 }
 
-/// What becomes of the steps that come after the one of this number: numbers are passed, unless a rule speaks of them; where none
-/// speaks of what is drawn also lines in the midst of a path, and moves where they come one after another.
+/// What becomes of the steps that come after the one of this number, where no rule speaks of what is drawn: numbers are passed, unless a
+/// rule speaks of them, also lines in the midst of a path, and moves where they come one after another.
 #[inline(always)]
-fn passing_by(watches: &Watches, step: u32, draws: bool) -> Passing
-    ensures { (edition : Editions) → draws ≡ has_latest_rules edition → IsFit edition result watches.now }
+fn passing_by(watches: &Watches, step: u32) -> Passing
+    ensures { (edition : Editions) → has_latest_rules edition ≡ false → IsFit edition result watches.now }
 {
     if !watches.is_calm() {
         Passing::Returned
-    } else if draws || !watches.is_steady() {
+    } else if !watches.is_steady() {
         Passing::Numbers
     } else if watches.is_idle(step) {
         Passing::Moves

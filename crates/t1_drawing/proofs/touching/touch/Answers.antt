@@ -3,7 +3,7 @@ use Rattle.t1_drawing.specs.Private.Watching.{touched_by}
 use Rattle.t1_drawing.proofs.Touches.{touched_by_nothing}
 use Rattle.t1_drawing.proofs.touching.touch.Goals as goal
 
-pub returns-in-None : goal.returns-in-None
-returns-in-None c =
+pub returns-in-None-clause-stems : goal.returns-in-None-clause-stems
+returns-in-None-clause-stems c =
     let items = c.args.stems.now.items in
     sym (touched_by_nothing items) ∙ ap (λ e. map (touched_by e) items) (sym c.in-None.is ∙ c.extent.ensures)

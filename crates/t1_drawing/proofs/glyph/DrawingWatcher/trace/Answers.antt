@@ -14,12 +14,12 @@ traced-requires c =
     let ws = c.requires.1.1.1.0 in
     let st = c.requires.1.1.1.1.0 in
     let short = c.requires.1.1.1.1.1 in
-    let here = c.as_slice.ensures.value ∙ c.see_any-seen.ensures.drawn edition box before ws st short in
+    let here = c.as_slice.ensures.value ∙ c.see_drawn-seen.ensures.drawn edition box before ws st short in
     (box, (segments_of before, (st.segments, subst (CanBeDrawn (segments_of before)) (sym here) (drawn_segments_can_be_seen before (step_view c.args.step.now) short))))
 
 pub returns-clause-traced : goal.returns-clause-traced
 returns-clause-traced c = λ edition box before ws st short.
-    let here = c.as_slice.ensures.value ∙ c.see_any-seen.ensures.drawn edition box before ws st short in
+    let here = c.as_slice.ensures.value ∙ c.see_drawn-seen.ensures.drawn edition box before ws st short in
     let can = subst (CanBeDrawn (segments_of before)) (sym here) (drawn_segments_can_be_seen before (step_view c.args.step.now) short) in
     let few = ap length (c.as_slice.ensures.value) in
     c.traced.ensures box (segments_of before) st.segments can (omega (arith, few))

@@ -6,7 +6,7 @@ use Rattle.t1_drawing.specs.Strokes.{segments_of}
 use Rattle.t1_drawing.specs.Private.Standing.{SegmentsStandFor}
 use Rattle.t1_drawing.proofs.NearLaws.{drawn_segments_can_be_seen, steps_add_what_they_draw}
 use Rattle.t1_drawing.proofs.Spoiled.{spoils_by_steps}
-use Rattle.t1_drawing.proofs.glyph.DrawingWatcher.see_any.Goals as goal
+use Rattle.t1_drawing.proofs.glyph.DrawingWatcher.see_drawn.Goals as goal
 use Rattle.t1_outline.specs.Nibs.{IsAround}
 use Rattle.t1_outline.specs.Outlines.{drawn}
 
