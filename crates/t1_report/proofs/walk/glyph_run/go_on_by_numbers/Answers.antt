@@ -1,4 +1,4 @@
-use Rattle.std.proofs.Common.{refl}
+use Rattle.std.proofs.Common.{refl, rules}
 use Rattle.t1_char.specs.declared.lines.Passing.TheVariants.{Numbers, Returned}
 use Rattle.t1_report.proofs.PassedLines.{has_stayed}
 use Rattle.t1_report.proofs.walk.glyph_run.go_on_by_numbers.Goals as goal
@@ -11,4 +11,4 @@ returns-then-is_calm-clause-asked c =
 pub returns-else-is_calm-clause-asked : goal.returns-else-is_calm-clause-asked
 returns-else-is_calm-clause-asked c =
     has_stayed Returned refl c.args.machine.now c.go_far-else-is_calm.new.self _ c.go_far-else-is_calm.result.way c.args.watches.now
-    ? c.go_far-else-is_calm.ensures.asked
+    (search rules) c.go_far-else-is_calm.ensures.asked
