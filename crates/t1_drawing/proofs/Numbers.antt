@@ -1,7 +1,6 @@
 -- A step that draws nothing, sets no stem and no width, and doesn't end the glyph: it breaks no rule on the drawing, and a watcher matches the steps
 -- with it too. So do numbers.
-use Rattle.std.proofs.Common.{◌≡◌, ℕ, ℤ, ◌&&◌, ◌||◌, not, Bool, true, false, Option, None, List, [], ◌∷◌, ◌++◌, map, take, append-nil, refl, sym, ap, subst, ◌∙◌}
-use Rattle.std.specs.List.{list_any}
+use Rattle.std.proofs.Common.{◌≡◌, ℕ, ℤ, ◌&&◌, ◌||◌, not, Bool, true, false, Option, List, [], ◌∷◌, ◌++◌, map, take, append-nil, refl, sym, ap, subst, ◌∙◌}
 use Rattle.std.proofs.Math.Bool.{and-false, or-false}
 use Rattle.t1_char.specs.declared.command.Command.{Command as Commands}
 use Rattle.t1_char.specs.declared.command.Command.TheVariants.{Callsubr, Div, Dotsection, Hlineto, Hvcurveto, Pop, Return, Rlineto, Rrcurveto, Setcurrentpoint, Vhcurveto, Vlineto}
@@ -31,7 +30,7 @@ use Rattle.t1_drawing.proofs.NearLaws.{steps_add_what_they_draw}
 use Rattle.t1_drawing.proofs.Touches.{end_on, point_goes_on, strokes_more, touched_by_none, watched_on}
 use Rattle.t1_outline.specs.declared.nib.Nib.{Nib}
 use Rattle.t1_outline.specs.Laws.Points.{last_end}
-use Rattle.t1_outline.specs.Outlines.{begins_flex, drawn, flex_places, has_subpath, is_spoiled, makes_subpath, spoils_flex}
+use Rattle.t1_outline.specs.Outlines.{begins_flex, drawn, has_subpath, is_spoiled, makes_subpath, spoils_flex}
 use Rattle.t1_outline.specs.Private.Standing.{NibStandsFor}
 use Rattle.t1_outline.proofs.Flexes.{places_go_on, spoiled_goes_on}
 use Rattle.t1_outline.proofs.Subpaths.{no_stroke}

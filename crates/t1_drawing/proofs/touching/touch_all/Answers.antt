@@ -1,4 +1,4 @@
-use Rattle.std.proofs.Common.{◌≡◌, ◌+◌, Some, suc, set, map, take, refl, ap, subst, ◌∙◌, sym, true, arith}
+use Rattle.std.proofs.Common.{◌≡◌, ◌+◌, Some, suc, set, map, take, ap, subst, ◌∙◌, sym, true, arith}
 use Rattle.std.proofs.lemmas.Bool.{and_parts}
 use Rattle.std.proofs.lemmas.List.{take_all}
 use Rattle.t1_drawing.specs.Private.Watching.{all_touched, touched_by}

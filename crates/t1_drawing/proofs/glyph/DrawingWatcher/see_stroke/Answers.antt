@@ -1,4 +1,4 @@
-use Rattle.std.proofs.Common.{◌≡◌, ◌||◌, [], ◌∷◌, ◌++◌, refl, sym, ap, subst, ◌∙◌}
+use Rattle.std.proofs.Common.{◌≡◌, ◌||◌, ◌++◌, refl, sym, ap, subst, ◌∙◌}
 use Rattle.std.proofs.Math.Bool.{or-true}
 use Rattle.t1_char.specs.StepValues.{step_view}
 use Rattle.t1_drawing.specs.Bounds.{CanBeDrawn}

@@ -1,4 +1,4 @@
-use Rattle.std.proofs.Common.{◌≡◌, length, sym, ap, subst, ◌∙◌, arith}
+use Rattle.std.proofs.Common.{length, sym, ap, subst, ◌∙◌, arith}
 use Rattle.t1_char.specs.StepValues.{step_view}
 use Rattle.t1_drawing.specs.Bounds.{CanBeDrawn}
 use Rattle.t1_drawing.specs.Drawings.{traced}

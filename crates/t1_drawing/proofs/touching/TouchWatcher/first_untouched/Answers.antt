@@ -1,8 +1,8 @@
 use Rattle.std.proofs.Common.{◌≡◌, ◌+◌, ℕ, ap, ◌∙◌, refl, option_map}
-use Rattle.std.specs.List.{count_by, find}
+use Rattle.std.specs.List.{count_by}
 use Rattle.t1_drawing.specs.declared.direction.Direction.TheVariants.{Across, Upright}
 use Rattle.t1_drawing.specs.Touching.{count_in, first_in, stems_of_glyph, untouched_of}
-use Rattle.t1_drawing.specs.Private.Watching.{is_left, left_as}
+use Rattle.t1_drawing.specs.Private.Watching.{is_left}
 use Rattle.t1_drawing.proofs.Touches.{counted_watched, found_watched}
 use Rattle.t1_drawing.proofs.touching.TouchWatcher.first_untouched.Goals as goal
 

@@ -3,11 +3,10 @@ use Rattle.std.specs.List.{list_any}
 use Rattle.t1_char.specs.StepValues.{step_view}
 use Rattle.t1_drawing.specs.declared.direction.Direction.TheVariants.{Across, Upright}
 use Rattle.t1_drawing.specs.Strokes.{end_of_steps, strokes_after, strokes_at, strokes_from}
-use Rattle.t1_drawing.specs.Touching.{coordinate, is_stroke, sidebearing_point, stems_set}
-use Rattle.t1_drawing.specs.Private.Watching.{drawing_in, point_in, point_on, with_stems_from}
+use Rattle.t1_drawing.specs.Touching.{coordinate, is_stroke, sidebearing_point}
+use Rattle.t1_drawing.specs.Private.Watching.{drawing_in, point_in, with_stems_from}
 use Rattle.t1_drawing.proofs.Touches.{draws, end_on, point_goes_on, strokes_more, touched_by_all, watched_on}
 use Rattle.t1_outline.specs.Laws.Points.{last_end}
-use Rattle.t1_rules.specs.StepRules.Flex.{point_set}
 use Rattle.t1_drawing.proofs.touching.TouchWatcher.see_stroke.Goals as goal
 
 pub returns : goal.returns

@@ -1,4 +1,4 @@
-use Rattle.std.proofs.Common.{◌≡◌, ◌||◌, of_z, rules, to_z, Some, ap, refl, sym, ◌∙◌}
+use Rattle.std.proofs.Common.{◌≡◌, ◌||◌, of_z, rules, to_z, Some, ap, sym, ◌∙◌}
 use Rattle.std.specs.Int.{w64}
 use Rattle.t1_drawing.specs.Touching.{touches_one}
 use Rattle.t1_drawing.proofs.Touches.{touched_stays}
