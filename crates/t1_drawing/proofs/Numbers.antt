@@ -3,7 +3,7 @@
 use Rattle.std.proofs.Common.{◌≡◌, ℕ, ℤ, ◌&&◌, ◌||◌, not, Bool, true, false, Option, List, [], ◌∷◌, ◌++◌, map, take, append-nil, refl, sym, ap, subst, ◌∙◌}
 use Rattle.std.proofs.Math.Bool.{and-false, or-false}
 use Rattle.t1_char.specs.declared.command.Command.{Command as Commands}
-use Rattle.t1_char.specs.declared.command.Command.TheVariants.{Callsubr, Div, Dotsection, Hlineto, Hvcurveto, Pop, Return, Rlineto, Rrcurveto, Setcurrentpoint, Vhcurveto, Vlineto}
+use Rattle.t1_char.specs.declared.command.Command.TheVariants.{Callsubr, Closepath, Div, Dotsection, Hlineto, Hmoveto, Hvcurveto, Pop, Return, Rlineto, Rmoveto, Rrcurveto, Setcurrentpoint, Vhcurveto, Vlineto, Vmoveto}
 use Rattle.t1_char.specs.declared.token.CharToken.{CharToken}
 use Rattle.t1_char.specs.declared.token.CharToken.TheVariants.{Command, Number}
 use Rattle.t1_char.specs.Arguments.{is_flex_end, is_flex_point, is_flex_start}
@@ -33,6 +33,7 @@ use Rattle.t1_outline.specs.Laws.Points.{last_end}
 use Rattle.t1_outline.specs.Outlines.{begins_flex, drawn, has_subpath, is_spoiled, makes_subpath, spoils_flex}
 use Rattle.t1_outline.specs.Private.Standing.{NibStandsFor}
 use Rattle.t1_outline.proofs.Flexes.{places_go_on, spoiled_goes_on}
+use Rattle.t1_outline.proofs.LoneStrokes.{run_stays}
 use Rattle.t1_outline.proofs.Subpaths.{no_stroke}
 use Rattle.t1_rules.specs.StepRules.{breaks}
 use Rattle.t1_rules.specs.StepRules.Flex.{commands_in_flex, counts_no_pairs, current_point, flex_moves, flex_points, miscounts, starts_in_flex}
@@ -94,6 +95,29 @@ plain t kind = go t.token refl kind
     go : (token : CharToken) → t.token ≡ token → (is_silent token || is_line token) ≡ true → IsPlain t
     go (Number z) is kind = plain_number t z is
     go (Command command) is kind = plain_command t command is kind
+    go _ is kind = let no : false ≡ true = kind in cc
+
+-- What a move and a closepath are not.
+pub record IsTurn (t : StepView) : Type 0 where
+  pub width : sets_width t.token ≡ false
+  pub across : stems_set Across t ≡ []
+  pub upright : stems_set Upright t ≡ []
+  pub adjacent : (before : List StepView) → sets_adjacent before t ≡ false
+  pub negative : sets_negative_width t ≡ false
+  pub ends : ends_glyph t ≡ false
+
+turn_command : (t : StepView) (command : Commands) → t.token ≡ Command command → (is_move (Command command) || closes (Command command)) ≡ true → IsTurn t
+turn_command t Rmoveto is kind = record { width = rw is refl; across = rw is refl; upright = rw is refl; adjacent = λ before. rw is refl; negative = rw is refl; ends = rw is refl }
+turn_command t Hmoveto is kind = record { width = rw is refl; across = rw is refl; upright = rw is refl; adjacent = λ before. rw is refl; negative = rw is refl; ends = rw is refl }
+turn_command t Vmoveto is kind = record { width = rw is refl; across = rw is refl; upright = rw is refl; adjacent = λ before. rw is refl; negative = rw is refl; ends = rw is refl }
+turn_command t Closepath is kind = record { width = rw is refl; across = rw is refl; upright = rw is refl; adjacent = λ before. rw is refl; negative = rw is refl; ends = rw is refl }
+turn_command t _ is kind = let no : false ≡ true = kind in cc
+
+pub turn : (t : StepView) → (is_move t.token || closes t.token) ≡ true → IsTurn t
+turn t kind = go t.token refl kind
+  where
+    go : (token : CharToken) → t.token ≡ token → (is_move token || closes token) ≡ true → IsTurn t
+    go (Command command) is kind = turn_command t command is kind
     go _ is kind = let no : false ≡ true = kind in cc
 
 -- One that is silent is no line.
@@ -167,13 +191,7 @@ module _ (before : List StepView) (t : StepView) (is : IsUndrawn t) where
 
   pub nib_stays : (nib : Nib) → spoils_flex before t ≡ false → NibStandsFor nib before → NibStandsFor nib (before ++ t ∷ [])
   nib_stays nib unspoiled st = record {
-    run = record {
-      places = st.run.places ∙ ap (take 8) (sym (places_go_on before t ∙ rw (is.start, is.point) refl));
-      spoiled = st.run.spoiled ∙ sym (spoiled_goes_on before t
-          ∙ ap (λ b. b || (is_spoiled before && not (begins_flex before t))) unspoiled
-          ∙ ap (λ b. is_spoiled before && not (b && not (in_flex before))) is.start
-          ∙ and-true (is_spoiled before));
-    };
+    run = run_stays nib.run before t is.start is.point unspoiled st.run;
     subpath = st.subpath ∙ sym (since_goes_on makes_subpath closing_step before t
         ∙ rw (is.move, is.line, is.end, is.closing) (and-true (has_subpath before)));
   }
@@ -221,17 +239,6 @@ unfolding drawing_rules
 no_fault_at_silent before t silent box n =
     let is = plain t (ap (λ b. b || is_line t.token) silent) in
     rw (undrawn_is before t (undrawn_silent t silent), is.move, is.ends, is.adjacent before, is.negative) refl
-
--- Outside flex nothing spoils one, and a number never does.
-pub unspoiled_outside : (before : List StepView) (t : StepView) → is_flex_start t ≡ false → in_flex before ≡ false → spoils_flex before t ≡ false
-unspoiled_outside before t start outside =
-    none (starts_in_flex before t) (commands_in_flex before t) (counts_no_pairs before t)
-    (ap (λ b. b && in_flex before) start)
-    (ap (λ b. (clears t.token && not (is_move t.token)) && b) outside ∙ and-false (clears t.token && not (is_move t.token)))
-    (ap (λ b. miscounts (flex_moves before) (flex_points before) t && b) outside ∙ and-false (miscounts (flex_moves before) (flex_points before) t))
-  where
-    none : (a b c : Bool) → a ≡ false → b ≡ false → c ≡ false → (a || (b || c)) ≡ false
-    none a b c first second third = rw (first, second, third) refl
 
 module _ (before : List StepView) (t : StepView) (z : ℤ) (is : t.token ≡ Number z) where
   number_is_silent : is_silent t.token ≡ true

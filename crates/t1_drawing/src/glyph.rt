@@ -8,7 +8,7 @@ ghost use Rattle.t1_char.specs.StepValues.{step_view};
 ghost use Rattle.t1_drawing.specs.declared.font_box.FontBox.{FontBox as Boxes};
 ghost use Rattle.t1_drawing.specs.DrawingRules.{breaks_own, drawing_rules, ends_clockwise, ends_glyph, ends_untouched, is_endchar};
 ghost use Rattle.t1_drawing.specs.Private.Joined.{are_none, drawing_faults};
-ghost use Rattle.t1_drawing.specs.Private.Plain.{DrawsAlone, SetsAlone, draws_nothing, is_silent};
+ghost use Rattle.t1_drawing.specs.Private.Plain.{DrawsAlone, SetsAlone, TurnsAlone, draws_nothing, is_silent};
 ghost use Rattle.t1_drawing.specs.Private.Standing.{BothStandFor, DrawingStandsFor, LatestDrawingStandsFor, SegmentsStandFor, TouchesStandFor};
 ghost use Rattle.t1_drawing.specs.Areas.{drawn_area};
 ghost use Rattle.t1_drawing.specs.Drawings.{traced};
@@ -132,6 +132,9 @@ impl DrawingWatcher {
         if is_silent(step.token) {
             return watches.see(step);
         }
+        if self.nib.begins_or_closes(step) {
+            return self.see_turn(watches, step);
+        }
         match self.nib.stroke(step, watches.point()) {
             Some(segment) => self.see_stroke(watches, step, segment),
             None => {
@@ -172,6 +175,37 @@ impl DrawingWatcher {
             ends_untouched,
             sets_adjacent,
             sets_negative_width: sets_negative_width(step),
+        }))
+    }
+
+    /// The same of a step that begins or closes a subpath, outside flex.
+    #[inline(never)]
+    fn see_turn(&mut self, watches: &mut Watches, step: &Step) -> Mask
+        requires { (edition : Editions) × ((box : Option Boxes) × ((before : List StepView) ×
+            TurnsAlone edition box watches.old self.old before (step_view step.now))) }
+        ensures watches { (edition : Editions) (before : List StepView) →
+            WatchesStandFor edition watches.old before → length before < most_steps →
+            WatchesStandFor edition watches.new (before ++ step_view step.now ∷ []) }
+        ensures stands { (edition : Editions) (box : Option Boxes) (before : List StepView) →
+            TurnsAlone edition box watches.old self.old before (step_view step.now) →
+            DrawingStandsFor box self.new (before ++ step_view step.now ∷ []) }
+        ensures answer { (edition : Editions) (box : Option Boxes) (before : List StepView) →
+            TurnsAlone edition box watches.old self.old before (step_view step.now) →
+            (n : ℕ) → has result n
+            ≡ (breaks (step_rules edition) n before (step_view step.now) || breaks (drawing_rules box) n before (step_view step.now)) }
+    {
+        let moves_again = self.moves.see(step, false);
+        let broken = watches.see(step);
+        let segment = self.nib.begin_or_close(step, watches.point());
+        let segments = self.segments.see_one(segment);
+        self.touches.see_stroke(step, segment);
+        broken.join(rules_in(DrawingFaults {
+            segments,
+            ends_clockwise: false,
+            moves_again,
+            ends_untouched: false,
+            sets_adjacent: false,
+            sets_negative_width: false,
         }))
     }
 

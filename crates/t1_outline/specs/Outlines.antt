@@ -16,7 +16,7 @@ use Rattle.t1_outline.specs.declared.segment.Segment.TheVariants.{Move, Line, Cu
 use Rattle.t1_rules.specs.declared.step_rules.flex.Point.{Point}
 use Rattle.t1_rules.specs.StepRules.Flex.{at, commands_in_flex, counts_no_pairs, current_point, plus, starts_in_flex}
 use Rattle.t1_rules.specs.StepRules.Paths.{closing_step, in_flex, outer_move}
-use Rattle.t1_rules.specs.StepRules.Tokens.{closes, is_line}
+use Rattle.t1_rules.specs.StepRules.Tokens.{closes, is_line, is_move}
 
 -- A line and a curve from a point on, by the ways from each of their points to the next.
 abbrev pub line : Point → Point → Segment
@@ -82,6 +82,10 @@ makes_subpath before step = outer_move before step || (is_line step.token || dra
 
 abbrev pub has_subpath : List StepView → Bool
 has_subpath before = since makes_subpath closing_step before
+
+-- A move begins a subpath outside flex, and a closepath closes one that is there: such a step draws nothing else.
+abbrev pub begins_or_closes : Test
+begins_or_closes before step = is_move step.token || (closes step.token && has_subpath before)
 
 -- Lines and curves from a point on, which begin a subpath there where there is none.
 abbrev pub with_opening : Bool → Point → List Segment → List Segment

@@ -4,7 +4,7 @@ ghost use Rattle.std.specs.Prelude.{◌≡◌, ◌<◌, ◌&&◌, ◌||◌, not,
 ghost use Rattle.t1_char.specs.Steps.{StepView};
 ghost use Rattle.t1_char.specs.StepValues.{step_view};
 ghost use Rattle.t1_outline.specs.Nibs.{IsAround};
-ghost use Rattle.t1_outline.specs.Outlines.{drawn, drawn_by, stroke};
+ghost use Rattle.t1_outline.specs.Outlines.{begins_or_closes, drawn, drawn_by, stroke};
 ghost use Rattle.t1_outline.specs.Private.Standing.{NibStandsFor};
 ghost use Rattle.t1_outline.specs.Private.Drawing.{drawn_in, ends_whole, makes_subpath_in, moves_outside};
 ghost use Rattle.t1_rules.specs.StepRules.Flex.{current_point};
@@ -67,6 +67,32 @@ impl Nib {
             stroke(start, step)
         } else {
             None
+        }
+    }
+
+    /// Whether the next step begins a subpath, or closes one that is there, if it is outside flex: then it draws nothing else.
+    #[inline(always)]
+    pub fn begins_or_closes(&self, step: &Step) -> bool
+        ensures { (before : List StepView) → NibStandsFor self.now before → result ≡ begins_or_closes before (step_view step.now) }
+    {
+        is_move(step.token) | (closes(step.token) & self.has_subpath)
+    }
+
+    /// What a move or a closepath outside flex draws, given where the current point is after it, if it begins or closes a subpath.
+    #[inline(always)]
+    pub fn begin_or_close(&mut self, step: &Step, end: Point) -> Segment
+        ensures drawn { (before : List StepView) → NibStandsFor self.old before → in_flex before ≡ false →
+            begins_or_closes before (step_view step.now) ≡ true → end ≡ current_point (before ++ step_view step.now ∷ []) →
+            drawn before (step_view step.now) ≡ result ∷ [] }
+        ensures stands { (before : List StepView) → NibStandsFor self.old before → in_flex before ≡ false →
+            begins_or_closes before (step_view step.now) ≡ true →
+            NibStandsFor self.new (before ++ step_view step.now ∷ []) }
+    {
+        self.has_subpath = is_move(step.token);
+        if self.has_subpath {
+            Segment::Move(end)
+        } else {
+            Segment::Close
         }
     }
 

@@ -11,7 +11,7 @@ use Rattle.t1_drawing.specs.declared.font_box.FontBox.{FontBox}
 use Rattle.t1_drawing.specs.declared.glyph.DrawingWatcher.{DrawingWatcher}
 use Rattle.t1_drawing.specs.Private.Standing.{DrawingStandsFor}
 use Rattle.t1_outline.specs.declared.segment.Segment.{Segment}
-use Rattle.t1_outline.specs.Outlines.{drawn}
+use Rattle.t1_outline.specs.Outlines.{begins_or_closes, drawn}
 use Rattle.t1_outline.specs.Private.Standing.{NibStandsFor}
 use Rattle.t1_rules.specs.declared.watches.Watches.{Watches}
 use Rattle.t1_rules.specs.Private.Standing.{WatchesStandFor}
@@ -45,6 +45,14 @@ pub record DrawsAlone (edition : Edition) (box : Option FontBox) (watches : Watc
 
 abbrev pub draws_nothing : CharToken → Bool
 draws_nothing token = not (is_move token || is_line token || closes token || is_callothersubr token)
+
+-- The step begins a subpath, or closes one, outside flex.
+pub record TurnsAlone (edition : Edition) (box : Option FontBox) (watches : Watches) (watcher : DrawingWatcher) (before : List StepView) (step : StepView) : Type 0 where
+  pub watched : WatchesStandFor edition watches before
+  pub stands : DrawingStandsFor box watcher before
+  pub short : length before < most_steps
+  pub outside : in_flex before ≡ false
+  pub turns : begins_or_closes before step ≡ true
 
 -- The step draws nothing, outside flex.
 pub record SetsAlone (edition : Edition) (box : Option FontBox) (watches : Watches) (watcher : DrawingWatcher) (before : List StepView) (step : StepView) : Type 0 where

@@ -7,7 +7,8 @@ use Rattle.t1_drawing.specs.declared.font_box.FontBox.{FontBox}
 use Rattle.t1_drawing.specs.declared.glyph.DrawingWatcher.{DrawingWatcher}
 use Rattle.t1_drawing.specs.Private.Plain.{DrawsAlone}
 use Rattle.t1_drawing.specs.Private.Standing.{DrawingStandsFor}
-use Rattle.t1_drawing.proofs.Numbers.{no_fault_at_silent, plain, stays_at_silent, unspoiled_outside}
+use Rattle.t1_drawing.proofs.Numbers.{no_fault_at_silent, plain, stays_at_silent}
+use Rattle.t1_outline.proofs.LoneStrokes.{unspoiled_outside}
 use Rattle.t1_drawing.proofs.glyph.DrawingWatcher.see.Goals as goal
 use Rattle.t1_outline.specs.declared.segment.Segment.{Segment}
 use Rattle.t1_outline.specs.Outlines.{drawn}
@@ -72,6 +73,48 @@ see_stroke-requires c =
         ),
       ),
     )
+
+pub see_turn-requires : goal.see_turn-requires
+see_turn-requires c =
+    let edition = c.requires.0 in
+    let before = c.requires.1.1.0 in
+    let ws = c.requires.1.1.1.0 in
+    let st = c.requires.1.1.1.1.0 in (
+      edition,
+      (
+        c.requires.1.0,
+        (
+          before,
+          record {
+            watched = ws;
+            stands = st;
+            short = c.requires.1.1.1.1.1;
+            outside = sym (c.is_in_flex.ensures edition before ws) ∙ c.if-is_in_flex.false;
+            turns = sym (c.begins_or_closes.ensures before st.nib) ∙ c.if-begins_or_closes.true;
+          },
+        ),
+      ),
+    )
+
+pub returns-then-begins_or_closes-clause-stands : goal.returns-then-begins_or_closes-clause-stands
+returns-then-begins_or_closes-clause-stands c = λ edition box before ws st short.
+    c.see_turn.ensures.stands edition box before (record {
+      watched = ws;
+      stands = st;
+      short = short;
+      outside = sym (c.is_in_flex.ensures edition before ws) ∙ c.if-is_in_flex.false;
+      turns = sym (c.begins_or_closes.ensures before st.nib) ∙ c.if-begins_or_closes.true;
+    })
+
+pub returns-then-begins_or_closes-clause-answer : goal.returns-then-begins_or_closes-clause-answer
+returns-then-begins_or_closes-clause-answer c = λ edition box before ws st short.
+    c.see_turn.ensures.answer edition box before (record {
+      watched = ws;
+      stands = st;
+      short = short;
+      outside = sym (c.is_in_flex.ensures edition before ws) ∙ c.if-is_in_flex.false;
+      turns = sym (c.begins_or_closes.ensures before st.nib) ∙ c.if-begins_or_closes.true;
+    })
 
 pub see_setting-requires : goal.see_setting-requires
 see_setting-requires c =

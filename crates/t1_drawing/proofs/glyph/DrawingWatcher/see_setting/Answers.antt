@@ -1,6 +1,7 @@
 use Rattle.std.proofs.Common.{refl, sym, ◌∙◌}
 use Rattle.t1_char.specs.StepValues.{step_view}
-use Rattle.t1_drawing.proofs.Numbers.{moves_stay, nib_stays, segments_stay, undrawn, undrawn_is, unspoiled_outside}
+use Rattle.t1_drawing.proofs.Numbers.{moves_stay, nib_stays, segments_stay, undrawn, undrawn_is}
+use Rattle.t1_outline.proofs.LoneStrokes.{unspoiled_outside}
 use Rattle.t1_drawing.proofs.glyph.DrawingWatcher.see_setting.Goals as goal
 
 pub returns-clause-stands : goal.returns-clause-stands
