@@ -117,18 +117,18 @@ impl Direction {
     }
 
     /// The extent of a line or a curve that begins at a point.
-    fn extent_from(self, start: Point, segment: Segment) -> Option<Extent>
-        ensures { result ≡ extent_from (coordinate self) start segment }
+    fn extent_from(self, start: Point, segment: &Segment) -> Option<Extent>
+        ensures { result ≡ extent_from (coordinate self) start segment.now }
     {
         match segment {
-            Segment::Line(end) => Some(self.line(start, end)),
-            Segment::Curve(one, two, end) => Some(self.curve(start, one, two, end)),
+            Segment::Line(end) => Some(self.line(start, *end)),
+            Segment::Curve(one, two, end) => Some(self.curve(start, *one, *two, *end)),
             Segment::Move(_) | Segment::Close => None,
         }
     }
 
-    pub(crate) fn extent(self, start: Option<Point>, segment: Segment) -> Option<Extent>
-        ensures { result ≡ extent_by (coordinate self) start segment }
+    pub(crate) fn extent(self, start: Option<Point>, segment: &Segment) -> Option<Extent>
+        ensures { result ≡ extent_by (coordinate self) start segment.now }
     {
         match start {
             Some(start) => self.extent_from(start, segment),
@@ -221,9 +221,9 @@ fn touch(
     stems: &mut WatchedStems,
     direction: Direction,
     start: Option<Point>,
-    segment: Segment,
+    segment: &Segment,
 ) -> bool
-    ensures stems { stems.new.items ≡ map (touched_by (extent_by (coordinate direction) start segment)) stems.old.items }
+    ensures stems { stems.new.items ≡ map (touched_by (extent_by (coordinate direction) start segment.now)) stems.old.items }
     ensures all { result ≡ true → all_touched stems.new.items ≡ true }
 {
     match direction.extent(start, segment) {
@@ -239,10 +239,10 @@ fn touch_on(
     are_done: &mut bool,
     direction: Direction,
     start: Option<Point>,
-    segment: Segment,
+    segment: &Segment,
 )
     requires { are_done.old ≡ true → all_touched stems.old.items ≡ true }
-    ensures stems { stems.new.items ≡ map (touched_by (extent_by (coordinate direction) start segment)) stems.old.items }
+    ensures stems { stems.new.items ≡ map (touched_by (extent_by (coordinate direction) start segment.now)) stems.old.items }
     ensures done { are_done.new ≡ true → all_touched stems.new.items ≡ true }
 {
     if *are_done {
@@ -452,16 +452,16 @@ impl TouchWatcher {
         ensures sidebearing { self.new.sidebearing ≡ self.old.sidebearing }
         ensures done { IsDone self.new }
     {
-        self.touch(segment);
+        self.touch(&segment);
         self.end = end_of(segment);
         self.has_strokes = self.has_strokes | is_stroke(segment);
     }
 
     /// Touches stems with a segment, where one isn't touched yet.
-    fn touch(&mut self, segment: Segment)
+    fn touch(&mut self, segment: &Segment)
         requires { IsDone self.old }
-        ensures across { self.new.across.items ≡ map (touched_by (extent_by (coordinate Across) self.old.end segment)) self.old.across.items }
-        ensures upright { self.new.upright.items ≡ map (touched_by (extent_by (coordinate Upright) self.old.end segment)) self.old.upright.items }
+        ensures across { self.new.across.items ≡ map (touched_by (extent_by (coordinate Across) self.old.end segment.now)) self.old.across.items }
+        ensures upright { self.new.upright.items ≡ map (touched_by (extent_by (coordinate Upright) self.old.end segment.now)) self.old.upright.items }
         ensures end { self.new.end ≡ self.old.end }
         ensures has_strokes { self.new.has_strokes ≡ self.old.has_strokes }
         ensures sidebearing { self.new.sidebearing ≡ self.old.sidebearing }
