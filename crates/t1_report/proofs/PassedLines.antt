@@ -39,7 +39,7 @@ use Rattle.t1_rules.specs.StepRules.Flex.{at}
 use Rattle.t1_rules.specs.Steady.{IsSteady, IsUndrawn, closed_on, drawn_on, led_by, moved_on, point_on}
 use Rattle.t1_rules.specs.Watches.{IsCalm, IsNear, most_steps}
 use Rattle.t1_rules.proofs.Lemmas.Flex.{plus_origin}
-use Rattle.t1_rules.proofs.Lemmas.Lines.{IsDrawn, line_open, line_token, move_token, move_undrawn, no_fault_at_close, no_fault_at_line, no_fault_at_move, stays_at_close, stays_at_line, stays_at_move}
+use Rattle.t1_rules.proofs.Lemmas.Lines.{IsDrawn, line_open, line_token, move_token, move_undrawn, no_fault_at_close, no_fault_at_move, none_at_line, stays_at_close, stays_at_line, stays_at_move}
 use Rattle.t1_report.specs.Checked.{CheckedFont, step_limit}
 use Rattle.t1_report.specs.Reports.{is_broken, rules_of}
 use Rattle.t1_report.specs.Laws.PassedLines.{PassedLinesBreakNoRule, WatchersMoveOnByLines}
@@ -156,16 +156,6 @@ none_at_command what font glyph k n before after early there passed no_seac none
     (sym (both_kinds font.edition components n (take k all) passed.step false false false refl
     (sym none) (sym (no_component_fault components n (take k all) passed.step no_seac))))
     (ap (λ b. b && breaks (drawing_rules (box_of font.value)) n (take k all) passed.step) early)
-
-none_at_line : (edition : Edition) (before : List StepView) (w : Watches) (n : ℕ) (step : StepView) (command : Commands)
-    → step.token ≡ Command command → IsLed is_line_command command step.stack → IsCalm w → IsSteady w → WatchesStandFor edition w before
-    → breaks (step_rules edition) n before step ≡ false
-unfolding WatchesStandFor
-none_at_line edition before w n step command token line calm steady st =
-    let behind_none = calm_is_behind_none edition w before st calm in
-    no_fault_at_line edition n before step command token line behind_none.0 behind_none.1
-    (sym st.0.begun ∙ steady.begun) (sym st.0.in_flex ∙ steady.path_flex) (sym st.0.moved ∙ steady.moved)
-    (sym st.1.1.1.1.1.going_on ∙ steady.going_on)
 
 none_at_move : (edition : Edition) (before : List StepView) (w : Watches) (n : ℕ) (step : StepView) (command : Commands)
     → step.token ≡ Command command → IsLed is_move_command command step.stack → IsCalm w → IsSteady w → IsUndrawn w

@@ -1,6 +1,8 @@
 //! All watchers as one.
 
-ghost use Rattle.std.specs.Prelude.{◌≡◌, true, ℕ, ◌+◌, ◌<◌, List, [], ◌∷◌, ◌++◌, length};
+ghost use Rattle.std.specs.Prelude.{◌≡◌, true, false, ℕ, ◌+◌, ◌<◌, Some, List, [], ◌∷◌, ◌++◌, length};
+ghost use Rattle.std.specs.List.{list_any};
+ghost use Rattle.t1_char.specs.Commands.{arguments_of};
 ghost use Rattle.t1_char.specs.declared.edition.Edition.{Edition as Editions};
 ghost use Rattle.t1_char.specs.declared.command.Command.TheVariants.{Callsubr, Hmoveto, Hstem, Return, Rmoveto, Vmoveto, Vstem};
 ghost use Rattle.t1_char.specs.declared.token.CharToken.TheVariants.{Number};
@@ -15,7 +17,8 @@ ghost use Rattle.t1_rules.specs.Private.Seeing.{CanSee, Sees};
 ghost use Rattle.t1_rules.specs.Private.Standing.{WatchesStandFor};
 ghost use Rattle.t1_rules.specs.Watches.{IsCalm, IsNear, most_steps};
 ghost use Rattle.t1_rules.specs.Steady.{IsSteady, IsUndrawn, drawn_on, moved_on, point_on};
-ghost use Rattle.t1_rules.specs.StepRules.Tokens.{IsCommand};
+ghost use Rattle.t1_rules.specs.StepRules.Arguments.{is_past};
+ghost use Rattle.t1_rules.specs.StepRules.Tokens.{IsCommand, is_line};
 
 use crate::mask::Mask;
 use crate::step_rules::arguments::{ArgumentWatcher, has_its_arguments};
@@ -157,6 +160,31 @@ impl Watches {
             CharToken::Command(command) => self.see_command(command, step),
             _ => self.see_rare(step),
         }
+    }
+
+    /// The same of a line or a curve, given where the current point is after it. In the midst of a path one with just its arguments,
+    /// none past 32000, breaks no rule, and all that it changes are the current point and what is drawn.
+    #[inline(always)]
+    pub fn see_stroke(&mut self, step: &Step, end: Point) -> Mask
+        requires line { is_line step.now.token ≡ true }
+        requires steps { (edition : Editions) × ((before : List StepView) ×
+            (WatchesStandFor edition self.old before × (length before < most_steps))) }
+        ensures stands { (edition : Editions) (before : List StepView) →
+            WatchesStandFor edition self.old before → length before < most_steps → current_point (before ++ step_view step.now ∷ []) ≡ end →
+            WatchesStandFor edition self.new (before ++ step_view step.now ∷ []) }
+        ensures answer { (edition : Editions) (before : List StepView) →
+            WatchesStandFor edition self.old before → length before < most_steps →
+            (n : ℕ) → has result n ≡ breaks (step_rules edition) n before (step_view step.now) }
+    {
+        let CharToken::Command(command) = step.token else {
+            return self.see_rare(step);
+        };
+        if self.is_usual(command, step) && self.is_steady() {
+            self.flex.lead_to(end);
+            self.draw();
+            return Mask::empty();
+        }
+        self.see_other(command, step)
     }
 
     /// What all watchers say of a number: most steps are numbers, and most of these change nothing.
@@ -479,7 +507,11 @@ impl Watches {
     /// Whether a move, a line, a curve or a stem is as most are. That is tested first, so that in the copy of the
     /// watchers for such a step hardly a test is left.
     #[inline(always)]
-    fn is_usual(&self, command: Command, step: &Step) -> bool {
+    fn is_usual(&self, command: Command, step: &Step) -> bool
+        ensures calm { result ≡ true → IsCalm self.now }
+        ensures count { result ≡ true → arguments_of command ≡ Some (length step.now.stack) }
+        ensures near { result ≡ true → list_any is_past step.now.stack ≡ false }
+    {
         self.is_calm() && has_its_arguments(command, step.stack.as_slice())
     }
 

@@ -1,5 +1,5 @@
 -- Lines, curves, closepaths and moves in the midst of a path: what watchers keep and say of them.
-use Rattle.std.proofs.Common.{◌≡◌, ℕ, suc, ◌&&◌, Bool, ℤ, pos, ◌+◌, ◌*◌, ◌^◌, ◌+ℤ◌, nat_lt, true, false, List, [], ◌∷◌, ◌++◌, length, take, slice_index_or, refl, sym, ◌∙◌, subst, arith}
+use Rattle.std.proofs.Common.{◌≡◌, ℕ, suc, ◌&&◌, Bool, ℤ, pos, ◌+◌, ◌*◌, ◌^◌, ◌+ℤ◌, nat_lt, true, false, List, [], ◌∷◌, ◌++◌, length, take, slice_index_or, refl, sym, ap, ◌∙◌, subst, arith}
 use Rattle.std.proofs.lemmas.Int.{ints, clamps}
 use Rattle.std.proofs.Math.Bool.{and-true, or-true}
 use Rattle.std.proofs.lemmas.List.{take_all}
@@ -18,13 +18,14 @@ use Rattle.t1_char.specs.declared.edition.Edition.{Edition}
 use Rattle.t1_char.specs.declared.lines.DrawnPath.TheVariants.{Nothing, Open}
 use Rattle.t1_char.specs.declared.lines.Way.{Way}
 use Rattle.t1_char.specs.declared.token.CharToken.TheVariants.{Command}
+use Rattle.t1_rules.specs.declared.step_rules.flex.FlexWatcher.{FlexWatcher}
 use Rattle.t1_rules.specs.declared.step_rules.flex.Point.{Point}
 use Rattle.t1_rules.specs.declared.watches.Watches.{Watches}
-use Rattle.t1_rules.specs.Private.Standing.{WatchesStandFor}
+use Rattle.t1_rules.specs.Private.Standing.{FlexStandsFor, WatchesStandFor}
 use Rattle.t1_rules.specs.StepRules.{argument_rules, breaks, call_rules, flex_rules, othersubr_rules, path_rules, seac_rules, stem_rules, step_rules}
 use Rattle.t1_rules.specs.StepRules.Arguments.{is_past}
 use Rattle.t1_rules.specs.StepRules.Counters.{goes_on_counting, last_told_is}
-use Rattle.t1_rules.specs.StepRules.Flex.{at, moved_by}
+use Rattle.t1_rules.specs.StepRules.Flex.{at, current_point, moved_by}
 use Rattle.t1_rules.specs.StepRules.Stems.{is_replaced, is_replaced_and_popped, is_stem, is_triple, lies_across, stands_upright}
 use Rattle.t1_rules.specs.StepRules.Paths.{in_flex, is_moved, is_open, clearing_step}
 use Rattle.t1_rules.specs.StepRules.Tokens.{clears, closes, is_command, is_div, is_line, is_move, is_pop, is_setcurrentpoint, sets_point, sets_width}
@@ -194,6 +195,20 @@ pub stays_at_line : (edition : Edition) (w : Watches) (before : List StepView) (
 stays_at_line edition w before t command is line calm steady st =
     subst (λ (v : Watches). WatchesStandFor edition v (before ++ t ∷ [])) (led_by_line w command line t.stack)
     (stays_led edition w before t command is line calm steady st)
+
+-- The same by where the current point is after it.
+pub stays_at_stroke : (edition : Edition) (w : Watches) (before : List StepView) (t : StepView) (command : Commands) (end : Point) → t.token ≡ Command command
+    → is_line_command command ≡ true → IsCalm w → IsSteady w → current_point (before ++ t ∷ []) ≡ end → WatchesStandFor edition w before
+    → WatchesStandFor edition (record (drawn_on w) { flex = record w.flex { point = end } }) (before ++ t ∷ [])
+unfolding WatchesStandFor led_on
+stays_at_stroke edition w before t command end is line calm steady there st =
+    let led = stays_led edition w before t command is line calm steady st in
+    let no_more : w.flex.moves + 0 ≡ w.flex.moves = omega arith in
+    let way : Way = way_by command t.stack in
+    let same : (record w.flex { point = point_on w.flex.point way; moves = w.flex.moves + 0 }) ≡ (record w.flex { point = end }) =
+    ap (λ moves. record w.flex { point = point_on w.flex.point way; moves = moves }) no_more
+    ∙ ap (λ point. record w.flex { point = point }) (led.1.1.0.point ∙ there) in
+    (led.0, (led.1.0, (subst (λ (f : FlexWatcher). FlexStandsFor f (before ++ t ∷ [])) same led.1.1.0, led.1.1.1)))
 
 -- The watchers that a move leads to.
 led_to : Watches → Way → Watches
@@ -389,3 +404,22 @@ no_fault_at_move edition n before t command is move replaced popped begun outsid
       outside,
       undrawn,
     ) (none_later edition before t (rw is f.stem) (rw is f.othersubr) (rw (is, f.clears) ended) n)
+
+-- What watchers that match the steps know of these is what the rules ask.
+pub none_at_line : (edition : Edition) (before : List StepView) (w : Watches) (n : ℕ) (step : StepView) (command : Commands)
+    → step.token ≡ Command command → IsLed is_line_command command step.stack → IsCalm w → IsSteady w → WatchesStandFor edition w before
+    → breaks (step_rules edition) n before step ≡ false
+unfolding WatchesStandFor
+none_at_line edition before w n step command token line calm steady st =
+    no_fault_at_line edition n before step command token line (sym st.1.0.replaced ∙ calm.replaced) (sym st.1.0.popped ∙ calm.hints_popped)
+    (sym st.0.begun ∙ steady.begun) (sym st.0.in_flex ∙ steady.path_flex) (sym st.0.moved ∙ steady.moved)
+    (sym st.1.1.1.1.1.going_on ∙ steady.going_on)
+
+pub line_is : (command : Commands) → is_line (Command command) ≡ true → is_line_command command ≡ true
+line_is Rlineto is = refl
+line_is Hlineto is = refl
+line_is Vlineto is = refl
+line_is Rrcurveto is = refl
+line_is Vhcurveto is = refl
+line_is Hvcurveto is = refl
+line_is _ is = let no : false ≡ true = is in cc

@@ -1,6 +1,6 @@
 //! The rules on tokens, arguments and numbers, C01 to C09: Type 1 Font Format 1.1, chapters 6 and 7.
 
-ghost use Rattle.std.specs.Prelude.{◌≡◌, ℕ, List};
+ghost use Rattle.std.specs.Prelude.{◌≡◌, true, false, ℕ, Some, List, length};
 ghost use Rattle.std.specs.List.{list_any};
 ghost use Rattle.t1_char.specs.declared.command.Command.TheVariants.{Div};
 ghost use Rattle.t1_char.specs.Commands.{arguments_of};
@@ -154,7 +154,10 @@ fn one_is_past(count: usize, numbers: &[i64]) -> bool
 
 /// Whether these are exactly the numbers that a command takes, and none is past 32000.
 #[inline(always)]
-pub(crate) fn has_its_arguments(command: Command, numbers: &[i64]) -> bool {
+pub(crate) fn has_its_arguments(command: Command, numbers: &[i64]) -> bool
+    ensures count { result ≡ true → arguments_of command ≡ Some (length numbers.now) }
+    ensures near { result ≡ true → list_any is_past numbers.now ≡ false }
+{
     match command.arguments() {
         Some(count) => usize::from(count) == numbers.len() && !any_is_past(numbers),
         None => false,

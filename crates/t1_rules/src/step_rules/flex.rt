@@ -156,6 +156,14 @@ impl FlexWatcher {
         };
     }
 
+    /// Leads the current point to another.
+    #[inline(always)]
+    pub(crate) fn lead_to(&mut self, point: Point)
+        ensures { self.new ≡ record self.old { point = point } }
+    {
+        self.point = point;
+    }
+
     /// What a step breaks.
     #[inline(always)]
     #[tactic(auto, unfolding(crate::specs::StepRules::flex_rules))]
