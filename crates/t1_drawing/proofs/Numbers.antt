@@ -1,7 +1,7 @@
 -- A step that draws nothing, sets no stem and no width, and doesn't end the glyph: it breaks no rule on the drawing, and a watcher matches the steps
 -- with it too. So do numbers.
-use Rattle.std.proofs.Common.{◌≡◌, ℕ, ℤ, ◌&&◌, ◌||◌, not, Bool, true, false, Option, List, [], ◌∷◌, ◌++◌, map, take, append-nil, refl, sym, ap, subst, ◌∙◌}
-use Rattle.std.proofs.Math.Bool.{and-false, or-false}
+use Rattle.std.proofs.Common.{◌≡◌, ℕ, ℤ, ◌&&◌, ◌||◌, not, Bool, true, false, Option, List, [], ◌∷◌, ◌++◌, map, append-nil, refl, sym, ap, subst, ◌∙◌}
+use Rattle.std.proofs.Math.Bool.{or-false}
 use Rattle.t1_char.specs.declared.command.Command.{Command as Commands}
 use Rattle.t1_char.specs.declared.command.Command.TheVariants.{Callsubr, Closepath, Div, Dotsection, Hlineto, Hmoveto, Hvcurveto, Pop, Return, Rlineto, Rmoveto, Rrcurveto, Setcurrentpoint, Vhcurveto, Vlineto, Vmoveto}
 use Rattle.t1_char.specs.declared.token.CharToken.{CharToken}
@@ -30,15 +30,14 @@ use Rattle.t1_drawing.proofs.NearLaws.{steps_add_what_they_draw}
 use Rattle.t1_drawing.proofs.Touches.{end_on, point_goes_on, strokes_more, touched_by_none, watched_on}
 use Rattle.t1_outline.specs.declared.nib.Nib.{Nib}
 use Rattle.t1_outline.specs.Laws.Points.{last_end}
-use Rattle.t1_outline.specs.Outlines.{begins_flex, drawn, has_subpath, is_spoiled, makes_subpath, spoils_flex}
+use Rattle.t1_outline.specs.Outlines.{drawn, has_subpath, makes_subpath, spoils_flex}
 use Rattle.t1_outline.specs.Private.Standing.{NibStandsFor}
-use Rattle.t1_outline.proofs.Flexes.{places_go_on, spoiled_goes_on}
 use Rattle.t1_outline.proofs.LoneStrokes.{run_stays}
 use Rattle.t1_outline.proofs.Subpaths.{no_stroke}
 use Rattle.t1_rules.specs.StepRules.{breaks}
-use Rattle.t1_rules.specs.StepRules.Flex.{commands_in_flex, counts_no_pairs, current_point, flex_moves, flex_points, miscounts, starts_in_flex}
-use Rattle.t1_rules.specs.StepRules.Paths.{closing_step, in_flex, outer_move}
-use Rattle.t1_rules.specs.StepRules.Tokens.{clears, closes, is_line, is_move, sets_width}
+use Rattle.t1_rules.specs.StepRules.Flex.{current_point}
+use Rattle.t1_rules.specs.StepRules.Paths.{closing_step, outer_move}
+use Rattle.t1_rules.specs.StepRules.Tokens.{closes, is_line, is_move, sets_width}
 
 and-true : (b : Bool) → (b && true) ≡ b
 and-true true = refl

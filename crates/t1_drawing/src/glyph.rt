@@ -1,6 +1,6 @@
 //! The steps of a glyph, one after another: what each breaks of the rules on the drawing.
 
-ghost use Rattle.std.specs.Prelude.{◌≡◌, ◌<◌, ◌||◌, true, ℕ, Option, List, [], ◌∷◌, ◌++◌, length};
+ghost use Rattle.std.specs.Prelude.{◌≡◌, ◌<◌, ◌||◌, true, ℕ, Option, Some, List, [], ◌∷◌, ◌++◌, length};
 ghost use Rattle.t1_char.specs.declared.edition.Edition.{Edition as Editions};
 ghost use Rattle.t1_char.specs.Editions.{has_latest_rules};
 ghost use Rattle.t1_char.specs.Steps.{StepView};
@@ -14,15 +14,18 @@ ghost use Rattle.t1_drawing.specs.Areas.{drawn_area};
 ghost use Rattle.t1_drawing.specs.Drawings.{traced};
 ghost use Rattle.t1_drawing.specs.Touching.{first_untouched};
 ghost use Rattle.t1_drawing.specs.Strokes.{segments_of};
+ghost use Rattle.t1_outline.specs.Laws.Points.{end_of};
 ghost use Rattle.t1_outline.specs.Outlines.{drawn};
 ghost use Rattle.t1_rules.specs.Mask.{has};
 ghost use Rattle.t1_rules.specs.Private.Standing.{WatchesStandFor};
 ghost use Rattle.t1_rules.specs.StepRules.{breaks, step_rules};
+ghost use Rattle.t1_rules.specs.StepRules.Flex.{current_point};
 ghost use Rattle.t1_rules.specs.Watches.{most_steps};
 
 use crate::faults::SegmentFaults;
 use crate::font_box::FontBox;
 use crate::moves::MoveWatcher;
+use crate::points::end_of;
 use crate::segments::{SegmentWatcher, TracedSegments};
 use crate::stem_edges::{sets_adjacent, sets_negative_width};
 use crate::touching::{TouchWatcher, UntouchedStem};
@@ -212,8 +215,10 @@ impl DrawingWatcher {
     /// The same of a line or a curve that is all that its step draws, outside flex: most steps that draw are such steps.
     #[inline(always)]
     fn see_stroke(&mut self, watches: &mut Watches, step: &Step, segment: Segment) -> Mask
-        requires { (edition : Editions) × ((box : Option Boxes) × ((before : List StepView) ×
+        requires alone { (edition : Editions) × ((box : Option Boxes) × ((before : List StepView) ×
             DrawsAlone edition box watches.old self.old before (step_view step.now) segment)) }
+        requires end { (edition : Editions) (before : List StepView) → WatchesStandFor edition watches.old before →
+            end_of segment ≡ Some (current_point (before ++ step_view step.now ∷ [])) }
         ensures watches { (edition : Editions) (before : List StepView) →
             WatchesStandFor edition watches.old before → length before < most_steps →
             WatchesStandFor edition watches.new (before ++ step_view step.now ∷ []) }
@@ -226,7 +231,8 @@ impl DrawingWatcher {
             ≡ (breaks (step_rules edition) n before (step_view step.now) || breaks (drawing_rules box) n before (step_view step.now)) }
     {
         let _moves_again = self.moves.see(step, false);
-        let broken = watches.see(step);
+        let end = end_of(segment).unwrap_or(watches.point());
+        let broken = watches.see_stroke(step, end);
         let segments = self.segments.see_one(segment);
         self.touches.see_stroke(step, segment);
         broken.join(rules_in(DrawingFaults {

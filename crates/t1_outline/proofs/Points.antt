@@ -1,12 +1,13 @@
 -- Where the segments of a step end.
-use Rattle.std.proofs.Common.{◌≡◌, ℤ, pos, ◌+ℤ◌, if◌then◌else◌, Bool, true, false, Option, Some, List, [], ◌∷◌, ◌++◌, length, refl, sym, ap, ◌∙◌, arith}
+use Rattle.std.proofs.Common.{◌≡◌, ℤ, pos, ◌+ℤ◌, if◌then◌else◌, Bool, true, false, Option, None, Some, List, [], ◌∷◌, ◌++◌, length, refl, sym, ap, ◌∙◌, arith}
 use Rattle.std.proofs.lemmas.Int.{ints}
 use Rattle.t1_char.specs.declared.command.Command.TheVariants.{Vlineto, Rlineto, Hlineto, Rrcurveto, Vhcurveto, Hvcurveto}
 use Rattle.t1_char.specs.declared.token.CharToken.{CharToken}
 use Rattle.t1_char.specs.declared.token.CharToken.TheVariants.{Command}
 use Rattle.t1_char.specs.Steps.{StepView}
+use Rattle.t1_outline.specs.declared.segment.Segment.{Segment}
 use Rattle.t1_outline.specs.declared.segment.Segment.TheVariants.{Move}
-use Rattle.t1_outline.specs.Laws.Points.{StepsEndAtTheCurrentPoint, last_end}
+use Rattle.t1_outline.specs.Laws.Points.{StepsEndAtTheCurrentPoint, end_of, last_end}
 use Rattle.t1_outline.specs.Outlines.{draws_flex, drawn_by, flex_curves, flex_places, has_subpath, stroke, stroke_at}
 use Rattle.t1_outline.proofs.Flexes.{eight_places, is_whole_flex, seven_each}
 use Rattle.t1_outline.proofs.LastPlaces.{called_clears_none, is_at_place, last_place, stays}
@@ -59,6 +60,14 @@ line_sets_none (Command Vhcurveto) is = refl
 line_sets_none (Command Hvcurveto) is = refl
 line_sets_none (Command _) is = let no : false ≡ true = is in cc
 line_sets_none _ is = let no : false ≡ true = is in cc
+
+-- One from the current point on ends where the current point is after it.
+pub stroke_ends : (before : List StepView) (t : StepView) (s : Segment) → is_line t.token ≡ true → stroke (current_point before) t ≡ Some s
+    → end_of s ≡ Some (current_point (before ++ t ∷ []))
+stroke_ends before t s is drawn =
+    ap (λ (d : Option Segment). last_end None (drawn_by true (current_point before) false d)) (sym drawn)
+    ∙ line_ends true false None (current_point before) t.stack t.token is
+    ∙ ap (λ (q : Point). Some q) (sym (point_goes_on before t ∙ rw (line_sets_none t.token is) refl))
 
 -- The curves of a flex end at its last place.
 curves_end : (there : Bool) (p : Option Point) (q : Point) (places : List Point) → length places ≡ 8

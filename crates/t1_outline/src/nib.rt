@@ -1,8 +1,9 @@
 //! What steps draw, by what the rules' watchers say of each: Type 1 Font Format 1.1, chapters 6 and 8.
 
-ghost use Rattle.std.specs.Prelude.{◌≡◌, ◌<◌, ◌&&◌, ◌||◌, not, false, true, ℕ, IfSome, List, [], ◌∷◌, ◌++◌};
+ghost use Rattle.std.specs.Prelude.{◌≡◌, ◌<◌, ◌&&◌, ◌||◌, not, false, true, ℕ, IfSome, Some, List, [], ◌∷◌, ◌++◌};
 ghost use Rattle.t1_char.specs.Steps.{StepView};
 ghost use Rattle.t1_char.specs.StepValues.{step_view};
+ghost use Rattle.t1_outline.specs.Laws.Points.{end_of};
 ghost use Rattle.t1_outline.specs.Nibs.{IsAround};
 ghost use Rattle.t1_outline.specs.Outlines.{begins_or_closes, drawn, drawn_by, stroke};
 ghost use Rattle.t1_outline.specs.Private.Standing.{NibStandsFor};
@@ -58,6 +59,8 @@ impl Nib {
     pub fn stroke(&self, step: &Step, start: Point) -> Option<Segment>
         requires { (n : ℕ) × (IsNear n start × (n < most_steps)) }
         ensures line { IfSome result (λ segment. is_line step.now.token ≡ true) }
+        ensures end { (before : List StepView) → start ≡ current_point before →
+            IfSome result (λ segment. end_of segment ≡ Some (current_point (before ++ step_view step.now ∷ []))) }
         ensures drawn { (before : List StepView) → NibStandsFor self.now before → start ≡ current_point before → in_flex before ≡ false →
             IfSome result (λ segment. drawn before (step_view step.now) ≡ segment ∷ []) }
         ensures stands { (before : List StepView) → NibStandsFor self.now before → in_flex before ≡ false →

@@ -1,4 +1,4 @@
-use Rattle.std.proofs.Common.{◌≡◌, ◌<◌, ◌||◌, false, true, IfSome, None, Option, Some, List, [], ◌∷◌, ◌++◌, length, sym, ap, ◌∙◌}
+use Rattle.std.proofs.Common.{◌≡◌, ◌<◌, ◌||◌, false, true, IfSome, None, Option, Some, List, [], ◌∷◌, ◌++◌, length, sym, ap, subst, ◌∙◌}
 use Rattle.std.proofs.Math.Bool.{or-false}
 use Rattle.t1_char.specs.declared.edition.Edition.{Edition}
 use Rattle.t1_char.specs.Steps.{StepView}
@@ -11,11 +11,13 @@ use Rattle.t1_drawing.proofs.Numbers.{no_fault_at_silent, plain, stays_at_silent
 use Rattle.t1_outline.proofs.LoneStrokes.{unspoiled_outside}
 use Rattle.t1_drawing.proofs.glyph.DrawingWatcher.see.Goals as goal
 use Rattle.t1_outline.specs.declared.segment.Segment.{Segment}
+use Rattle.t1_outline.specs.Laws.Points.{end_of}
 use Rattle.t1_outline.specs.Outlines.{drawn}
 use Rattle.t1_outline.specs.Private.Standing.{NibStandsFor}
 use Rattle.t1_rules.specs.declared.watches.Watches.{Watches}
 use Rattle.t1_rules.specs.Private.Standing.{WatchesStandFor}
 use Rattle.t1_rules.specs.StepRules.{breaks, step_rules}
+use Rattle.t1_rules.specs.StepRules.Flex.{current_point}
 use Rattle.t1_rules.specs.StepRules.Paths.{in_flex}
 use Rattle.t1_rules.specs.StepRules.Tokens.{is_line}
 use Rattle.t1_rules.specs.Watches.{most_steps}
@@ -53,8 +55,8 @@ returns-then-is_silent-clause-answer c = λ edition box before ws st short n.
     c.see.ensures.answer edition before ws short n
     ∙ sym (ap (λ b. breaks (step_rules edition) n before t || b) (no_fault_at_silent before t silent box n) ∙ or-false (breaks (step_rules edition) n before t))
 
-pub see_stroke-requires : goal.see_stroke-requires
-see_stroke-requires c =
+pub see_stroke-requires-clause-alone : goal.see_stroke-requires-clause-alone
+see_stroke-requires-clause-alone c =
     let edition = c.requires.0 in
     let box = c.requires.1.0 in
     let before = c.requires.1.1.0 in
@@ -172,3 +174,9 @@ returns-in-Some-clause-answer c = λ edition box before ws st short.
     (draws_alone edition box c.args.watches.now c.args.self.now before (step_view c.args.step.now) c.stroke.result c.in-Some.segment c.in-Some.is ws st short
     outside c.stroke.ensures.line (c.stroke.ensures.drawn before st.nib (c.point.ensures.value edition before ws) outside)
     (c.stroke.ensures.stands before st.nib outside))
+
+pub see_stroke-requires-clause-end : goal.see_stroke-requires-clause-end
+see_stroke-requires-clause-end c = λ edition before ws.
+    let t = step_view c.args.step.now in
+    subst (λ (drawn : Option Segment). IfSome drawn (λ segment. end_of segment ≡ Some (current_point (before ++ t ∷ [])))) c.in-Some.is
+    (c.stroke.ensures.end before (c.point.ensures.value edition before ws))

@@ -1,5 +1,6 @@
 use Rattle.std.proofs.Common.{◌≡◌, ◌||◌, ◌++◌, refl, sym, ap, subst, ◌∙◌}
 use Rattle.std.proofs.Math.Bool.{or-true}
+use Rattle.std.specs.Option.{unwrap_or}
 use Rattle.t1_char.specs.StepValues.{step_view}
 use Rattle.t1_drawing.specs.Bounds.{CanBeDrawn}
 use Rattle.t1_drawing.specs.Drawings.{faults_in}
@@ -14,10 +15,10 @@ use Rattle.t1_outline.specs.Outlines.{drawn}
 
 pub see_one-segments-requires : goal.see_one-segments-requires
 see_one-segments-requires c =
-    let before = c.requires.1.1.0 in
-    let is = c.requires.1.1.1 in
+    let before = c.requires.alone.1.1.0 in
+    let is = c.requires.alone.1.1.1 in
     let can = subst (CanBeDrawn (segments_of before)) is.alone (drawn_segments_can_be_seen before (step_view c.args.step.now) is.short) in
-    (c.requires.1.0, (segments_of before, (is.stands.segments, can)))
+    (c.requires.alone.1.0, (segments_of before, (is.stands.segments, can)))
 
 pub returns-clause-stands : goal.returns-clause-stands
 returns-clause-stands c = λ edition box before is.
@@ -43,6 +44,17 @@ returns-clause-answer c = λ edition box before is n.
     let kind : IsPlain t = plain t (ap (λ b. is_silent t.token || b) is.line ∙ or-true (is_silent t.token)) in
     c.join.ensures n
     ∙ rw (
-      c.see-broken.ensures.answer edition before is.watched is.short n,
+      c.see_stroke-broken.ensures.answer edition before is.watched is.short n,
       c.rules_in.ensures box before t (rw (segments, kind.ends, kind.move, kind.adjacent before, kind.negative) refl) n,
     ) refl
+
+pub see_stroke-broken-requires-clause-line : goal.see_stroke-broken-requires-clause-line
+see_stroke-broken-requires-clause-line c = c.requires.alone.1.1.1.line
+
+pub see_stroke-broken-requires-clause-steps : goal.see_stroke-broken-requires-clause-steps
+see_stroke-broken-requires-clause-steps c = (c.requires.alone.0, (c.requires.alone.1.1.0, (c.requires.alone.1.1.1.watched, c.requires.alone.1.1.1.short)))
+
+pub returns-clause-watches : goal.returns-clause-watches
+returns-clause-watches c = λ edition before ws short.
+    c.see_stroke-broken.ensures.stands edition before ws short
+    (sym (c.unwrap_or-end.ensures ∙ ap (λ end. unwrap_or end c.point.result) (c.end_of.ensures.value ∙ c.requires.end edition before ws)))
