@@ -5,7 +5,7 @@ ghost use Rattle.std.specs.Ordering.{int_eq};
 ghost use Rattle.t1_scan.specs.Numbers.{billion};
 ghost use Rattle.t1_drawing.specs.DrawingRules.{box_of};
 ghost use Rattle.t1_drawing.specs.declared.font_box.FontBox.{FontBox as Boxes};
-ghost use Rattle.t1_drawing.specs.FontBoxes.{ends_outside, ends_outside_box, font_box, is_box, is_outside, is_over, is_under};
+ghost use Rattle.t1_drawing.specs.FontBoxes.{ends_outside, font_box, is_box, is_outside, is_over, is_under};
 ghost use Rattle.t1_drawing.specs.Private.Limits.{limits_of};
 
 use t1_char::UNIT;

@@ -6,8 +6,6 @@ use Rattle.t1_drawing.specs.declared.direction.Direction.TheVariants.{Across, Up
 use Rattle.t1_drawing.specs.declared.font_box.FontBox.{FontBox}
 use Rattle.t1_drawing.specs.FontBoxes.{is_over, is_under}
 use Rattle.t1_drawing.specs.declared.touching.UntouchedStem.{UntouchedStem}
-use Rattle.t1_outline.specs.declared.segment.Segment.{Segment}
-use Rattle.t1_outline.specs.Laws.Points.{end_of}
 use Rattle.t1_reason_texts.specs.declared.decimals.Exact.{Exact}
 use Rattle.t1_reason_texts.specs.declared.decimals.Unit.TheVariants.{Area, OnCurve}
 use Rattle.t1_reason_texts.specs.declared.drawing_texts.Side.{Side}
