@@ -35,6 +35,7 @@ limited script -qec "'$all' --no-reasons --columns 200 forty" /dev/null </dev/nu
     sed 's|.*|forty/&.pfb: F01 no end segment × 1: file|' numbers
     echo '40 fonts: 0 clean, 40 with faults, 0 refused, 0 not checked'
     echo '     40 F01 no end segment (should)'
+    echo 'by edition 1 of the rules; --edition 4 has more'
     echo '--'
 } >wanted
 # shellcheck disable=SC2016

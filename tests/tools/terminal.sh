@@ -111,8 +111,31 @@ glyphs.pfb: P03 closepath without a path × 1: A
 --
 1 font: 0 clean, 1 with faults, 0 refused, 0 not checked
       1 P03 closepath without a path (tidy)
+by edition 1 of the rules; --edition 4 has more
 END
 try 'the summary' 1 "$all" --columns 80 --only P03 glyphs.pfb
+
+# Where an edition is named, in words or in settings, or each line is written, the summary doesn't say which one was used.
+wanted <<'END'
+--
+1 font: 1 clean, 0 with faults, 0 refused, 0 not checked
+END
+try 'an edition that is named' 0 "$all" --columns 80 --edition 1 clean.pfb
+try 'each line' 0 "$all" --columns 80 --long clean.pfb
+mkdir named
+cp clean.pfb named
+echo 'edition = 2' >named/.t1check.toml
+try 'an edition of settings' 0 sh -c "cd named && '$all' --columns 80 clean.pfb"
+wanted <<'END'
+--
+1 font: 1 clean, 0 with faults, 0 refused, 0 not checked
+by edition 1 of the rules; --edition 4 has more
+END
+try 'no edition named' 0 "$all" --columns 80 clean.pfb
+wanted <<'END'
+--
+END
+try 'no summary' 0 "$all" -q --columns 80 clean.pfb
 
 # A terminal, which script makes; tput says how wide it is.
 mkdir narrow

@@ -1,5 +1,5 @@
 -- What is printed once all fonts were checked, and what is left to do.
-use Rattle.std.specs.Prelude.{◌≡◌, ◌++◌, ℕ, ◌&&◌, nat_lt, Bool, true, false, List, [], codes, length, Option, None, Some, option_map, Result, Ok, Err, if◌then◌else◌}
+use Rattle.std.specs.Prelude.{◌≡◌, ◌++◌, ℕ, ◌&&◌, not, nat_lt, Bool, true, false, List, [], codes, length, Option, None, Some, option_map, Result, Ok, Err, if◌then◌else◌}
 use Rattle.std.specs.List.{flat_map, list_any}
 use Rattle.t1_io.specs.Devices.{PutFailed, SinkState, Wrote}
 use Rattle.t1_known.specs.Lines.{row_lines}
@@ -62,6 +62,11 @@ rows_in text = option_map (λ text. length (row_lines text)) text
 abbrev pub summary_text : PlanValue → Tally → Option ℕ → List ℕ
 summary_text plan tally rows = if plan.quiet then [] else text_of_summary tally rows (has_known plan.mode)
 
+-- Where no edition was named on a terminal: by which one fonts were checked, and which one has more rules.
+abbrev pub edition_text : PlanValue → List ℕ
+edition_text plan =
+    if not plan.quiet && plan.tells_edition then codes "by edition 1 of the rules; --edition 4 has more\n" else []
+
 -- Where waivers are to be written, a line that is reported is none of a glyph.
 abbrev pub unwaived_text : ModeValue → Tally → List ℕ
 unwaived_text told tally = []
@@ -73,7 +78,7 @@ unwaived_text waived tally =
 -- What is printed after these.
 abbrev pub rest_text : PlanValue → Findings → Option ℕ → List ℕ
 rest_text plan found rows =
-    summary_text plan found.tally rows ++ (unwaived_text plan.mode found.tally ++ flat_map too_many_line found.kept)
+    summary_text plan found.tally rows ++ (edition_text plan ++ (unwaived_text plan.mode found.tally ++ flat_map too_many_line found.kept))
 
 abbrev pub ending_text : PlanValue → Findings → List Reading → List ℕ
 ending_text plan found readings =

@@ -29,6 +29,10 @@ layout_value (layouts.Sarif pages reasons) = sarif (pages_value pages) reasons
 layout_value (layouts.GitHub reasons) = commands reasons
 layout_value (layouts.JUnit failing reasons) = cases failing reasons
 
+abbrev pub is_terminal : LayoutValue → Bool
+is_terminal (groups terminal) = true
+is_terminal _ = false
+
 -- Each line has its reason.
 abbrev pub have_each : Reasons → Bool
 have_each Each = true

@@ -1,6 +1,6 @@
 -- What a run over many fonts is to do, by the options.
-use Rattle.std.specs.Prelude.{◌||◌, ℕ, Bool, true, false, List, [], ◌∷◌, map, string_bytes}
-use Rattle.t1_answer_all.specs.Layouts.{LayoutValue, layout_of, layout_value}
+use Rattle.std.specs.Prelude.{◌&&◌, ◌||◌, not, ℕ, Bool, true, false, List, [], ◌∷◌, map, string_bytes}
+use Rattle.t1_answer_all.specs.Layouts.{LayoutValue, is_terminal, layout_of, layout_value}
 use Rattle.t1_answer_all.specs.Listing.{FontsValue, unlisted_of}
 use Rattle.t1_answer_all.specs.Modes.{ModeValue, anew, beyond, judges_of, mode_value, told, waived}
 use Rattle.t1_answer_all.specs.Unlisted.{unlisted_in}
@@ -37,6 +37,7 @@ pub record PlanValue : Type 0 where
   pub layout : LayoutValue
   pub unlisted : List ToldValue
   pub quiet : Bool
+  pub tells_edition : Bool
 
 abbrev pub plan_value : Plan → PlanValue
 plan_value plan = record {
@@ -49,6 +50,7 @@ plan_value plan = record {
   layout = layout_value plan.layout;
   unlisted = unlisted_in plan.unlisted;
   quiet = plan.quiet;
+  tells_edition = plan.tells_edition;
 }
 
 -- A run: what it is to do, and the files that it reads.
@@ -102,6 +104,10 @@ has_none (name ∷ names) = false
 abbrev pub is_quiet : Options → FontsValue → Bool
 is_quiet options fonts = options.quiet || has_none fonts.names
 
+-- The summary says by which edition fonts were checked where lines are written as on a terminal, and no edition was named.
+abbrev pub tells_edition : Options → LayoutValue → Bool
+tells_edition options layout = not options.names_edition && is_terminal layout
+
 -- What is requested of these fonts, given the rows of the file of known faults.
 abbrev pub plan_by : AskedValue → List RowValue → FontsValue → PlanValue
 plan_by asked rows fonts = record {
@@ -114,4 +120,5 @@ plan_by asked rows fonts = record {
   layout = layout_of asked.pages asked.options;
   unlisted = unlisted_of fonts;
   quiet = is_quiet asked.options fonts;
+  tells_edition = tells_edition asked.options (layout_of asked.pages asked.options);
 }

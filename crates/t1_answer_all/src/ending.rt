@@ -1,7 +1,7 @@
 //! What is printed once all fonts were checked, and what is left to do.
 
 ghost use Rattle.std.specs.Prelude.{◌≡◌, IfOk, List, if◌then◌else◌, option_map};
-ghost use Rattle.t1_answer_all.specs.Endings.{AreFoundBy, Ends, any_failing, has_failing, has_known, mismatches_text, rest_text, rows_in, status_in, status_of, summary_text, unwaived_text};
+ghost use Rattle.t1_answer_all.specs.Endings.{AreFoundBy, Ends, any_failing, edition_text, has_failing, has_known, mismatches_text, rest_text, rows_in, status_in, status_of, summary_text, unwaived_text};
 ghost use Rattle.t1_answer_all.specs.Modes.{mode_value};
 ghost use Rattle.t1_answer_all.specs.Plans.{plan_value};
 ghost use Rattle.t1_answer_all.specs.Private.Updates.{IsUpdated};
@@ -38,6 +38,7 @@ pub struct Left {
 ///
 /// - the rows of known faults of which more or fewer were found;
 /// - the summary, unless it is omitted;
+/// - by which edition fonts were checked, below a summary on a terminal where none was named;
 /// - where waivers are to be written, that lines of a font itself can't be waived, if there are some;
 /// - which fonts have too many waivers.
 ///
@@ -126,6 +127,7 @@ fn tell_rest<E: Sink>(
     ensures status { IfOk result (λ status. status ≡ status_in plan.entry.failing found.now) }
 {
     tell_summary(plan, &found.tally, rows, errors)?;
+    tell_edition(plan, errors)?;
     tell_unwaived(plan.mode, &found.tally, errors)?;
     match tell_too_many(errors, &found.kept)? {
         Status::Failed => Ok(Status::Failed),
@@ -146,6 +148,17 @@ fn tell_summary<E: Sink>(
         return Ok(());
     }
     summary(tally, rows, has_known(plan.mode), errors)
+}
+
+/// Prints by which edition fonts were checked, and which one has more rules, where that is to be told.
+fn tell_edition<E: Sink>(plan: Plan<'_>, errors: &mut E) -> Result<(), Broken>
+    ensures { Writes (E.state errors.old) (E.state errors.new) (edition_text (plan_value plan.entry)) result }
+{
+    if !plan.quiet && plan.tells_edition {
+        put_all(errors, b"by edition 1 of the rules; --edition 4 has more\n")
+    } else {
+        Ok(())
+    }
 }
 
 /// Whether lines are compared with known faults.

@@ -3,7 +3,9 @@
 ghost use Rattle.std.specs.Prelude.{◌≡◌, map, string_bytes};
 ghost use Rattle.t1_answer_all.specs.Listing.{fonts_value};
 ghost use Rattle.t1_answer_all.specs.Modes.{mode_value};
-ghost use Rattle.t1_answer_all.specs.Plans.{asked_value, beside_of, has_none, is_quiet, mode_by, plan_by, plan_value};
+ghost use Rattle.t1_answer_all.specs.Layouts.{is_terminal, layout_of, layout_value};
+ghost use Rattle.t1_answer_all.specs.Plans.{asked_value, beside_of, has_none, is_quiet, mode_by, plan_by, plan_value, tells_edition};
+ghost use Rattle.t1_forms.specs.PageValues.{page_value};
 
 use crate::layout::{Layout, layout_of};
 use crate::listing::Fonts;
@@ -47,6 +49,8 @@ pub struct Plan<'a> {
     pub unlisted: Unlisted<'a>,
     /// Whether the summary is omitted.
     pub quiet: bool,
+    /// Whether the summary says by which edition fonts were checked, since on a terminal none was named.
+    pub tells_edition: bool,
 }
 
 /// What is requested of these fonts, given the rows of the file of known faults.
@@ -73,6 +77,7 @@ pub(crate) fn plan_by<'a>(
         layout: layout_of(options, asked.pages),
         unlisted: fonts.unlisted(),
         quiet: is_quiet(options, fonts),
+        tells_edition: tells_edition(options, asked.pages),
     }
 }
 
@@ -105,6 +110,20 @@ fn is_quiet(options: &Options, fonts: &Fonts) -> bool
     ensures { result ≡ is_quiet options.now (fonts_value fonts.now) }
 {
     options.quiet || has_none(fonts.names.as_slice())
+}
+
+/// Whether lines are written as on a terminal, and no edition was named.
+fn tells_edition(options: &Options, pages: &[Page]) -> bool
+    ensures { result ≡ tells_edition options.now (layout_of (map page_value pages.now) options.now) }
+{
+    !options.names_edition && is_terminal(layout_of(options, pages))
+}
+
+/// Whether lines are written as on a terminal.
+fn is_terminal(layout: Layout<'_>) -> bool
+    ensures { result ≡ is_terminal (layout_value layout) }
+{
+    matches!(layout, Layout::Groups(_))
 }
 
 /// Whether there is no name.

@@ -44,6 +44,7 @@ is_anew (faults.Updated file) = true
 pub record HasValues (given : GivenValue) (options : Options) : Type 0 where
   pub quiet : options.quiet ≡ given.quiet
   pub edition : options.edition ≡ unwrap_or (option_and_then edition_in given.edition) One
+  pub names_edition : options.names_edition ≡ is_some given.edition
   pub only : map string_bytes options.only.items ≡ codes_of given.only
   pub except : map string_bytes options.except.items ≡ excepted given
   pub waivers : options.waivers ≡ waivers_of given

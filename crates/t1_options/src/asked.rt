@@ -21,6 +21,8 @@ pub struct Options {
     pub quiet: bool,
     /// The edition of the rule book.
     pub edition: Edition,
+    /// Whether words or settings name an edition. Without it: the first one.
+    pub names_edition: bool,
     /// The rules whose lines are printed.
     pub rules: Mask,
     /// The codes that `--only` names, in capitals: of rules or their letters.

@@ -204,6 +204,7 @@ fn options_of(
     Ok(Options {
         quiet: given.quiet,
         edition: edition(given.edition).unwrap_or(Edition::One),
+        names_edition: given.edition.is_some(),
         rules,
         only,
         except,

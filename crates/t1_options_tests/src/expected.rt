@@ -9,7 +9,8 @@ use t1_options::{Baseline, Format, Options, Reasons, Request, Shard, Waivers, op
 #[derive(Clone, Copy)]
 pub(crate) struct Expected<'a> {
     pub(crate) quiet: bool,
-    pub(crate) edition: Edition,
+    /// The edition, if one is named.
+    pub(crate) edition: Option<Edition>,
     pub(crate) only: &'a [&'a str],
     pub(crate) except: &'a [&'a str],
     pub(crate) waivers: Waivers,
@@ -31,7 +32,7 @@ pub(crate) struct Expected<'a> {
 /// One font, and no option.
 pub(crate) const PLAIN: Expected<'static> = Expected {
     quiet: false,
-    edition: Edition::One,
+    edition: None,
     only: &[],
     except: &[],
     waivers: Waivers::Read,
@@ -78,7 +79,8 @@ fn known_faults(faults: &Baseline) -> Option<(&str, bool)> {
 /// Whether these options are the expected ones.
 fn are_expected(options: &Options, expected: Expected<'_>) -> bool {
     options.quiet == expected.quiet
-        && options.edition == expected.edition
+        && options.edition == expected.edition.unwrap_or(Edition::One)
+        && options.names_edition == expected.edition.is_some()
         && are(options.only.as_slice(), expected.only)
         && are(options.except.as_slice(), expected.except)
         && options.waivers == expected.waivers

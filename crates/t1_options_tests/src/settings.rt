@@ -26,7 +26,7 @@ const FEW: &str = "baseline = 'k'\nedition = 2\nexclude = ['*.t1']\n";
 type Case = (&'static [&'static str], &'static str, Expected<'static>);
 
 const FROM_FEW: Expected<'static> = Expected {
-    edition: Edition::Two,
+    edition: Some(Edition::Two),
     known_faults: Some(("k", false)),
     exclude: &["*.t1"],
     ..PLAIN
@@ -39,7 +39,7 @@ const TAKEN: &[Case] = &[
         &["t1check-all", "a.pfb"],
         "edition = 3",
         Expected {
-            edition: Edition::Three,
+            edition: Some(Edition::Three),
             ..PLAIN
         },
     ),
@@ -69,6 +69,7 @@ const TAKEN: &[Case] = &[
         ],
         ALL,
         Expected {
+            edition: Some(Edition::One),
             only: &["H"],
             except: &["P"],
             known_faults: Some(("other", false)),

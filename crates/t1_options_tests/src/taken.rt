@@ -51,25 +51,31 @@ const FLAGS: &[Case] = &[
 ];
 
 const EDITIONS: &[Case] = &[
-    (&["t1check-all", "--edition", "1", "a.pfb"], PLAIN),
+    (
+        &["t1check-all", "--edition", "1", "a.pfb"],
+        Expected {
+            edition: Some(Edition::One),
+            ..PLAIN
+        },
+    ),
     (
         &["t1check-all", "a.pfb", "--edition=2"],
         Expected {
-            edition: Edition::Two,
+            edition: Some(Edition::Two),
             ..PLAIN
         },
     ),
     (
         &["t1check-all", "--edition", "3", "a.pfb"],
         Expected {
-            edition: Edition::Three,
+            edition: Some(Edition::Three),
             ..PLAIN
         },
     ),
     (
         &["t1check-all", "--edition", "1", "--edition", "2", "a.pfb"],
         Expected {
-            edition: Edition::Two,
+            edition: Some(Edition::Two),
             ..PLAIN
         },
     ),

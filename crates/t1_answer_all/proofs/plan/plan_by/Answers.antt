@@ -12,4 +12,5 @@ returns-clause-plan c =
       c.unlisted.ensures.undecoded,
       c.unlisted.ensures.unsearched,
       c.is_quiet.ensures,
+      c.tells_edition.ensures,
     ) refl
