@@ -4,19 +4,20 @@ use Rattle.std.proofs.lemmas.List.Elements.{Contains-append_cases, Contains-appe
 use Rattle.std.specs.List.{Contains}
 use Rattle.std.specs.Option.{option_map, option_to_list}
 use Rattle.t1_drawing.specs.declared.direction.Direction.{Direction}
+use Rattle.t1_outline.specs.declared.segment.Segment.{Segment}
 use Rattle.t1_picture.specs.declared.causes.Cause.{Cause}
-use Rattle.t1_picture.specs.declared.causes.Cause.TheVariants.{Accent, Base, Ends, Miss as Missed, Outside as OutsidePoint, Stem as NamedOne, Untouched as LeftAlone, Zone}
+use Rattle.t1_picture.specs.declared.causes.Cause.TheVariants.{Accent, Base, Beyond as BeyondEnds, Ends, Miss as Missed, Outside as OutsideBox, Stem as NamedOne, Stroke as DrawnStroke, Untouched as LeftAlone, Zone}
 use Rattle.t1_picture.specs.declared.causes.NamedStem.{NamedStem}
 use Rattle.t1_picture.specs.declared.causes.Role.{Role}
 use Rattle.t1_picture.specs.declared.causes.Role.TheVariants.{Other, Own}
 use Rattle.t1_picture.specs.declared.causes.StemPlace.{StemPlace}
-use Rattle.t1_picture.specs.Causes.{causes_in, causes_of_reason, means_components, named_stem, stem_cause, untouched_stem, zone_at}
+use Rattle.t1_picture.specs.Causes.{causes_in, causes_of_reason, line_before, means_components, named_stem, stem_cause, stroke_of, untouched_stem, zone_at}
 use Rattle.t1_picture.specs.Marks.{all_causes, causes_of, faults_by, place_of_stems, reason_of, shown_of, zone_of}
-use Rattle.t1_picture.specs.NamedCauses.{IsNamed, IsOfFault, IsShownOf, MarksAreOfFaults, NamesCodes, NamesPoint, NamesSidebearings, NamesStem, NamesUntouched, NamesZone, by_place, by_reason}
+use Rattle.t1_picture.specs.NamedCauses.{IsNamed, IsOfFault, IsShownOf, MarksAreOfFaults, NamesCodes, NamesCoordinate, NamesSidebearings, NamesStem, NamesStroke, NamesUntouched, NamesZone, by_place, by_reason}
 use Rattle.t1_picture.specs.Subjects.{ShownValue, Subject, everything, one_fault, up_to}
 use Rattle.t1_reasons.proofs.NamedStems.{none_in, one_is}
 use Rattle.t1_reasons.specs.declared.reason.Reason.{Reason}
-use Rattle.t1_reasons.specs.declared.reason.Reason.TheVariants.{Codes, Miss, Open, Outside, Sidebearings, Stem as OneStem, Stems, Triple, Untouched, Zones}
+use Rattle.t1_reasons.specs.declared.reason.Reason.TheVariants.{Beyond, Codes, Miss, Open, Outside, Sidebearings, Stem as OneStem, Stems, Stroke, Triple, Untouched, Zones}
 use Rattle.t1_report.specs.Faults.{FaultValue}
 use Rattle.t1_rules.specs.declared.font_rules.zones.Edges.{Edges}
 use Rattle.t1_rules.specs.declared.rule.Rule.{Rule}
@@ -59,6 +60,12 @@ module _ (place : StemPlace) (rule : Rule) where
           subst (IsNamed place rule reason) (one_is (named_stem place.edition place.start role stem direction) cause some)
           (record { stem = stem; direction = direction; names = names; lies = lies; drawn = refl })
 
+  stroke_named : (line_start start : Option Point) (segment : Segment) (cause : Cause) → Contains (option_to_list (stroke_of rule line_start start segment)) cause
+      → IsNamed place rule (Stroke line_start start segment) cause
+  stroke_named line_start None segment cause some = none_in cause some
+  stroke_named line_start (Some start) segment cause some =
+      subst (IsNamed place rule (Stroke line_start (Some start) segment)) (one_is (DrawnStroke (line_before rule line_start) start segment) cause some) refl
+
   named : (reason : Reason) (cause : Cause) → Contains (causes_in place rule reason) cause → IsNamed place rule reason cause
   named (Stems own other) cause some = elim (Contains-append_cases (stems Own own) (stems Other other.stem) cause some) [
     | inl here ↦ stem_named (Stems own other) Own own refl cause here
@@ -84,7 +91,10 @@ module _ (place : StemPlace) (rule : Rule) where
       go false means some = none_in cause some
   named (Sidebearings told own) cause some = subst (IsNamed place rule (Sidebearings told own)) (one_is Accent cause some) (inr tt)
   named (Zones own other distance) cause some = subst (IsNamed place rule (Zones own other distance)) (one_is (Zone other) cause some) refl
-  named (Outside point box) cause some = subst (IsNamed place rule (Outside point box)) (one_is (OutsidePoint point) cause some) refl
+  named (Outside point box) cause some = subst (IsNamed place rule (Outside point box)) (one_is (OutsideBox point box) cause some) refl
+  named (Stroke line_start start segment) cause some = stroke_named line_start start segment cause some
+  named (Beyond direction quarters number from to) cause some =
+      subst (IsNamed place rule (Beyond direction quarters number from to)) (one_is (BeyondEnds direction number) cause some) refl
   named (Untouched stem) cause some = subst (IsNamed place rule (Untouched stem)) (one_is (untouched_stem place.start stem) cause some) refl
   named _ cause some = none_in cause some
 
@@ -109,9 +119,13 @@ module _ (place : StemPlace) (rule : Rule) where
   zone_marked (Zones own other distance) zone is = alone (Zone other) (Zone zone) (ap (λ edges. Zone edges) (sym is))
   zone_marked _ zone is = absurd is
 
-  point_marked : (reason : Reason) (point : Point) → NamesPoint reason point → Contains (causes_in place rule reason) (OutsidePoint point)
-  point_marked (Outside own box) point is = alone (OutsidePoint own) (OutsidePoint point) (ap (λ p. OutsidePoint p) (sym is))
-  point_marked _ point is = absurd is
+  stroke_marked : (reason : Reason) (cause : Cause) → NamesStroke rule reason cause → Contains (causes_in place rule reason) cause
+  stroke_marked (Stroke line_start start segment) cause is = subst (λ (found : Option Cause). Contains (option_to_list found) cause) (sym is) (alone cause cause refl)
+  stroke_marked _ cause is = absurd is
+
+  coordinate_marked : (reason : Reason) (cause : Cause) → NamesCoordinate reason cause → Contains (causes_in place rule reason) cause
+  coordinate_marked (Beyond direction quarters number from to) cause is = alone (BeyondEnds direction number) cause (sym is)
+  coordinate_marked _ cause is = absurd is
 
   untouched_marked : (reason : Reason) (named : NamedStem) → NamesUntouched place.start reason named → Contains (causes_in place rule reason) (LeftAlone named)
   untouched_marked (Untouched stem) named is = alone (untouched_stem place.start stem) (LeftAlone named) (sym is)
@@ -136,7 +150,9 @@ module _ (place : StemPlace) (rule : Rule) where
   marked reason (Zone zone) is = zone_marked reason zone is
   marked reason (Missed point pen) is = subst (λ r. Contains (causes_in place rule r) (Missed point pen)) (sym is) (alone (Missed point pen) (Missed point pen) refl)
   marked reason (Ends start pen) is = subst (λ r. Contains (causes_in place rule r) (Ends start pen)) (sym is) (alone (Ends start pen) (Ends start pen) refl)
-  marked reason (OutsidePoint point) is = point_marked reason point is
+  marked reason (OutsideBox point box) is = subst (λ r. Contains (causes_in place rule r) (OutsideBox point box)) (sym is) (alone (OutsideBox point box) (OutsideBox point box) refl)
+  marked reason (DrawnStroke before start segment) is = stroke_marked reason (DrawnStroke before start segment) is
+  marked reason (BeyondEnds direction number) is = coordinate_marked reason (BeyondEnds direction number) is
   marked reason (LeftAlone stem) is = untouched_marked reason stem is
   marked reason Base is = base_marked reason is.0 is.1
   marked reason Accent (inl is) = accent_marked reason is.0 is.1

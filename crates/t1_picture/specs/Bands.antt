@@ -72,6 +72,11 @@ upright_box low bottom high top =
     codes "<path d=\"M" ++ (exact_text low ++ (codes " " ++ (exact_text bottom ++ (codes "V" ++ (exact_text top
     ++ (codes "H" ++ (exact_text high ++ (codes "V" ++ (exact_text bottom ++ codes "Z\"/>\n")))))))))
 
+-- A line in a direction, from edge to edge.
+abbrev pub line_text : Direction → Frame → Exact → List ℕ
+line_text Across frame y = across_line (length_of frame frame.left) y (length_of frame frame.right)
+line_text Upright frame x = upright_line x (length_of frame frame.bottom) (length_of frame frame.top)
+
 -- A band from left to right; one whose edges are the same is a line.
 abbrev pub across_text : Frame → Exact → Exact → List ℕ
 across_text frame low high =

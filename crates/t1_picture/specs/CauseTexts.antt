@@ -1,24 +1,28 @@
--- What reasons name, as a text of SVG 1.1: red bands, lines and marks, and the numbers of edges.
-use Rattle.std.specs.Prelude.{ℕ, ℤ, pos, ◌+ℤ◌, ◌-ℤ◌, ◌*ℤ◌, if◌then◌else◌, int_div, List, [], ◌∷◌, ◌++◌, codes}
+-- What reasons name, as a text of SVG 1.1: red bands, boxes, lines and marks, and the numbers of edges.
+use Rattle.std.specs.Prelude.{ℕ, ℤ, pos, ◌+ℤ◌, ◌-ℤ◌, ◌*ℤ◌, if◌then◌else◌, int_div, Option, None, Some, List, [], ◌∷◌, ◌++◌, codes}
 use Rattle.std.specs.List.{flat_map}
 use Rattle.std.specs.Ordering.{int_eq}
 use Rattle.t1_char.specs.Numbers.{unit}
 use Rattle.t1_drawing.specs.declared.direction.Direction.{Direction}
 use Rattle.t1_drawing.specs.declared.direction.Direction.TheVariants.{Across, Upright}
+use Rattle.t1_drawing.specs.declared.font_box.FontBox.{FontBox}
+use Rattle.t1_outline.specs.Laws.Points.{end_of}
 use Rattle.t1_picture.specs.declared.bounds.Bounds.{Bounds}
 use Rattle.t1_picture.specs.declared.causes.Cause.{Cause}
-use Rattle.t1_picture.specs.declared.causes.Cause.TheVariants.{Ends, Miss, Outside, Stem, Untouched, Zone}
+use Rattle.t1_picture.specs.declared.causes.Cause.TheVariants.{Beyond, Ends, Miss, Outside, Stem, Stroke, Untouched, Zone}
 use Rattle.t1_picture.specs.declared.causes.NamedStem.{NamedStem}
 use Rattle.t1_picture.specs.declared.causes.Role.{Role}
 use Rattle.t1_picture.specs.declared.causes.Role.TheVariants.{Other, Own}
 use Rattle.t1_picture.specs.declared.frame.Frame.{Frame}
-use Rattle.t1_picture.specs.Bands.{across_text, band_text, with_band}
+use Rattle.t1_picture.specs.Bands.{across_text, band_text, line_text, with_band}
 use Rattle.t1_picture.specs.Bounds.{kept, with_point, with_y}
 use Rattle.t1_picture.specs.Frames.{from_bottom, from_left, from_right, from_top, length_of, opposite, units_of}
-use Rattle.t1_picture.specs.Layers.{mark_text, stretch_text}
+use Rattle.t1_picture.specs.Layers.{mark_text, stretch_text, thick_text}
 use Rattle.t1_picture.specs.Starts.{marks_start, numbers_start, path_start}
+use Rattle.t1_picture.specs.Subpaths.{begun_at}
 use Rattle.t1_reason_texts.specs.declared.decimals.Exact.{Exact}
-use Rattle.t1_reason_texts.specs.Decimals.{coordinate_of, exact_text, value_of}
+use Rattle.t1_reason_texts.specs.declared.decimals.Unit.TheVariants.{OnCurve}
+use Rattle.t1_reason_texts.specs.Decimals.{coordinate_of, exact_text, in_unit, value_of}
 use Rattle.t1_rules.specs.declared.step_rules.flex.Point.{Point}
 use Rattle.t1_rules.specs.StepRules.Flex.{at}
 
@@ -28,11 +32,11 @@ use Rattle.t1_rules.specs.StepRules.Flex.{at}
 abbrev pub near_coordinate : ℤ → ℤ
 near_coordinate z = kept (int_div z (pos 1000000000) *ℤ pos unit)
 
--- The drawing reaches as far as what is named. A component is drawn anyway.
+-- The drawing reaches as far as what is named, but for FontBBox. A component, a line and a curve are drawn anyway.
 abbrev pub with_cause : Bounds → Cause → Bounds
 with_cause b (Stem stem) = with_band b stem.band
 with_cause b (Untouched stem) = with_band b stem.band
-with_cause b (Outside point) = with_point b point
+with_cause b (Outside point box) = with_point b point
 with_cause b (Zone edges) = with_y (with_y b (near_coordinate edges.lower)) (near_coordinate edges.upper)
 with_cause b (Miss named pen) = with_point (with_point b named) pen
 with_cause b (Ends start pen) = with_point (with_point b start) pen
@@ -50,11 +54,24 @@ cross_text size =
     codes "<path id=\"cross\" d=\"M-" ++ (exact_text size ++ (codes " 0H" ++ (exact_text size
     ++ (codes "M0 -" ++ (exact_text size ++ (codes "V" ++ (exact_text size ++ codes "\"/>\n")))))))
 
--- Stems and zones, as bands.
+-- A rectangle that isn't filled, by its corners from the lower left one on, and FontBBox as such a one.
+unfoldable pub rectangle_text : Exact → Exact → Exact → Exact → List ℕ
+rectangle_text left low right high =
+    codes "<polygon fill=\"none\" points=\"" ++ (exact_text left ++ (codes " " ++ (exact_text low
+    ++ (codes " " ++ (exact_text right ++ (codes " " ++ (exact_text low
+    ++ (codes " " ++ (exact_text right ++ (codes " " ++ (exact_text high
+    ++ (codes " " ++ (exact_text left ++ (codes " " ++ (exact_text high ++ codes "\"/>\n")))))))))))))))
+
+abbrev pub font_box_text : FontBox → List ℕ
+font_box_text box = rectangle_text (value_of box.left) (value_of box.bottom) (value_of box.right) (value_of box.top)
+
+-- Stems and zones, as bands; FontBBox; and a coordinate of a curve, which is told 64 times, as a line.
 abbrev pub cause_band : Frame → Cause → List ℕ
 cause_band frame (Stem stem) = band_text frame stem.band
 cause_band frame (Untouched stem) = band_text frame stem.band
 cause_band frame (Zone edges) = across_text frame (value_of edges.lower) (value_of edges.upper)
+cause_band frame (Outside point box) = font_box_text box
+cause_band frame (Beyond direction number) = line_text direction frame (in_unit OnCurve number)
 cause_band frame _ = []
 
 unfoldable pub causes_start : List ℕ
@@ -64,9 +81,15 @@ causes_start =
 unfoldable pub causes_part : Frame → List Cause → List ℕ
 causes_part frame causes = causes_start ++ (flat_map (cause_band frame) causes ++ codes "</g>\n")
 
--- From the pen to the point that the end of a flex names.
+-- The line that leads to a point, if there is one.
+abbrev pub before_text : Option Point → Point → List ℕ
+before_text None start = []
+before_text (Some line_start) start = stretch_text line_start start
+
+-- From the pen to the point that the end of a flex names; a line or a curve, after the line right before it.
 abbrev pub cause_line : Cause → List ℕ
 cause_line (Miss named pen) = stretch_text pen named
+cause_line (Stroke before start segment) = before_text before start ++ thick_text (begun_at start) segment
 cause_line _ = []
 
 -- These lines, and then the outlines of components.
@@ -74,11 +97,20 @@ unfoldable pub cause_lines_part : Frame → List Cause → List ℕ → List ℕ
 cause_lines_part frame causes components =
     path_start (codes "cause-lines") (codes "red") (length_of frame (pos 2)) ++ (flat_map cause_line causes ++ (components ++ codes "\"/>\n"))
 
--- The point that the end of a flex names, the two ends of an open path, and a point outside FontBBox.
+-- Two ends, of which the second may not be there.
+abbrev pub end_text : Option Point → List ℕ
+end_text None = []
+end_text (Some p) = mark_text (codes "end") p
+
+abbrev pub ends_text : Point → Option Point → List ℕ
+ends_text start end = mark_text (codes "end") start ++ end_text end
+
+-- The point that the end of a flex names, the two ends of an open path, a point outside FontBBox, and the two ends of a line or a curve.
 abbrev pub cause_points : Cause → List ℕ
 cause_points (Miss named pen) = mark_text (codes "cross") named
-cause_points (Ends start pen) = mark_text (codes "end") start ++ mark_text (codes "end") pen
-cause_points (Outside point) = mark_text (codes "cross") point
+cause_points (Ends start pen) = ends_text start (Some pen)
+cause_points (Outside point box) = mark_text (codes "cross") point
+cause_points (Stroke before start segment) = ends_text start (end_of segment)
 cause_points _ = []
 
 unfoldable pub cause_points_part : Frame → List Cause → List ℕ

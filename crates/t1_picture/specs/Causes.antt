@@ -1,5 +1,5 @@
--- What the reasons of faults show in the drawing: the stems, zones and points that they name. Type 1 Font Format 1.1, chapters 5, 6
--- and 8.
+-- What the reasons of faults show in the drawing: the stems, zones, points, lines and curves that they name. Type 1 Font Format 1.1,
+-- chapters 2, 3, 5, 6 and 8.
 use Rattle.std.specs.Prelude.{ℕ, zero, suc, ℤ, ◌+◌, ◌-ℤ◌, ◌*◌, ◌/◌, ◌%◌, if◌then◌else◌, Bool, true, false, Option, None, Some, List, [], ◌∷◌, ◌++◌, slice_get}
 use Rattle.std.specs.Option.{option_map, option_to_list}
 use Rattle.t1_char.specs.declared.edition.Edition.{Edition}
@@ -13,17 +13,18 @@ use Rattle.t1_drawing.specs.declared.direction.Direction.{Direction}
 use Rattle.t1_drawing.specs.declared.direction.Direction.TheVariants.{Across, Upright}
 use Rattle.t1_drawing.specs.declared.touching.UntouchedStem.{UntouchedStem}
 use Rattle.t1_drawing.specs.Touching.{coordinate}
+use Rattle.t1_outline.specs.declared.segment.Segment.{Segment}
 use Rattle.t1_picture.specs.declared.causes.Cause.{Cause}
-use Rattle.t1_picture.specs.declared.causes.Cause.TheVariants.{Accent, Base, Ends, Miss as Missed, Outside as OutsidePoint, Stem as NamedOne, Untouched as LeftAlone, Zone}
+use Rattle.t1_picture.specs.declared.causes.Cause.TheVariants.{Accent, Base, Beyond as BeyondEnds, Ends, Miss as Missed, Outside as OutsideBox, Stem as NamedOne, Stroke as DrawnStroke, Untouched as LeftAlone, Zone}
 use Rattle.t1_picture.specs.declared.causes.Role.{Role}
 use Rattle.t1_picture.specs.declared.causes.Role.TheVariants.{Other, Own}
 use Rattle.t1_picture.specs.declared.causes.StemPlace.{StemPlace}
 use Rattle.t1_picture.specs.Bounds.{kept}
 use Rattle.t1_picture.specs.Bands.{band_of, lower_edge, upper_edge}
 use Rattle.t1_reasons.specs.declared.reason.Reason.{Reason}
-use Rattle.t1_reasons.specs.declared.reason.Reason.TheVariants.{Codes, Miss, Open, Outside, Sidebearings, Stem as OneStem, Stems, Triple, Untouched, Zones}
+use Rattle.t1_reasons.specs.declared.reason.Reason.TheVariants.{Beyond, Codes, Miss, Open, Outside, Sidebearings, Stem as OneStem, Stems, Stroke, Triple, Untouched, Zones}
 use Rattle.t1_rules.specs.declared.rule.Rule.{Rule}
-use Rattle.t1_rules.specs.declared.rule.Rule.TheVariants.{K04, K07}
+use Rattle.t1_rules.specs.declared.rule.Rule.TheVariants.{K04, K07, P07, P08}
 use Rattle.t1_rules.specs.declared.step_rules.flex.Point.{Point}
 use Rattle.t1_rules.specs.declared.step_rules.stems.Stem.{Stem}
 use Rattle.t1_rules.specs.Keys.{index_count, key_among, value_at}
@@ -99,6 +100,19 @@ zone_of_key font (Some key) index = zone_in (value_at font key) index
 abbrev pub zone_at : FontValue → ℕ → Option Cause
 zone_at font step = zone_of_key font (zone_key (step / index_count)) (step % index_count)
 
+-- ---- lines and curves
+
+-- P07 and P08 compare a line with the one right before it.
+abbrev pub line_before : Rule → Option Point → Option Point
+line_before P07 line_start = line_start
+line_before P08 line_start = line_start
+line_before _ line_start = None
+
+-- A line or a curve, if it is known where it begins.
+abbrev pub stroke_of : Rule → Option Point → Option Point → Segment → Option Cause
+stroke_of rule line_start None segment = None
+stroke_of rule line_start (Some start) segment = Some (DrawnStroke (line_before rule line_start) start segment)
+
 -- ---- components
 
 -- K04 and K07 tell the codes of both components, and may mean either. K01 to K03 speak of one that isn't there.
@@ -112,7 +126,7 @@ component_causes rule = if means_components rule then Base ∷ Accent ∷ [] els
 
 -- ---- all of them
 
--- What a reason names, given where the stems of its step are: H02 to H10, K04, K05, K07, P02, P04, X05 and Z06.
+-- What a reason names, given where the stems of its step are: H02 to H10, K04, K05, K07, P02, P04, P06 to P10, X05 and Z06.
 abbrev pub causes_in : StemPlace → Rule → Reason → List Cause
 causes_in place rule (Stems own other) = stem_cause place Own own ++ stem_cause place Other other.stem
 causes_in place rule (OneStem stem) = stem_cause place Own stem
@@ -122,7 +136,9 @@ causes_in place rule (Open start pen) = Ends start pen ∷ []
 causes_in place rule (Codes base accent) = component_causes rule
 causes_in place rule (Sidebearings told own) = Accent ∷ []
 causes_in place rule (Zones own other distance) = Zone other ∷ []
-causes_in place rule (Outside point box) = OutsidePoint point ∷ []
+causes_in place rule (Outside point box) = OutsideBox point box ∷ []
+causes_in place rule (Stroke line_start start segment) = option_to_list (stroke_of rule line_start start segment)
+causes_in place rule (Beyond direction quarters number from to) = BeyondEnds direction number ∷ []
 causes_in place rule (Untouched stem) = untouched_stem place.start stem ∷ []
 causes_in place rule _ = []
 

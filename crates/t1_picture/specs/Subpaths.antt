@@ -17,6 +17,10 @@ placed start (Line p) = Line (behind start p)
 placed start (Curve a b p) = Curve (behind start a) (behind start b) (behind start p)
 placed start Close = Close
 
+-- One is begun at a point.
+abbrev pub begun_at : Point → Subpath
+begun_at p = record { first = p; end = p; is_drawn = false }
+
 -- None is begun.
 abbrev pub no_subpath : Subpath
 no_subpath = record { first = origin; end = origin; is_drawn = false }

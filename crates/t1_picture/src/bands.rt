@@ -3,7 +3,7 @@
 ghost use Rattle.std.specs.Prelude.{◌≡◌, ◌≤◌, ◌<◌, ◌++◌, OnOk, slice_get, string_bytes};
 ghost use Rattle.t1_font.specs.Entries.{entry_view};
 ghost use Rattle.t1_font.specs.Keys.{index_of};
-ghost use Rattle.t1_picture.specs.Bands.{across_box, across_line, across_text, band_of, band_text, is_one_edge, lower_edge, one_edge, upper_edge, upright_box, upright_line, upright_text, with_band, zone_by, zone_text, zones_from, zones_in, zones_text};
+ghost use Rattle.t1_picture.specs.Bands.{across_box, across_line, across_text, band_of, band_text, is_one_edge, line_text, lower_edge, one_edge, upper_edge, upright_box, upright_line, upright_text, with_band, zone_by, zone_text, zones_from, zones_in, zones_text};
 
 use crate::bounds::Bounds;
 use crate::frame::Frame;
@@ -171,6 +171,21 @@ fn write_upright(
         write_upright_line(svg, lower, frame.bottom(), frame.top())
     } else {
         write_upright_box(svg, lower, frame.bottom(), upper, frame.top())
+    }
+}
+
+/// Writes a line in a direction, from edge to edge of the frame, at a coordinate.
+pub(crate) fn write_line(
+    svg: &mut String,
+    frame: &Frame,
+    direction: Direction,
+    place: Exact,
+) -> Result<(), AllocError>
+    ensures { OnOk result (string_bytes svg.new ≡ string_bytes svg.old ++ line_text direction frame.now place) }
+{
+    match direction {
+        Direction::Across => write_across_line(svg, frame.left(), place, frame.right()),
+        Direction::Upright => write_upright_line(svg, place, frame.bottom(), frame.top()),
     }
 }
 

@@ -1,24 +1,28 @@
-//! What reasons name, a group or a path a layer: red bands, lines and marks, and the numbers of edges.
+//! What reasons name, a group or a path a layer: red bands, boxes, lines and marks, and the numbers of edges.
 
 ghost use Rattle.std.specs.Prelude.{◌≡◌, ◌++◌, OnOk, string_bytes};
 ghost use Rattle.std.specs.List.{flat_map};
-ghost use Rattle.t1_picture.specs.CauseTexts.{cause_band, cause_line, cause_lines_part, cause_numbers, cause_points, cause_points_part, causes_part, causes_start, column_of, edge_at, edge_numbers, edge_text, edges_part, first_row, lower_number, lower_place, near_coordinate, second_row, upper_number, upper_place, with_cause, with_causes};
+ghost use Rattle.t1_picture.specs.CauseTexts.{before_text, cause_band, cause_line, cause_lines_part, cause_numbers, cause_points, cause_points_part, causes_part, causes_start, column_of, edge_at, edge_numbers, edge_text, edges_part, end_text, ends_text, first_row, font_box_text, lower_number, lower_place, near_coordinate, rectangle_text, second_row, upper_number, upper_place, with_cause, with_causes};
+ghost use Rattle.t1_picture.specs.Layers.{thick_text};
+ghost use Rattle.t1_picture.specs.Subpaths.{begun_at};
 
-use crate::bands::write_across;
+use crate::bands::{write_across, write_line};
 use crate::bounds::Bounds;
 use crate::causes::{Cause, NamedStem, Role};
 use crate::frame::Frame;
-use crate::layers::{write_mark, write_stretch};
+use crate::layers::{write_mark, write_stretch, write_thick};
 use crate::starts::{start_marks, start_numbers, start_path};
+use crate::subpath::Subpath;
 use crate::texts::{END, END_OF_DATA, push};
 use std::alloc::AllocError;
 use t1_char::UNIT;
-use t1_drawing::Direction;
+use t1_drawing::{Direction, FontBox, end_of};
 use t1_font::BILLION;
-use t1_reason_texts::{Exact, coordinate, value};
+use t1_outline::Segment;
+use t1_reason_texts::{Exact, Unit, coordinate, value};
 use t1_rules::Point;
 
-/// The group of stems and zones, which the frame cuts.
+/// The group of stems, zones, FontBBox and coordinates, which the frame cuts.
 const CAUSES: &str =
     r##"<g id="causes" clip-path="url(#frame)" fill="red" fill-opacity="0.25" stroke="red">
 "##;
@@ -71,8 +75,8 @@ fn widen_by_cause(bounds: &mut Bounds, cause: Cause)
             bounds.take(start);
             bounds.take(pen);
         }
-        Cause::Outside(point) => bounds.take(point),
-        Cause::Base | Cause::Accent => {}
+        Cause::Outside { point, .. } => bounds.take(point),
+        Cause::Stroke { .. } | Cause::Beyond { .. } | Cause::Base | Cause::Accent => {}
     }
 }
 
@@ -91,7 +95,7 @@ fn start_causes(svg: &mut String) -> Result<(), AllocError>
     push(svg, CAUSES)
 }
 
-/// Writes stems and zones.
+/// Writes stems, zones, FontBBox and coordinates.
 #[tactic(auto, unfolding(crate::specs::CauseTexts::causes_part))]
 pub(crate) fn write_causes(
     svg: &mut String,
@@ -120,14 +124,53 @@ fn write_cause_band(svg: &mut String, frame: &Frame, cause: Cause) -> Result<(),
     match cause {
         Cause::Stem(stem) | Cause::Untouched(stem) => stem.band.write(svg, frame),
         Cause::Zone(edges) => write_across(svg, frame, value(edges.lower), value(edges.upper)),
-        Cause::Miss { .. } | Cause::Ends { .. } | Cause::Outside(_) | Cause::Base | Cause::Accent =>
-            Ok(()),
+        Cause::Outside { font_box, .. } => write_font_box(svg, font_box),
+        Cause::Beyond { direction, number } => {
+            let unit = Unit::OnCurve;
+            write_line(svg, frame, direction, Exact { number, unit })
+        }
+        Cause::Miss { .. }
+        | Cause::Ends { .. }
+        | Cause::Stroke { .. }
+        | Cause::Base
+        | Cause::Accent => Ok(()),
     }
+}
+
+/// Writes FontBBox.
+fn write_font_box(svg: &mut String, font_box: FontBox) -> Result<(), AllocError>
+    ensures { OnOk result (string_bytes svg.new ≡ string_bytes svg.old ++ font_box_text font_box) }
+{
+    write_rectangle(
+        svg,
+        value(font_box.left),
+        value(font_box.bottom),
+        value(font_box.right),
+        value(font_box.top),
+    )
+}
+
+/// Writes a rectangle that isn't filled, from its lower left corner on. It is no path: pages that show the picture in another frame stretch
+/// the paths of its group, which are bands across it.
+#[tactic(auto, unfolding(crate::specs::CauseTexts::rectangle_text))]
+fn write_rectangle(
+    svg: &mut String,
+    left: Exact,
+    lower: Exact,
+    right: Exact,
+    upper: Exact,
+) -> Result<(), AllocError>
+    ensures { OnOk result (string_bytes svg.new ≡ string_bytes svg.old ++ rectangle_text left lower right upper) }
+{
+    writeln!(
+        svg,
+        r#"<polygon fill="none" points="{left} {lower} {right} {lower} {right} {upper} {left} {upper}"/>"#
+    )
 }
 
 // ---- lines
 
-/// Writes the lines to points that are named, and the outlines of components.
+/// Writes the lines to points that are named, lines and curves that are, and the outlines of components.
 #[tactic(auto, unfolding(crate::specs::CauseTexts::cause_lines_part))]
 pub(crate) fn write_cause_lines(
     svg: &mut String,
@@ -157,19 +200,49 @@ fn write_miss(svg: &mut String, cause: Cause) -> Result<(), AllocError>
 {
     match cause {
         Cause::Miss { named, pen } => write_stretch(svg, pen, named),
+        Cause::Stroke {
+            before,
+            start,
+            segment,
+        } => write_stroke(svg, before, start, segment),
         Cause::Stem(_)
         | Cause::Untouched(_)
         | Cause::Zone(_)
         | Cause::Ends { .. }
-        | Cause::Outside(_)
+        | Cause::Outside { .. }
+        | Cause::Beyond { .. }
         | Cause::Base
         | Cause::Accent => Ok(()),
     }
 }
 
+/// Writes a line or a curve, after the line right before it, if there is one.
+fn write_stroke(
+    svg: &mut String,
+    before: Option<Point>,
+    start: Point,
+    segment: Segment,
+) -> Result<(), AllocError>
+    ensures { OnOk result (string_bytes svg.new ≡ string_bytes svg.old ++ (before_text before start ++ thick_text (begun_at start) segment)) }
+{
+    let subpath = Subpath::at(start);
+    write_before(svg, before, start)?;
+    write_thick(svg, &subpath, segment)
+}
+
+/// Writes the line that leads to a point, if there is one.
+fn write_before(svg: &mut String, before: Option<Point>, start: Point) -> Result<(), AllocError>
+    ensures { OnOk result (string_bytes svg.new ≡ string_bytes svg.old ++ before_text before start) }
+{
+    match before {
+        Some(line_start) => write_stretch(svg, line_start, start),
+        None => Ok(()),
+    }
+}
+
 // ---- points
 
-/// Writes the points that are named, and the ends of open paths.
+/// Writes the points that are named, and the ends of open paths, lines and curves.
 #[tactic(auto, unfolding(crate::specs::CauseTexts::cause_points_part))]
 pub(crate) fn write_cause_points(
     svg: &mut String,
@@ -197,14 +270,32 @@ fn write_points_of(svg: &mut String, cause: Cause) -> Result<(), AllocError>
 {
     match cause {
         Cause::Miss { named, .. } => write_mark(svg, "cross", named),
-        Cause::Ends { start, pen } => {
-            write_mark(svg, "end", start)?;
-            write_mark(svg, "end", pen)
-        }
-        Cause::Outside(point) => write_mark(svg, "cross", point),
-        Cause::Stem(_) | Cause::Untouched(_) | Cause::Zone(_) | Cause::Base | Cause::Accent => {
-            Ok(())
-        }
+        Cause::Ends { start, pen } => write_ends(svg, start, Some(pen)),
+        Cause::Outside { point, .. } => write_mark(svg, "cross", point),
+        Cause::Stroke { start, segment, .. } => write_ends(svg, start, end_of(segment)),
+        Cause::Stem(_)
+        | Cause::Untouched(_)
+        | Cause::Zone(_)
+        | Cause::Beyond { .. }
+        | Cause::Base
+        | Cause::Accent => Ok(()),
+    }
+}
+
+/// Writes two ends, of which the second may not be there.
+fn write_ends(svg: &mut String, start: Point, end: Option<Point>) -> Result<(), AllocError>
+    ensures { OnOk result (string_bytes svg.new ≡ string_bytes svg.old ++ ends_text start end) }
+{
+    write_mark(svg, "end", start)?;
+    write_end(svg, end)
+}
+
+fn write_end(svg: &mut String, end: Option<Point>) -> Result<(), AllocError>
+    ensures { OnOk result (string_bytes svg.new ≡ string_bytes svg.old ++ end_text end) }
+{
+    match end {
+        Some(point) => write_mark(svg, "end", point),
+        None => Ok(()),
     }
 }
 
@@ -241,7 +332,9 @@ fn write_numbers_of(svg: &mut String, frame: &Frame, cause: Cause) -> Result<(),
         Cause::Zone(_)
         | Cause::Miss { .. }
         | Cause::Ends { .. }
-        | Cause::Outside(_)
+        | Cause::Outside { .. }
+        | Cause::Stroke { .. }
+        | Cause::Beyond { .. }
         | Cause::Base
         | Cause::Accent => Ok(()),
     }

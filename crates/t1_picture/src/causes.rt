@@ -1,16 +1,17 @@
-//! What the reasons of faults show in the drawing: the stems, zones and points that they name.
+//! What the reasons of faults show in the drawing: the stems, zones, points, lines and curves that they name.
 
 ghost use Rattle.std.specs.Prelude.{◌≡◌, ◌<◌, ◌+◌, ◌*◌, ◌++◌, OnOk, slice_get};
 ghost use Rattle.std.specs.Option.{option_to_list};
 ghost use Rattle.t1_font.specs.Entries.{entry_view};
-ghost use Rattle.t1_picture.specs.Causes.{causes_in, causes_of_reason, component_causes, direction_of, means_components, named_stem, stem_at, untouched_stem, zone_at, zone_by, zone_in, zone_key, zone_of_key};
+ghost use Rattle.t1_picture.specs.Causes.{causes_in, causes_of_reason, component_causes, direction_of, line_before, means_components, named_stem, stem_at, stroke_of, untouched_stem, zone_at, zone_by, zone_in, zone_key, zone_of_key};
 
 use crate::bands::{Band, lower_edge, number_at, upper_edge};
 use crate::view::View;
 use std::alloc::AllocError;
 use t1_char::{CharToken, Command, Edition};
-use t1_drawing::{Direction, UntouchedStem};
+use t1_drawing::{Direction, FontBox, UntouchedStem};
 use t1_font::{Entry, Font, Key};
+use t1_outline::Segment;
 use t1_reasons::Reason;
 use t1_rules::{Edges, INDEXES, Point, Rule, Stem, key_among};
 
@@ -41,11 +42,31 @@ pub(crate) enum Cause {
     /// A zone: the one that a fault of the font is at, and Z06's other one.
     Zone(Edges),
     /// The point that the end of a flex names, and where the pen is: X05.
-    Miss { named: Point, pen: Point },
+    Miss {
+        named: Point,
+        pen: Point,
+    },
     /// The two ends of an open path: P02.
-    Ends { start: Point, pen: Point },
-    /// A point outside FontBBox: P04.
-    Outside(Point),
+    Ends {
+        start: Point,
+        pen: Point,
+    },
+    /// A point outside FontBBox, and that box: P04.
+    Outside {
+        point: Point,
+        font_box: FontBox,
+    },
+    /// A line or a curve, where it begins, and where the line right before it begins, if the rule compares both: P06 to P09.
+    Stroke {
+        before: Option<Point>,
+        start: Point,
+        segment: Segment,
+    },
+    /// A coordinate of a curve, 64 times: P10.
+    Beyond {
+        direction: Direction,
+        number: i128,
+    },
     /// A stem that nothing touches: H08.
     Untouched(NamedStem),
     /// The base of the glyph's seac: K04, K07.
@@ -149,7 +170,19 @@ fn add_causes_in(
         Reason::Codes { .. } => add_components(rule, causes),
         Reason::Sidebearings { .. } => add_cause(causes, Some(Cause::Accent)),
         Reason::Zones { other, .. } => add_cause(causes, Some(Cause::Zone(other))),
-        Reason::Outside { point, .. } => add_cause(causes, Some(Cause::Outside(point))),
+        Reason::Outside { point, font_box } => {
+            add_cause(causes, Some(Cause::Outside { point, font_box }))
+        }
+        Reason::Stroke {
+            line_start,
+            start,
+            segment,
+        } => add_cause(causes, stroke(rule, line_start, start, segment)),
+        Reason::Beyond {
+            direction,
+            place: number,
+            ..
+        } => add_cause(causes, Some(Cause::Beyond { direction, number })),
         Reason::Untouched { stem } => add_cause(causes, Some(untouched_stem(place.start, stem))),
         _ => Ok(()),
     }
@@ -170,6 +203,35 @@ fn untouched_stem(start: Point, stem: UntouchedStem) -> Cause
         upper: stem.high.saturating_sub(start),
         role: Role::Own,
     })
+}
+
+/// A line or a curve, if it is known where it begins.
+fn stroke(
+    rule: Rule,
+    line_start: Option<Point>,
+    start: Option<Point>,
+    segment: Segment,
+) -> Option<Cause>
+    ensures { result ≡ stroke_of rule line_start start segment }
+{
+    match start {
+        Some(start) => Some(Cause::Stroke {
+            before: line_before(rule, line_start),
+            start,
+            segment,
+        }),
+        None => None,
+    }
+}
+
+/// Where the line right before a line begins, if a rule compares both.
+fn line_before(rule: Rule, line_start: Option<Point>) -> Option<Point>
+    ensures { result ≡ line_before rule line_start }
+{
+    match rule {
+        Rule::P07 | Rule::P08 => line_start,
+        _ => None,
+    }
 }
 
 /// Adds both components, where a rule may mean either.

@@ -29,8 +29,8 @@ pub fn a_fault_is_drawn_up_to_its_step()
     ensures marked { OneFaultIsMarked }
 {}
 
-/// The stems, zones, points and components that are marked are exactly those that the reasons of the faults shown name, and
-/// the zones at which faults of the font are.
+/// The stems, zones, points, boxes, lines, curves, coordinates and components that are marked are exactly those that the reasons of the
+/// faults shown name, and the zones at which faults of the font are.
 pub fn marks_are_what_reasons_name()
     ensures { MarksAreOfFaults }
 {}

@@ -190,7 +190,11 @@ fn write_if(
 }
 
 /// Writes a segment by itself, as it goes on from a subpath.
-fn write_thick(text: &mut String, before: &Subpath, segment: Segment) -> Result<(), AllocError>
+pub(crate) fn write_thick(
+    text: &mut String,
+    before: &Subpath,
+    segment: Segment,
+) -> Result<(), AllocError>
     ensures { OnOk result (string_bytes text.new ≡ string_bytes text.old ++ thick_text before.now segment) }
 {
     match segment {

@@ -1,7 +1,7 @@
 //! The subpath that is being drawn.
 
 ghost use Rattle.std.specs.Prelude.{◌≡◌};
-ghost use Rattle.t1_picture.specs.Subpaths.{behind, gone_on, no_subpath, placed};
+ghost use Rattle.t1_picture.specs.Subpaths.{begun_at, behind, gone_on, no_subpath, placed};
 
 use t1_outline::{ORIGIN, Segment};
 use t1_rules::Point;
@@ -25,6 +25,17 @@ impl Subpath {
         Subpath {
             first: ORIGIN,
             end: ORIGIN,
+            is_drawn: false,
+        }
+    }
+
+    /// One is begun at a point.
+    pub(crate) fn at(start: Point) -> Subpath
+        ensures { result ≡ begun_at start }
+    {
+        Subpath {
+            first: start,
+            end: start,
             is_drawn: false,
         }
     }
