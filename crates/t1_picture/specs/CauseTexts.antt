@@ -55,12 +55,18 @@ cross_text size =
     ++ (codes "M0 -" ++ (exact_text size ++ (codes "V" ++ (exact_text size ++ codes "\"/>\n")))))))
 
 -- A rectangle that isn't filled, by its corners from the lower left one on, and FontBBox as such a one.
-unfoldable pub rectangle_text : Exact → Exact → Exact → Exact → List ℕ
-rectangle_text left low right high =
+unfoldable pub lower_corners : Exact → Exact → Exact → List ℕ
+lower_corners left low right =
     codes "<polygon fill=\"none\" points=\"" ++ (exact_text left ++ (codes " " ++ (exact_text low
-    ++ (codes " " ++ (exact_text right ++ (codes " " ++ (exact_text low
-    ++ (codes " " ++ (exact_text right ++ (codes " " ++ (exact_text high
-    ++ (codes " " ++ (exact_text left ++ (codes " " ++ (exact_text high ++ codes "\"/>\n")))))))))))))))
+    ++ (codes " " ++ (exact_text right ++ (codes " " ++ exact_text low))))))
+
+unfoldable pub upper_corners : Exact → Exact → Exact → List ℕ
+upper_corners left right high =
+    codes " " ++ (exact_text right ++ (codes " " ++ (exact_text high
+    ++ (codes " " ++ (exact_text left ++ (codes " " ++ (exact_text high ++ codes "\"/>\n")))))))
+
+abbrev pub rectangle_text : Exact → Exact → Exact → Exact → List ℕ
+rectangle_text left low right high = lower_corners left low right ++ upper_corners left right high
 
 abbrev pub font_box_text : FontBox → List ℕ
 font_box_text box = rectangle_text (value_of box.left) (value_of box.bottom) (value_of box.right) (value_of box.top)

@@ -2,7 +2,7 @@
 
 ghost use Rattle.std.specs.Prelude.{◌≡◌, ◌++◌, OnOk, string_bytes};
 ghost use Rattle.std.specs.List.{flat_map};
-ghost use Rattle.t1_picture.specs.CauseTexts.{before_text, cause_band, cause_line, cause_lines_part, cause_numbers, cause_points, cause_points_part, causes_part, causes_start, column_of, edge_at, edge_numbers, edge_text, edges_part, end_text, ends_text, first_row, font_box_text, lower_number, lower_place, near_coordinate, rectangle_text, second_row, upper_number, upper_place, with_cause, with_causes};
+ghost use Rattle.t1_picture.specs.CauseTexts.{before_text, cause_band, cause_line, cause_lines_part, cause_numbers, cause_points, cause_points_part, causes_part, causes_start, column_of, edge_at, edge_numbers, edge_text, edges_part, end_text, ends_text, first_row, font_box_text, lower_corners, lower_number, lower_place, near_coordinate, rectangle_text, second_row, upper_corners, upper_number, upper_place, with_cause, with_causes};
 ghost use Rattle.t1_picture.specs.Layers.{thick_text};
 ghost use Rattle.t1_picture.specs.Subpaths.{begun_at};
 
@@ -152,7 +152,6 @@ fn write_font_box(svg: &mut String, font_box: FontBox) -> Result<(), AllocError>
 
 /// Writes a rectangle that isn't filled, from its lower left corner on. It is no path: pages that show the picture in another frame stretch
 /// the paths of its group, which are bands across it.
-#[tactic(auto, unfolding(crate::specs::CauseTexts::rectangle_text))]
 fn write_rectangle(
     svg: &mut String,
     left: Exact,
@@ -162,10 +161,35 @@ fn write_rectangle(
 ) -> Result<(), AllocError>
     ensures { OnOk result (string_bytes svg.new ≡ string_bytes svg.old ++ rectangle_text left lower right upper) }
 {
-    writeln!(
+    write_lower_corners(svg, left, lower, right)?;
+    write_upper_corners(svg, left, right, upper)
+}
+
+#[tactic(auto, unfolding(crate::specs::CauseTexts::lower_corners))]
+fn write_lower_corners(
+    svg: &mut String,
+    left: Exact,
+    lower: Exact,
+    right: Exact,
+) -> Result<(), AllocError>
+    ensures { OnOk result (string_bytes svg.new ≡ string_bytes svg.old ++ lower_corners left lower right) }
+{
+    write!(
         svg,
-        r#"<polygon fill="none" points="{left} {lower} {right} {lower} {right} {upper} {left} {upper}"/>"#
+        r#"<polygon fill="none" points="{left} {lower} {right} {lower}"#
     )
+}
+
+#[tactic(auto, unfolding(crate::specs::CauseTexts::upper_corners))]
+fn write_upper_corners(
+    svg: &mut String,
+    left: Exact,
+    right: Exact,
+    upper: Exact,
+) -> Result<(), AllocError>
+    ensures { OnOk result (string_bytes svg.new ≡ string_bytes svg.old ++ upper_corners left right upper) }
+{
+    writeln!(svg, r#" {right} {upper} {left} {upper}"/>"#)
 }
 
 // ---- lines
