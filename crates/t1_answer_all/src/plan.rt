@@ -121,7 +121,7 @@ fn tells_edition(options: &Options, pages: &[Page]) -> bool
 
 /// Whether lines are written as on a terminal.
 fn is_terminal(layout: Layout<'_>) -> bool
-    ensures { result ≡ is_terminal (layout_value layout) }
+    ensures { result ≡ is_terminal (layout_value layout.entry) }
 {
     matches!(layout, Layout::Groups(_))
 }
