@@ -75,7 +75,7 @@ const ROWS: &[Row] = &[
 #[test]
 fn edges_that_are_touched(rt: HostRuntime) {
     for (direction, start, kind, low, high, wanted) in ROWS {
-        let found = match direction.extent(Some(at(*start, *start)), kind.segment()) {
+        let found = match direction.extent(Some(at(*start, *start)), &kind.segment()) {
             Some(extent) => extent.touches_one(units(*low), units(*high)),
             None => false,
         };
@@ -88,7 +88,7 @@ fn edges_that_are_touched(rt: HostRuntime) {
 fn lines_without_a_start(rt: HostRuntime) {
     assert!(rt;
         Direction::Across
-            .extent(None, Kind::Line.segment())
+            .extent(None, &Kind::Line.segment())
             .is_none()
     );
 }

@@ -83,7 +83,7 @@ fn seen(font_box: Option<FontBox>, before: &[Segment]) -> SegmentWatcher
     ensures { SegmentsStandFor font_box result before.now }
 {
     let mut watcher = SegmentWatcher::start(font_box);
-    let _trace = watcher.see(before);
+    let _faults = watcher.see(before);
     watcher
 }
 
@@ -98,7 +98,7 @@ fn faults_after(
         return None;
     }
     let mut watcher = seen(font_box, before);
-    Some(watcher.see(here).faults)
+    Some(watcher.see(here))
 }
 
 /// What a step breaks.
