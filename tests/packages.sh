@@ -8,7 +8,7 @@ export LC_ALL
 # The page and its module; counts of instructions; manual pages; terminals and shells; recipes; packages; t1lint; the fonts that are measured.
 packages='nodejs chromium binaryen valgrind man-db mandoc bsdutils zsh fish python3 jq
 libxml2-utils python3-yaml pre-commit parallel mupdf-tools dpkg-dev lintian lcdf-typetools t1utils
-fonts-urw-base35 lmodern cm-super-minimal texlive-lang-other'
+fonts-urw-base35 lmodern cm-super-minimal texlive-lang-other texlive-lang-cyrillic texlive-fonts-recommended'
 most_seconds=300
 
 if [ "$(id -u)" -ne 0 ] || ! command -v apt-get >/dev/null; then

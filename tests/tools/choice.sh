@@ -132,7 +132,7 @@ for sums in 'sums.0' 'sums.[1-5]'; do
 done
 try 'summaries of shards' 0 cmp added.6 added.10
 wanted <<'END'
-190 fonts
+212 fonts
 --
 END
 try 'the fonts of all shards' 0 grep -x '[0-9]* fonts' added.10

@@ -52,7 +52,7 @@ done
 END
     wanted <<END
 t1check,--ed:--edition
-t1check,--edition,:1,2,3
+t1check,--edition,:1,2,3,4
 t1check,--edition,=,2:2
 t1check,f:font.pfb
 t1check,tw:two words.PFA
@@ -71,7 +71,7 @@ t1check-all,--files-from,f:
 t1check-all,--exclude,f:
 t1check-all,--explain,H02,e0:E01,E02,E03,E04,E05,E06,E07,E08,E09
 t1check-all,--explain,--v:--version
-t1draw,--edition,:1,2,3
+t1draw,--edition,:1,2,3,4
 t1draw,A,f:font.pfb
 t1draw,--step,f:
 --
@@ -102,6 +102,7 @@ if command -v fish >/dev/null; then
 1	Check by this edition of the rule book
 2	Check by this edition of the rule book
 3	Check by this edition of the rule book
+4	Check by this edition of the rule book
 font.pfb
 two words.PFA
 font.afm

@@ -6,7 +6,10 @@
 . "$(dirname "$0")/common.sh"
 
 for need in 't1asm t1utils' '/usr/share/texmf/fonts/type1/public/lm/lmr10.pfb lmodern' \
-    '/usr/share/fonts/type1/urw-base35/NimbusSans-Bold.t1 fonts-urw-base35'; do
+    '/usr/share/fonts/type1/urw-base35/NimbusSans-Bold.t1 fonts-urw-base35' \
+    '/usr/share/texlive/texmf-dist/fonts/type1/public/amsfonts/symbols/msbm5.pfb texlive-base' \
+    '/usr/share/texlive/texmf-dist/fonts/type1/public/cmcyr/cmcitt10.pfb texlive-lang-cyrillic' \
+    '/usr/share/texlive/texmf-dist/fonts/type1/public/wasy-type1/wasy8.pfb texlive-fonts-recommended'; do
     [ -e "${need% *}" ] || command -v "${need% *}" >/dev/null || {
         echo "skipped: the commands of docs/GUIDE.md, since ${need% *} isn't here (Debian: ${need#* })"
         finish
