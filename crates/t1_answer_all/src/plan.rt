@@ -63,6 +63,7 @@ pub(crate) fn plan_by<'a>(
     ensures beside { result.beside ≡ beside_of asked.entry.options.now.waivers }
 {
     let options = asked.options;
+    let layout = layout_of(options, asked.pages);
     Plan {
         names: fonts.names.as_slice(),
         beside: beside_of(options.waivers),
@@ -74,10 +75,10 @@ pub(crate) fn plan_by<'a>(
             except: options.except.as_slice(),
         },
         failing: options.failing,
-        layout: layout_of(options, asked.pages),
+        layout,
         unlisted: fonts.unlisted(),
         quiet: is_quiet(options, fonts),
-        tells_edition: tells_edition(options, asked.pages),
+        tells_edition: tells_edition(options, layout),
     }
 }
 
@@ -113,10 +114,10 @@ fn is_quiet(options: &Options, fonts: &Fonts) -> bool
 }
 
 /// Whether lines are written as on a terminal, and no edition was named.
-fn tells_edition(options: &Options, pages: &[Page]) -> bool
-    ensures { result ≡ tells_edition options.now (layout_of (map page_value pages.now) options.now) }
+fn tells_edition(options: &Options, layout: Layout<'_>) -> bool
+    ensures { result ≡ tells_edition options.now (layout_value layout.entry) }
 {
-    !options.names_edition && is_terminal(layout_of(options, pages))
+    !options.names_edition && is_terminal(layout)
 }
 
 /// Whether lines are written as on a terminal.

@@ -4,10 +4,12 @@ pub mod CurveAreas
 pub mod CurveLaws
 pub mod Drawing
 pub mod FlatLaws
+pub mod Limits
 pub mod Mapped
 pub mod NearLaws
 pub mod NoFaults
 pub mod Numbers
+pub mod Reaches
 pub mod RuleNumbers
 pub mod Spoiled
 pub mod StemLaws

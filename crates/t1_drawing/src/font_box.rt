@@ -1,23 +1,20 @@
 //! FontBBox, and what ends outside of it: Type 1 Font Format 1.1, chapter 2.
 
-ghost use Rattle.std.specs.Prelude.{◌≡◌, ◌*ℤ◌, ◌+ℤ◌, ◌-ℤ◌, ◌||◌, if◌then◌else◌, int_le, pos, Option, option_map};
+ghost use Rattle.std.specs.Prelude.{◌≡◌, ◌*◌, ◌||◌, ◌≤ℤ◌, neg_ℤ, if◌then◌else◌, int_le, pos, Option, option_map};
 ghost use Rattle.std.specs.Ordering.{int_eq};
 ghost use Rattle.t1_scan.specs.Numbers.{billion};
 ghost use Rattle.t1_drawing.specs.DrawingRules.{box_of};
 ghost use Rattle.t1_drawing.specs.declared.font_box.FontBox.{FontBox as Boxes};
 ghost use Rattle.t1_drawing.specs.FontBoxes.{ends_outside, font_box, is_box, is_outside, is_over, is_under};
-ghost use Rattle.t1_drawing.specs.Private.Limits.{limits_of};
+ghost use Rattle.t1_drawing.specs.Private.Limits.{first_over, last_under, limits_of, place_at, rest};
 
 use t1_char::UNIT;
 use t1_font::{BILLION, Font, Key};
 use t1_outline::Segment;
 use t1_rules::{Point, first_in, is_so_many};
 
-/// A unit of character space, as points count it.
-const POINT_UNIT: i128 = UNIT as i128;
-
-/// The same, as the numbers of a font count it.
-const FONT_UNIT: i128 = BILLION as i128;
+/// A unit of character space, as points count it; the numbers of a font count it as [`BILLION`].
+const POINT_UNIT: i64 = UNIT as i64;
 
 /// FontBBox: the edges of the box in which all glyphs are, in units of 10^-9.
 #[derive(Clone, Copy, Debug, PartialEq, Eq)]
@@ -64,46 +61,57 @@ fn is_ordered(lower: i64, upper: i64) -> bool
 }
 
 /// Whether a point's coordinate, in units of 1/65536, is a unit or more below an edge of a box, in units of 10^-9.
+#[tactic(auto, using(crate::proofs::Limits::under_is))]
 pub fn is_under(edge: i64, place: i64) -> bool
     ensures { result ≡ is_under edge place }
 {
-    of_point(place) <= a_unit_below(edge)
+    place <= last_under(edge)
 }
 
 /// Whether it is a unit or more above one.
+#[tactic(auto, using(crate::proofs::Limits::over_is))]
 pub fn is_over(edge: i64, place: i64) -> bool
     ensures { result ≡ is_over edge place }
 {
-    a_unit_above(edge) <= of_point(place)
+    first_over(edge) <= place
 }
 
-/// Whether a coordinate is a unit or more below the first of a box's numbers, or above the second, by where that is.
-fn is_off(below: i128, above: i128, place: i64) -> bool
-    ensures { result ≡ (int_le (place *ℤ pos billion) below || int_le above (place *ℤ pos billion)) }
+/// Whether a coordinate isn't between two others.
+fn is_off(below: i64, above: i64, place: i64) -> bool
+    ensures { result ≡ (int_le place below || int_le above place) }
 {
-    let place = of_point(place);
     (place <= below) | (above <= place)
 }
 
-/// A point's coordinate, in units of 1/65536 of 10^-9.
-fn of_point(place: i64) -> i128
-    ensures { result ≡ place *ℤ pos billion }
+/// The greatest coordinate of a point that is a unit or more below an edge.
+fn last_under(edge: i64) -> i64
+    ensures { result ≡ last_under edge }
 {
-    i128::from(place) * FONT_UNIT
+    place_at(edge.div_euclid(BILLION) - 1, rest(edge))
 }
 
-/// What is a unit below a font's number, in the same units.
-fn a_unit_below(number: i64) -> i128
-    ensures { result ≡ (number -ℤ pos billion) *ℤ pos 65536 }
+/// The least that is a unit or more above it.
+fn first_over(edge: i64) -> i64
+    ensures { result ≡ first_over edge }
 {
-    (i128::from(number) - FONT_UNIT) * POINT_UNIT
+    place_at(edge.div_euclid(BILLION) + 1, rest(edge) + (BILLION - 1))
 }
 
-/// What is a unit above it.
-fn a_unit_above(number: i64) -> i128
-    ensures { result ≡ (number +ℤ pos billion) *ℤ pos 65536 }
+/// The coordinate at so many units and so many parts of 10^-9 of 1/65536, rounded down.
+fn place_at(units: i64, parts: i64) -> i64
+    requires units { (neg_ℤ (pos (10 * billion)) ≤ℤ units) × (units ≤ℤ pos (10 * billion)) }
+    requires parts { (pos 0 ≤ℤ parts) × (parts ≤ℤ pos (65537 * billion)) }
+    ensures { result ≡ place_at units parts }
 {
-    (i128::from(number) + FONT_UNIT) * POINT_UNIT
+    units * POINT_UNIT + parts.div_euclid(BILLION)
+}
+
+/// What an edge is above a whole number of units, in such parts.
+fn rest(edge: i64) -> i64
+    ensures value { result ≡ rest edge }
+    ensures within { (pos 0 ≤ℤ result) × (result ≤ℤ pos (65536 * billion)) }
+{
+    edge.rem_euclid(BILLION) * POINT_UNIT
 }
 
 impl FontBox {
@@ -134,21 +142,21 @@ impl FontBox {
         ensures { result ≡ limits_of self }
     {
         Limits {
-            left: a_unit_below(self.left),
-            bottom: a_unit_below(self.bottom),
-            right: a_unit_above(self.right),
-            top: a_unit_above(self.top),
+            left: last_under(self.left),
+            bottom: last_under(self.bottom),
+            right: first_over(self.right),
+            top: first_over(self.top),
         }
     }
 }
 
-/// Where points are outside a box: a unit beyond its edges, in units of 1/65536 of 10^-9.
+/// Where points are outside a box: the last coordinates below its edges, and the first above them, in units of 1/65536.
 #[derive(Clone, Copy, Debug, PartialEq, Eq)]
 pub(crate) struct Limits {
-    left: i128,
-    bottom: i128,
-    right: i128,
-    top: i128,
+    left: i64,
+    bottom: i64,
+    right: i64,
+    top: i64,
 }
 
 impl Limits {
@@ -162,6 +170,7 @@ impl Limits {
         }
     }
 
+    #[tactic(auto, using(crate::proofs::Limits::off_is))]
     fn are_passed(self, point: Point) -> bool
         ensures { (box : Boxes) → self ≡ limits_of box → result ≡ is_outside box point }
     {

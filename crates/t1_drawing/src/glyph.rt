@@ -135,13 +135,12 @@ impl DrawingWatcher {
         if is_silent(step.token) {
             return watches.see(step);
         }
-        if self.nib.begins_or_closes(step) {
-            return self.see_turn(watches, step);
-        }
         match self.nib.stroke(step, watches.point()) {
             Some(segment) => self.see_stroke(watches, step, segment),
             None => {
-                if draws_nothing(step.token) {
+                if self.nib.begins_or_closes(step) {
+                    self.see_turn(watches, step)
+                } else if draws_nothing(step.token) {
                     self.see_setting(watches, step)
                 } else {
                     self.see_any(watches, step)

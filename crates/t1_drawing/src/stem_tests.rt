@@ -76,7 +76,7 @@ const ROWS: &[Row] = &[
 fn edges_that_are_touched(rt: HostRuntime) {
     for (direction, start, kind, low, high, wanted) in ROWS {
         let found = match direction.extent(Some(at(*start, *start)), &kind.segment()) {
-            Some(extent) => extent.touches_one(units(*low), units(*high)),
+            Some(extent) => extent.reach().touches_one(units(*low), units(*high)),
             None => false,
         };
         assert_eq!(rt; found, *wanted, "{kind:?} {low} {high}");

@@ -1,13 +1,13 @@
 //! Stems that nothing touches, H08: Type 1 Font Format 1.1, chapter 5.
 
 ghost use Rattle.std.specs.Prelude.{◌≡◌, ◌+◌, ◌≤◌, true, count_by, find, option_map, ◌||◌, ◌+ℤ◌, nat_le, length, Some, List, [], ◌∷◌, ◌++◌, map, not};
-ghost use Rattle.std.specs.Int.{int_max, int_min};
 ghost use Rattle.std.specs.List.{list_any};
 ghost use Rattle.t1_char.specs.Steps.{StepView};
 ghost use Rattle.t1_char.specs.StepValues.{step_view};
-ghost use Rattle.t1_drawing.specs.Touching.{coordinate, curve_extent, extent_by, extent_from, first_untouched, high_edge, is_between, is_near, is_stroke_by, leaves_untouched, line_extent, low_edge, stems_set, touches_edge, touches_one, widened};
+ghost use Rattle.t1_drawing.specs.Touching.{coordinate, curve_extent, extent_by, extent_from, first_untouched, high_edge, is_between, is_stroke_by, leaves_untouched, line_extent, low_edge, stems_set, touches_edge, touches_one, widened};
 ghost use Rattle.t1_drawing.specs.Private.Standing.{TouchesStandFor};
-ghost use Rattle.t1_drawing.specs.Private.Watching.{IsDone, SetsNothing, all_touched, draw_on, drawing_in, draws_on, has_edges, is_left, left_as, point_in, point_on, touched_by, with_edges, with_stem_from, with_stems_from};
+ghost use Rattle.t1_drawing.specs.declared.touching.Extent.{Extent as Extents};
+ghost use Rattle.t1_drawing.specs.Private.Watching.{IsDone, IsReach, SetsNothing, above, all_touched, below, draw_on, drawing_in, draws_on, has_edges, is_left, left_as, point_in, point_on, reach_between, touched_by, with_edges, with_stem_from, with_stems_from};
 ghost use Rattle.t1_outline.specs.Outlines.{drawn};
 ghost use Rattle.t1_drawing.specs.declared.direction.Direction.TheVariants.{Across, Upright};
 ghost use Rattle.t1_rules.specs.StepRules.Stems.{most_stems, stems_of};
@@ -24,7 +24,7 @@ use t1_rules::{
 };
 
 /// How far an edge may lie from an end of a line or a curve that touches it: ten units.
-const NEAR: u64 = 10 * UNIT as u64;
+const NEAR: i64 = 10 * UNIT as i64;
 
 /// In a coordinate: where a line or a curve begins and ends, and the least and the greatest of all its points.
 #[derive(Clone, Copy)]
@@ -33,6 +33,15 @@ pub(crate) struct Extent {
     end: i64,
     least: i64,
     greatest: i64,
+}
+
+/// Which edges a line or a curve touches: those from the lowest to the low one, and those from the high to the highest one.
+#[derive(Clone, Copy)]
+pub(crate) struct Reach {
+    lowest: i64,
+    low: i64,
+    high: i64,
+    highest: i64,
 }
 
 /// A stem by its edges, in units of 1/65536, and whether something touched it since it was set.
@@ -78,10 +87,18 @@ pub(crate) struct TouchWatcher {
     pub(crate) upright_done: bool,
 }
 
-fn is_near(one: i64, other: i64) -> bool
-    ensures { result ≡ is_near one other }
+/// What is ten units below a coordinate, as far as there are coordinates.
+fn below(place: i64) -> i64
+    ensures { result ≡ below place }
 {
-    one.abs_diff(other) <= NEAR
+    place.saturating_sub(NEAR)
+}
+
+/// What is ten units above it.
+fn above(place: i64) -> i64
+    ensures { result ≡ above place }
+{
+    place.saturating_add(NEAR)
 }
 
 pub(crate) fn is_between(low: i64, place: i64, high: i64) -> bool
@@ -137,6 +154,18 @@ impl Direction {
     }
 }
 
+/// The edges near two ends, and those from the ends to the least and the greatest point.
+fn reach_between(least: i64, low: i64, high: i64, greatest: i64) -> Reach
+    ensures { result ≡ reach_between least low high greatest }
+{
+    Reach {
+        lowest: least.min(below(low)),
+        low: above(low),
+        high: below(high),
+        highest: greatest.max(above(high)),
+    }
+}
+
 impl Extent {
     /// With a point more.
     fn widened(self, place: i64) -> Extent
@@ -149,35 +178,26 @@ impl Extent {
         }
     }
 
-    fn ends_near(self, edge: i64) -> bool
-        ensures { result ≡ (is_near self.start edge || is_near self.end edge) }
+    /// The edges that are near an end, or where the curve may have its extreme, between an end and its points.
+    pub(crate) fn reach(self) -> Reach
+        ensures { IsReach self result }
     {
-        is_near(self.start, edge) | is_near(self.end, edge)
+        let low = self.start.min(self.end);
+        let high = self.start.max(self.end);
+        reach_between(self.least, low, high, self.greatest)
     }
+}
 
-    /// Whether an edge lies from the least of all points up to the lesser end.
-    fn reaches_down(self, edge: i64) -> bool
-        ensures { result ≡ is_between self.least edge (int_min self.start self.end) }
-    {
-        is_between(self.least, edge, self.start.min(self.end))
-    }
-
-    /// Whether an edge lies from the greater end up to the greatest of all points.
-    fn reaches_up(self, edge: i64) -> bool
-        ensures { result ≡ is_between (int_max self.start self.end) edge self.greatest }
-    {
-        is_between(self.start.max(self.end), edge, self.greatest)
-    }
-
+impl Reach {
     fn touches(self, edge: i64) -> bool
-        ensures { result ≡ touches_edge self edge }
+        ensures { (e : Extents) → IsReach e self → result ≡ touches_edge e edge }
     {
-        self.ends_near(edge) | (self.reaches_down(edge) | self.reaches_up(edge))
+        is_between(self.lowest, edge, self.low) | is_between(self.high, edge, self.highest)
     }
 
     /// Whether an edge of a stem is touched.
     pub(crate) fn touches_one(self, low: i64, high: i64) -> bool
-        ensures { result ≡ touches_one (Some self) low high }
+        ensures { (e : Extents) → IsReach e self → result ≡ touches_one (Some e) low high }
     {
         self.touches(low) | self.touches(high)
     }
@@ -186,14 +206,14 @@ impl Extent {
 impl WatchedStem {
     /// Sees a line or a curve more. Returns whether the stem is touched now.
     #[inline(always)]
-    fn see(&mut self, extent: Extent) -> bool
-        ensures stem { self.new ≡ touched_by (Some extent) self.old }
+    fn see(&mut self, reach: Reach) -> bool
+        ensures stem { (e : Extents) → IsReach e reach → self.new ≡ touched_by (Some e) self.old }
         ensures touched { result ≡ self.new.touched }
     {
         if self.touched {
             return true;
         }
-        self.touched = extent.touches_one(self.low, self.high);
+        self.touched = reach.touches_one(self.low, self.high);
         self.touched
     }
 
@@ -209,9 +229,10 @@ fn touch_all(stems: &mut [WatchedStem], extent: Extent) -> bool
     ensures stems { stems.new ≡ map (touched_by (Some extent)) stems.old }
     ensures all { result ≡ true → all_touched stems.new ≡ true }
 {
+    let reach = extent.reach();
     let mut all = true;
     for stem in stems.iter_mut() {
-        all = stem.see(extent) & all;
+        all = stem.see(reach) & all;
     }
     all
 }

@@ -1,16 +1,18 @@
 -- What a watcher of stems keeps, with a segment more and with stems more.
-use Rattle.std.specs.Prelude.{◌≡◌, ◌-◌, ℕ, ℤ, ◌&&◌, ◌||◌, nat_le, not, if◌then◌else◌, Bool, true, false, Option, List, [], ◌∷◌, ◌++◌, length, map}
+use Rattle.std.specs.Prelude.{◌≡◌, ◌-◌, ◌+ℤ◌, ◌-ℤ◌, pos, FitsSigned, ℕ, ℤ, ◌&&◌, ◌||◌, nat_le, not, if◌then◌else◌, Bool, true, false, Option, List, [], ◌∷◌, ◌++◌, length, map}
+use Rattle.std.specs.Int.{int_max, int_min, saturate_signed, w64}
 use Rattle.std.specs.List.{list_any}
 use Rattle.std.specs.Ordering.{int_eq}
 use Rattle.t1_char.specs.Steps.{StepView}
 use Rattle.t1_drawing.specs.declared.direction.Direction.{Direction}
 use Rattle.t1_drawing.specs.declared.direction.Direction.TheVariants.{Across, Upright}
 use Rattle.t1_drawing.specs.declared.touching.Extent.{Extent}
+use Rattle.t1_drawing.specs.declared.touching.Reach.{Reach}
 use Rattle.t1_drawing.specs.declared.touching.Sidebearing.{Sidebearing}
 use Rattle.t1_drawing.specs.declared.touching.TouchWatcher.{TouchWatcher}
 use Rattle.t1_drawing.specs.declared.touching.UntouchedStem.{UntouchedStem}
 use Rattle.t1_drawing.specs.declared.touching.WatchedStem.{WatchedStem}
-use Rattle.t1_drawing.specs.Touching.{SetStem, coordinate, extent_by, high_edge, is_stroke_by, is_touched, low_edge, stems_set, touches_one}
+use Rattle.t1_drawing.specs.Touching.{SetStem, coordinate, extent_by, high_edge, is_stroke_by, is_touched, low_edge, near_by, stems_set, touches_one}
 use Rattle.t1_outline.specs.declared.segment.Segment.{Segment}
 use Rattle.t1_outline.specs.Laws.Points.{end_of}
 use Rattle.t1_rules.specs.declared.step_rules.flex.Point.{Point}
@@ -25,6 +27,27 @@ watched direction stem = record { low = stem.low; high = stem.high; touched = is
 
 abbrev pub point_in : Sidebearing → Point
 point_in s = at s.x s.y
+
+-- Ten units below a coordinate, and above it, as far as there are coordinates.
+abbrev pub below : ℤ → ℤ
+below z = saturate_signed w64 (z -ℤ pos near_by)
+
+abbrev pub above : ℤ → ℤ
+above z = saturate_signed w64 (z +ℤ pos near_by)
+
+abbrev pub reach_between : ℤ → ℤ → ℤ → ℤ → Reach
+reach_between least low high greatest = record {
+  lowest = int_min least (below low);
+  low = above low;
+  high = below high;
+  highest = int_max greatest (above high);
+}
+
+-- The edges that a line or a curve touches, whose ends are coordinates.
+pub record IsReach (e : Extent) (reach : Reach) : Type 0 where
+  pub same : reach ≡ reach_between e.least (int_min e.start e.end) (int_max e.start e.end) e.greatest
+  pub low : FitsSigned w64 (int_min e.start e.end)
+  pub high : FitsSigned w64 (int_max e.start e.end)
 
 -- A segment more.
 abbrev pub touched_by : Option Extent → WatchedStem → WatchedStem

@@ -13,12 +13,12 @@ loop-stem-preserved c =
     let one : i + 1 ≡ suc i = omega arith in
     record {
       stems =
-          ap (λ v. set c.loop-stem.stems i v) c.see-all.ensures.stem
+          ap (λ v. set c.loop-stem.stems i v) (c.see-all.ensures.stem c.args.extent c.reach-reach.ensures)
           ∙ rw c.loop-stem.invariant.stems (mapped_more f i c.args.stems.now _ (omega arith))
           ∙ ap (λ n. mapped_to f n c.args.stems.now) (sym one);
       all = λ all.
           let parts = and_parts c.see-all.result c.loop-stem.all all in
-          let last = rw c.loop-stem.invariant.stems at (sym (ap (λ s. s.touched) c.see-all.ensures.stem) ∙ (sym c.see-all.ensures.touched ∙ parts.0)) in
+          let last = rw c.loop-stem.invariant.stems at (sym (ap (λ s. s.touched) (c.see-all.ensures.stem c.args.extent c.reach-reach.ensures)) ∙ (sym c.see-all.ensures.touched ∙ parts.0)) in
           subst (λ n. all_touched (map f (take n c.args.stems.now)) ≡ true) (sym one)
           (touched_more f i c.args.stems.now _ (omega arith) (c.loop-stem.invariant.all parts.1) last);
     }

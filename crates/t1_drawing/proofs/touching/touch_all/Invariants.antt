@@ -5,6 +5,6 @@ use Rattle.t1_drawing.proofs.touching.touch_all.Given as goal
 
 abbrev pub invariant-loop-stem : goal.invariant-loop-stem
 invariant-loop-stem l = record {
-  stems : l.stems ≡ mapped_to (touched_by (Some l.extent)) l.stem-index l.fn.stems;
-  all : l.all ≡ true → all_touched (map (touched_by (Some l.extent)) (take l.stem-index l.fn.stems)) ≡ true;
+  stems : l.stems ≡ mapped_to (touched_by (Some l.fn.extent)) l.stem-index l.fn.stems;
+  all : l.all ≡ true → all_touched (map (touched_by (Some l.fn.extent)) (take l.stem-index l.fn.stems)) ≡ true;
 }
