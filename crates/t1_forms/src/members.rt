@@ -229,6 +229,11 @@ pub fn reason_members(alloc: Global, font: &Font<'_>, reason: Reason) -> Result<
             put_two(&mut members, alloc, font, third, fourth)?;
             put_field(&mut members, alloc, font, fifth)?;
         }
+        Fields::Six(first, second, third, fourth, fifth, sixth) => {
+            put_two(&mut members, alloc, font, first, second)?;
+            put_two(&mut members, alloc, font, third, fourth)?;
+            put_two(&mut members, alloc, font, fifth, sixth)?;
+        }
     }
     Ok(members)
 }

@@ -26,7 +26,7 @@ use Rattle.t1_drawing.specs.declared.direction.Direction.TheVariants.{Across, Up
 use Rattle.t1_rules.specs.declared.step_rules.flex.Point.{Point}
 use Rattle.t1_reason_texts.specs.declared.drawing_texts.Side.{Side}
 use Rattle.t1_reason_texts.specs.declared.drawing_texts.Side.TheVariants.{Above, Below, Left, Right}
-use Rattle.t1_reason_texts.specs.DrawingTexts.{axis_word, drawn_text, place_text, side_axis, side_words, stroke_text}
+use Rattle.t1_reason_texts.specs.DrawingTexts.{axis_word, drawn_text, nearest_text, place_text, side_axis, side_words, stroke_text}
 use Rattle.t1_reason_texts.specs.FontTexts.{absent_needed, count_needed, entry_name, entry_needed, entry_text, form_words, found_text, subr_entry_text}
 use Rattle.t1_reason_texts.specs.Laws.{AreOneLine, is_plain}
 use Rattle.t1_reason_texts.specs.SeacTexts.{code_text, name_words}
@@ -235,9 +235,13 @@ plain_text_words : (text : FontText) → list_all is_plain (text_words text) ≡
 plain_text_words Clear = refl
 plain_text_words _ = refl
 
+plain_nearest : (direction : Direction) (nearest : Option ℤ) → list_all is_plain (nearest_text direction nearest) ≡ true
+plain_nearest direction None = refl
+plain_nearest direction (Some place) = simp (plain, plain_axis)
+
 -- ---- all
 
-ruleset worded = (plain, plain_bytes, plain_form, plain_text_words, plain_more, plain_token, plain_is_there, plain_comes, plain_needed_pairs, plain_before, plain_after, plain_none, plain_stems, plain_widths, plain_middles, plain_call_words, plain_does, plain_code, plain_entry, plain_found, plain_subr_entry, plain_number, plain_zones, plain_height, plain_below_one, plain_side_axis, plain_side_words, plain_axis, plain_place, plain_writing, plain_stroke)
+ruleset worded = (plain, plain_bytes, plain_form, plain_text_words, plain_more, plain_token, plain_is_there, plain_comes, plain_needed_pairs, plain_before, plain_after, plain_none, plain_stems, plain_widths, plain_middles, plain_call_words, plain_does, plain_code, plain_entry, plain_found, plain_subr_entry, plain_number, plain_zones, plain_height, plain_below_one, plain_side_axis, plain_side_words, plain_axis, plain_place, plain_writing, plain_stroke, plain_nearest)
 
 pub are_one_line : AreOneLine
 unfolding reason_text outline_reason_text drawing_reason_text font_reason_text numbers_reason_text word_reason_text

@@ -1,5 +1,5 @@
 -- What the texts of reasons on the drawing are made of.
-use Rattle.std.specs.Prelude.{ℕ, ℤ, ◌==◌, if◌then◌else◌, Option, Some, List, [], ◌++◌, codes}
+use Rattle.std.specs.Prelude.{ℕ, ℤ, ◌==◌, if◌then◌else◌, Option, None, Some, List, [], ◌++◌, codes}
 use Rattle.std.specs.Fmt.{decimal}
 use Rattle.t1_drawing.specs.declared.direction.Direction.{Direction}
 use Rattle.t1_drawing.specs.declared.direction.Direction.TheVariants.{Across, Upright}
@@ -11,6 +11,8 @@ use Rattle.t1_reason_texts.specs.declared.decimals.Unit.TheVariants.{Area, OnCur
 use Rattle.t1_reason_texts.specs.declared.drawing_texts.Side.{Side}
 use Rattle.t1_reason_texts.specs.declared.drawing_texts.Side.TheVariants.{Above, Below, Left, Right}
 use Rattle.t1_reason_texts.specs.Decimals.{coordinate_of, coordinate_text, exact_text, point_text, text_in, value_of}
+use Rattle.t1_reason_texts.specs.Words.{counted_text}
+use Rattle.t1_reasons.specs.declared.reason.SubpathTurns.{SubpathTurns}
 use Rattle.t1_rules.specs.declared.rule.Rule.{Rule}
 use Rattle.t1_rules.specs.declared.rule.Rule.TheVariants.{P06, P07, P08}
 use Rattle.t1_rules.specs.declared.step_rules.flex.Point.{Point}
@@ -53,8 +55,16 @@ abbrev pub outside_text : Point → FontBox → List ℕ
 outside_text p box = side_text (side_of p box) p box
 
 -- P05.
-abbrev pub area_text : ℤ → List ℕ
-area_text twentyfold = codes "the area is " ++ text_in Area twentyfold
+abbrev pub clockwise_text : SubpathTurns → List ℕ
+clockwise_text turns =
+    if turns.clockwise == 1 then codes " is clockwise, from step " ++ decimal turns.first
+    else codes " are clockwise, the first from step " ++ decimal turns.first
+
+abbrev pub turns_text : SubpathTurns → List ℕ
+turns_text turns = decimal turns.clockwise ++ (codes " of " ++ (counted_text turns.subpaths (codes "subpath") ++ clockwise_text turns))
+
+abbrev pub area_text : ℤ → SubpathTurns → List ℕ
+area_text twentyfold turns = codes "the area is " ++ (text_in Area twentyfold ++ (codes "; " ++ turns_text turns))
 
 -- P06 to P09: where a line or a curve begins and ends, beside the line right before it where the rule speaks of two.
 abbrev pub way_text : Point → Point → List ℕ
@@ -91,7 +101,12 @@ beyond_text direction quarters place start end =
 abbrev pub more_text : ℕ → List ℕ
 more_text more = if more == 0 then [] else codes ", and " ++ (decimal more ++ codes " more")
 
-abbrev pub untouched_text : UntouchedStem → List ℕ
-untouched_text stem =
+abbrev pub nearest_text : Direction → Option ℤ → List ℕ
+nearest_text direction None = codes "; nothing is drawn after it"
+nearest_text direction (Some place) = codes "; the nearest point is at " ++ (axis_word direction ++ (codes " " ++ coordinate_text place))
+
+abbrev pub untouched_text : UntouchedStem → ℕ → Option ℤ → List ℕ
+untouched_text stem step nearest =
     codes "the stem from " ++ (coordinate_text stem.low ++ (codes " to " ++ (coordinate_text stem.high
-    ++ (codes " in " ++ (axis_word stem.direction ++ more_text stem.more)))))
+    ++ (codes " in " ++ (axis_word stem.direction ++ (codes ", set at step " ++ (decimal step
+    ++ (more_text stem.more ++ nearest_text stem.direction nearest))))))))

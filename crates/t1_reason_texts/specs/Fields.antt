@@ -1,12 +1,13 @@
 -- The fields of a reason with their names, as forms that other programs read write them.
 use Rattle.std.specs.Prelude.{ℕ, ◌-◌, ℤ, Option, Some, None, List, [], ◌∷◌, codes}
+use Rattle.t1_drawing.specs.declared.touching.UntouchedStem.{UntouchedStem}
 use Rattle.t1_reasons.specs.declared.reason.FontText.TheVariants.{Private}
 use Rattle.t1_reasons.specs.declared.reason.Reason.{Reason}
 use Rattle.t1_reasons.specs.declared.reason.Reason.TheVariants.{Area, Argument, Arguments, Behind, Beyond, Code, Codes, Corners, Count, Depth, Determinant, Ending, Entry, Features, FirstLine, Following, Form, Full, Gap, Glyph, Glyphs, HighByte, Ids, Kind, LastToken, Length, Limit, Miss, Number, Numbers, Open, Othersubr, Outside, Pairs, PrivateUnbegun, Quotient, ReaderWord, Sidebearings, Since, Stem, Stems, Stroke, Subr, SubrEntry, TextWord, Token, TooMany, Triple, Untouched, Width, Zone, Zones}
 use Rattle.t1_reason_texts.specs.declared.fields.Field.{Field}
 use Rattle.t1_reason_texts.specs.declared.fields.Field.TheVariants.{Axis, CodeName, Command, Count as Counted, Decimal, Edges, Encoding, FirstLine as OneLine, FontBox, Found, GlyphName, Holds, Integer, Point, Stem as OneStem, Text, Token as OneToken, Wanted, Word}
 use Rattle.t1_reason_texts.specs.declared.fields.Fields.{Fields}
-use Rattle.t1_reason_texts.specs.declared.fields.Fields.TheVariants.{Five, Four, Nothing as NoFields, One, Three, Two}
+use Rattle.t1_reason_texts.specs.declared.fields.Fields.TheVariants.{Five, Four, Nothing as NoFields, One, Six, Three, Two}
 use Rattle.t1_reason_texts.specs.Decimals.{coordinate_of, in_unit, value_of}
 use Rattle.t1_reason_texts.specs.declared.decimals.Unit.TheVariants.{Area as Areas, OnCurve}
 use Rattle.t1_outline.specs.Laws.Points.{end_of}
@@ -23,6 +24,7 @@ listed (Two a b) = (a.0.now, a.1) ∷ (b.0.now, b.1) ∷ []
 listed (Three a b c) = (a.0.now, a.1) ∷ (b.0.now, b.1) ∷ (c.0.now, c.1) ∷ []
 listed (Four a b c d) = (a.0.now, a.1) ∷ (b.0.now, b.1) ∷ (c.0.now, c.1) ∷ (d.0.now, d.1) ∷ []
 listed (Five a b c d e) = (a.0.now, a.1) ∷ (b.0.now, b.1) ∷ (c.0.now, c.1) ∷ (d.0.now, d.1) ∷ (e.0.now, e.1) ∷ []
+listed (Six a b c d e f) = (a.0.now, a.1) ∷ (b.0.now, b.1) ∷ (c.0.now, c.1) ∷ (d.0.now, d.1) ∷ (e.0.now, e.1) ∷ (f.0.now, f.1) ∷ []
 
 -- A number in units of 1/65536, and one in units of 10^-9.
 abbrev pub coordinate_field : ℤ → Field
@@ -73,17 +75,26 @@ stroke_fields (Some before) (Some start) (Some end) = (codes "before", Point bef
 stroke_fields None (Some start) (Some end) = (codes "start", Point start) ∷ (codes "end", Point end) ∷ []
 stroke_fields _ start end = []
 
+-- Of a stem that nothing touches.
+abbrev pub stem_fields : UntouchedStem → ℕ → Option ℤ → List NamedField
+stem_fields stem step None =
+    (codes "axis", Axis stem.direction) ∷ (codes "lower", coordinate_field stem.low) ∷ (codes "upper", coordinate_field stem.high)
+    ∷ (codes "more", Counted stem.more) ∷ (codes "step", Counted step) ∷ []
+stem_fields stem step (Some place) =
+    (codes "axis", Axis stem.direction) ∷ (codes "lower", coordinate_field stem.low) ∷ (codes "upper", coordinate_field stem.high)
+    ∷ (codes "more", Counted stem.more) ∷ (codes "step", Counted step) ∷ (codes "nearest", coordinate_field place) ∷ []
+
 -- Of one that speaks of the drawing.
 unfoldable pub drawing_fields_of : Reason → List NamedField
 drawing_fields_of (Outside point font_box) = (codes "point", Point point) ∷ (codes "FontBBox", FontBox font_box) ∷ []
-drawing_fields_of (Area twentyfold) = (codes "area", Decimal (in_unit Areas twentyfold)) ∷ []
+drawing_fields_of (Area twentyfold turns) =
+    (codes "area", Decimal (in_unit Areas twentyfold)) ∷ (codes "subpaths", Counted turns.subpaths) ∷ (codes "clockwise", Counted turns.clockwise)
+    ∷ (codes "step", Counted turns.first) ∷ []
 drawing_fields_of (Stroke line_start start segment) = stroke_fields line_start start (end_of segment)
 drawing_fields_of (Beyond direction quarters place start end) =
     (codes "axis", Axis direction) ∷ (codes "quarters", Counted quarters) ∷ (codes "place", Decimal (in_unit OnCurve place))
     ∷ (codes "start", coordinate_field start) ∷ (codes "end", coordinate_field end) ∷ []
-drawing_fields_of (Untouched stem) =
-    (codes "axis", Axis stem.direction) ∷ (codes "lower", coordinate_field stem.low) ∷ (codes "upper", coordinate_field stem.high)
-    ∷ (codes "more", Counted stem.more) ∷ []
+drawing_fields_of (Untouched stem step nearest) = stem_fields stem step nearest
 drawing_fields_of reason = font_fields_of reason
 
 unfoldable pub fields_of : Reason → List NamedField

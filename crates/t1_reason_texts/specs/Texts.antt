@@ -66,10 +66,10 @@ font_reason_text font rule reason = numbers_reason_text font rule reason
 -- Of one that speaks of the drawing.
 unfoldable pub drawing_reason_text : FontValue → Rule → Reason → List ℕ
 drawing_reason_text font rule (Outside point font_box) = outside_text point font_box
-drawing_reason_text font rule (Area twentyfold) = area_text twentyfold
+drawing_reason_text font rule (Area twentyfold turns) = area_text twentyfold turns
 drawing_reason_text font rule (Stroke line_start start segment) = stroke_text rule line_start start (end_of segment)
 drawing_reason_text font rule (Beyond direction quarters place start end) = beyond_text direction quarters place start end
-drawing_reason_text font rule (Untouched stem) = untouched_text stem
+drawing_reason_text font rule (Untouched stem step nearest) = untouched_text stem step nearest
 drawing_reason_text font rule reason = font_reason_text font rule reason
 
 -- Of one that speaks of points, of stems or of an accented character.

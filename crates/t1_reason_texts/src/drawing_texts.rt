@@ -1,11 +1,13 @@
 //! What the texts of reasons on the drawing are made of.
 
 ghost use Rattle.std.specs.Prelude.{◌≡◌, Some};
-ghost use Rattle.t1_reason_texts.specs.DrawingTexts.{axis_word, beyond_text, drawn_text, more_text, outside_text, place_text, quarters_word, side_axis, side_edge, side_of, side_place, side_words, stroke_text, untouched_text};
+ghost use Rattle.t1_reason_texts.specs.DrawingTexts.{axis_word, beyond_text, clockwise_text, drawn_text, more_text, nearest_text, outside_text, place_text, quarters_word, side_axis, side_edge, side_of, side_place, side_words, stroke_text, turns_text, untouched_text};
 
 use crate::decimals::{Coordinates, Exact, Unit, coordinate, value};
+use crate::words::Counted;
 use std::fmt;
 use t1_drawing::{Direction, FontBox, UntouchedStem, is_over, is_under};
+use t1_reasons::SubpathTurns;
 use t1_rules::{Point, Rule};
 
 /// A point outside FontBBox.
@@ -44,9 +46,25 @@ pub(crate) struct BeyondText {
     pub(crate) end: i64,
 }
 
-/// A stem that nothing touches.
+/// How many subpaths run clockwise, and the first of these.
 #[derive(Clone, Copy)]
-pub(crate) struct UntouchedText(pub(crate) UntouchedStem);
+pub(crate) struct TurnsText(pub(crate) SubpathTurns);
+
+/// Which those are.
+#[derive(Clone, Copy)]
+struct ClockwiseText(SubpathTurns);
+
+/// A stem that nothing touches, where it is set, and what is drawn nearest to it.
+#[derive(Clone, Copy)]
+pub(crate) struct UntouchedText {
+    pub(crate) stem: UntouchedStem,
+    pub(crate) step: u32,
+    pub(crate) nearest: Option<i64>,
+}
+
+/// The nearest of what is drawn after a stem is set.
+#[derive(Clone, Copy)]
+struct NearestText(Direction, Option<i64>);
 
 /// How many more there are; nothing where there is none.
 #[derive(Clone, Copy)]
@@ -225,15 +243,59 @@ impl fmt::Display for PlaceText {
     }
 }
 
-impl fmt::Display for UntouchedText {
-    ghost output = { λ t. Some (untouched_text t.0) };
+impl fmt::Display for TurnsText {
+    ghost output = { λ t. Some (turns_text t.0) };
 
     fn fmt<W: fmt::Write>(&self, f: &mut fmt::Formatter<W>) -> fmt::Result {
-        let low = coordinate(self.0.low);
-        let high = coordinate(self.0.high);
-        let axis = axis_word(self.0.direction);
-        let more = MoreText(self.0.more);
-        write!(f, "the stem from {low} to {high} in {axis}{more}")
+        let clockwise = self.0.clockwise;
+        let subpaths = Counted(self.0.subpaths as usize, "subpath");
+        let which = ClockwiseText(self.0);
+        write!(f, "{clockwise} of {subpaths}{which}")
+    }
+}
+
+impl fmt::Display for ClockwiseText {
+    ghost output = { λ t. Some (clockwise_text t.0) };
+
+    fn fmt<W: fmt::Write>(&self, f: &mut fmt::Formatter<W>) -> fmt::Result {
+        let first = self.0.first;
+        if self.0.clockwise == 1 {
+            write!(f, " is clockwise, from step {first}")
+        } else {
+            write!(f, " are clockwise, the first from step {first}")
+        }
+    }
+}
+
+impl fmt::Display for UntouchedText {
+    ghost output = { λ t. Some (untouched_text t.stem t.step t.nearest) };
+
+    fn fmt<W: fmt::Write>(&self, f: &mut fmt::Formatter<W>) -> fmt::Result {
+        let low = coordinate(self.stem.low);
+        let high = coordinate(self.stem.high);
+        let axis = axis_word(self.stem.direction);
+        let step = self.step;
+        let more = MoreText(self.stem.more);
+        let nearest = NearestText(self.stem.direction, self.nearest);
+        write!(
+            f,
+            "the stem from {low} to {high} in {axis}, set at step {step}{more}{nearest}"
+        )
+    }
+}
+
+impl fmt::Display for NearestText {
+    ghost output = { λ t. Some (nearest_text t.0 t.1) };
+
+    fn fmt<W: fmt::Write>(&self, f: &mut fmt::Formatter<W>) -> fmt::Result {
+        match self.1 {
+            Some(place) => {
+                let axis = axis_word(self.0);
+                let place = coordinate(place);
+                write!(f, "; the nearest point is at {axis} {place}")
+            }
+            None => f.write_str("; nothing is drawn after it"),
+        }
     }
 }
 

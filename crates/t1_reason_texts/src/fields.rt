@@ -1,13 +1,13 @@
 //! The fields of a reason as data, for forms that other programs read.
 
 ghost use Rattle.std.specs.Prelude.{◌≡◌};
-ghost use Rattle.t1_reason_texts.specs.Fields.{coordinate_field, drawing_fields_of, fields_of, font_fields_of, listed, stroke_fields, value_field, word_fields_of};
+ghost use Rattle.t1_reason_texts.specs.Fields.{coordinate_field, drawing_fields_of, fields_of, font_fields_of, listed, stem_fields, stroke_fields, value_field, word_fields_of};
 
 use crate::decimals::{Exact, Unit, coordinate, value};
 use Field::{CodeName, Count, GlyphName, Holds};
-use Fields::{Five, Four, One, Three, Two};
+use Fields::{Five, Four, One, Six, Three, Two};
 use t1_char::{CharToken, Command};
-use t1_drawing::{Direction, FontBox, end_of};
+use t1_drawing::{Direction, FontBox, UntouchedStem, end_of};
 use t1_font::Encoding;
 use t1_reasons::{EntryKind, FontText, Found, Reason};
 use t1_rules::{Edges, Point, Stem};
@@ -56,6 +56,7 @@ pub enum Fields {
     Three(Named, Named, Named),
     Four(Named, Named, Named, Named),
     Five(Named, Named, Named, Named, Named),
+    Six(Named, Named, Named, Named, Named, Named),
 }
 
 /// A number in units of 1/65536.
@@ -172,9 +173,12 @@ fn drawing_fields_of(reason: Reason) -> Fields
             ("point", Field::Point(point)),
             ("FontBBox", Field::FontBox(font_box)),
         ),
-        Reason::Area { twentyfold } => {
-            One(("area", Field::Decimal(Exact::new(twentyfold, Unit::Area))))
-        }
+        Reason::Area { twentyfold, turns } => Four(
+            ("area", Field::Decimal(Exact::new(twentyfold, Unit::Area))),
+            ("subpaths", Count(turns.subpaths as u64)),
+            ("clockwise", Count(turns.clockwise as u64)),
+            ("step", Count(turns.first as u64)),
+        ),
         Reason::Stroke {
             line_start,
             start,
@@ -193,12 +197,11 @@ fn drawing_fields_of(reason: Reason) -> Fields
             ("start", at(start)),
             ("end", at(end)),
         ),
-        Reason::Untouched { stem } => Four(
-            ("axis", Field::Axis(stem.direction)),
-            ("lower", at(stem.low)),
-            ("upper", at(stem.high)),
-            ("more", Count(stem.more as u64)),
-        ),
+        Reason::Untouched {
+            stem,
+            step,
+            nearest,
+        } => stem_fields(stem, step, nearest),
         _ => font_fields_of(reason),
     }
 }
@@ -217,6 +220,21 @@ fn stroke_fields(line_start: Option<Point>, start: Option<Point>, end: Option<Po
             Two(("start", Field::Point(start)), ("end", Field::Point(end)))
         }
         _ => Fields::Nothing,
+    }
+}
+
+/// Those of a stem that nothing touches: its edges, how many more there are, the step that sets it, and what is drawn nearest to it.
+fn stem_fields(stem: UntouchedStem, step: u32, nearest: Option<i64>) -> Fields
+    ensures { listed result ≡ stem_fields stem step nearest }
+{
+    let axis = ("axis", Field::Axis(stem.direction));
+    let lower = ("lower", at(stem.low));
+    let upper = ("upper", at(stem.high));
+    let more = ("more", Count(stem.more as u64));
+    let step = ("step", Count(step as u64));
+    match nearest {
+        Some(place) => Six(axis, lower, upper, more, step, ("nearest", at(place))),
+        None => Five(axis, lower, upper, more, step),
     }
 }
 

@@ -4,7 +4,7 @@ ghost use Rattle.std.specs.Prelude.{◌≡◌, Some, IfOk, option_map};
 ghost use Rattle.t1_reason_texts.specs.Texts.{drawing_reason_text, font_reason_text, numbers_reason_text, outline_reason_text, reason_text, says_more, shown_text};
 
 use crate::decimals::{Coordinates, Exact, Unit, coordinate, value};
-use crate::drawing_texts::{BeyondText, OutsideText, StrokeText, UntouchedText};
+use crate::drawing_texts::{BeyondText, OutsideText, StrokeText, TurnsText, UntouchedText};
 use crate::font_texts::{
     EntryText, FoundText, SubrEntryText, encoded_name, form_words, has_two, says_last,
 };
@@ -267,9 +267,10 @@ impl fmt::Display for DrawingReasonText<'_, '_> {
                 let text = OutsideText(point, font_box);
                 write!(f, "{text}")
             }
-            Reason::Area { twentyfold } => {
+            Reason::Area { twentyfold, turns } => {
                 let area = Exact::new(twentyfold, Unit::Area);
-                write!(f, "the area is {area}")
+                let turns = TurnsText(turns);
+                write!(f, "the area is {area}; {turns}")
             }
             Reason::Stroke {
                 line_start,
@@ -300,8 +301,16 @@ impl fmt::Display for DrawingReasonText<'_, '_> {
                 };
                 write!(f, "{text}")
             }
-            Reason::Untouched { stem } => {
-                let text = UntouchedText(stem);
+            Reason::Untouched {
+                stem,
+                step,
+                nearest,
+            } => {
+                let text = UntouchedText {
+                    stem,
+                    step,
+                    nearest,
+                };
                 write!(f, "{text}")
             }
             _ => {

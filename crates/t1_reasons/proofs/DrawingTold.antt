@@ -1,5 +1,5 @@
 -- Which definition tells of which rule on the drawing.
-use Rattle.std.proofs.Common.{◌≡◌, ◌⊎◌, inl, inr, Option, List, refl, sym}
+use Rattle.std.proofs.Common.{◌≡◌, ◌⊎◌, inl, inr, Option, List, refl}
 use Rattle.t1_char.specs.Steps.{StepView}
 use Rattle.t1_drawing.specs.declared.font_box.FontBox.{FontBox}
 use Rattle.t1_drawing.specs.Drawings.{traced}

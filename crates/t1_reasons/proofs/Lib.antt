@@ -17,5 +17,7 @@ mod NamedWords
 mod PathStarts
 mod RemedyLaws
 mod ShortCharstrings
+mod StemsFound
+mod TurnsFound
 mod UnusedLaws
 mod Walking

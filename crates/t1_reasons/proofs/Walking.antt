@@ -39,7 +39,7 @@ use Rattle.t1_rules.specs.Book.{last_number_of_third}
 use Rattle.t1_rules.specs.StepRules.{StepRule, argument_rules, breaks, call_rules, charstring_rules, component_rules, counter_rules, flex_rules, othersubr_rules, path_rules, seac_rules, stem_rules, step_rules, triple_rules}
 use Rattle.t1_rules.proofs.Lemmas.StepRules.{number_between, numbers_between}
 use Rattle.t1_reasons.specs.declared.steps_before.StepsBefore.{StepsBefore}
-use Rattle.t1_reasons.specs.GlyphReasons.{IsAnswer, IsBegun, IsInHand, IsOfSameGlyph, IsWatched, is_step, limit_reason, next_reason, reason_among, reason_at, reason_at_place, steps_in, told_reason}
+use Rattle.t1_reasons.specs.GlyphReasons.{GoesTo, IsAnswer, IsBegun, IsInHand, IsOfSameGlyph, IsWatched, is_step, limit_reason, next_reason, reason_among, reason_at, reason_at_place, steps_in, told_reason}
 use Rattle.t1_reasons.specs.Standing.{StepsStandFor}
 
 pub few_steps : (m : MachineView) (n : ℕ) → length (take n (steps_in m)) < most_steps
@@ -428,3 +428,21 @@ both_kinds edition components box own other both before step n few is by_own by_
       and-false (has_latest_rules edition),
       or-false (breaks (step_rules edition) n before step),
     ) (sym (joined (step_rules edition) (component_rules components) n before step))
+
+-- ---- a second run
+
+-- The second run is at the step after so many.
+pub record IsOneOn (old new : MachineView) (seen : ℕ) : Type 0 where
+  pub same : IsOfSameGlyph old new
+  pub steps : steps_in new ≡ steps_in old
+  pub counted : new.counted ≡ seen + 1
+  pub place : new.counted - 1 ≡ seen
+
+pub one_on : (old here new : MachineView) (seen : ℕ) → IsOfSameGlyph old here → GoesTo here new (seen + 1) → seen < old.counted
+    → old.counted ≤ length (steps_in old) → IsOneOn old new seen
+one_on old here new seen same goes less few =
+    let both : IsOfSameGlyph old new = same_of_same old here new same goes.same in
+    let steps : steps_in here ≡ steps_in old = same_steps old here same in
+    let within : seen + 1 ≤ length (steps_in here) + 1 = rw steps (omega (arith, less, few)) in
+    let counted : new.counted ≡ seen + 1 = goes.counted within in
+    record { same = both; steps = same_steps old new both; counted = counted; place = omega (arith, counted) }

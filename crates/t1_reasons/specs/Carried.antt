@@ -1,5 +1,7 @@
 -- What is carried from step to step: each step changes it, given the steps before.
 use Rattle.std.specs.Prelude.{ℕ, ◌+◌, if◌then◌else◌, Bool, Option, Some, None, List, [], ◌∷◌, ◌++◌, length}
+use Rattle.std.specs.Bool.{then_some}
+use Rattle.std.specs.Option.{option_or}
 use Rattle.t1_char.specs.declared.token.CharToken.{CharToken}
 use Rattle.t1_char.specs.Since.{Test}
 use Rattle.t1_char.specs.Steps.{StepView}
@@ -17,6 +19,13 @@ last_on is_such last before step = if is_such before step then Some (length befo
 
 abbrev pub last_such : Test → List StepView → Option ℕ
 last_such is_such steps = carried_over (last_on is_such) None steps
+
+-- The number of the first such step, from 1; None where there is none.
+abbrev pub first_on : Test → Option ℕ → List StepView → StepView → Option ℕ
+first_on is_such first before step = option_or first (then_some (is_such before step) (length before + 1))
+
+abbrev pub first_such : Test → List StepView → Option ℕ
+first_such is_such steps = carried_over (first_on is_such) None steps
 
 -- The last step with a token of a kind, as it is told of with its number; None where there is none.
 abbrev pub last_told_on : {A : Type 0} → (CharToken → Bool) → (ℕ → StepView → A) → Option A → List StepView → StepView → Option A

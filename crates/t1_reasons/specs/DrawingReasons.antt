@@ -1,6 +1,6 @@
 -- Why a step breaks a rule on the drawing. Of rules on segments it is the first of the step's segments that breaks the rule, with what the rule
 -- compares; of the others what the rule speaks of.
-use Rattle.std.specs.Prelude.{ℕ, ℤ, pos, ◌*ℤ◌, ◌+ℤ◌, ◌&&◌, not, if◌then◌else◌, int_lt, Bool, true, false, Option, Some, None, find, option_and_then, option_map, List, [], ◌∷◌, ◌++◌}
+use Rattle.std.specs.Prelude.{ℕ, ℤ, ◌&&◌, if◌then◌else◌, Bool, false, Option, Some, None, find, option_map, List, [], ◌∷◌, ◌++◌}
 use Rattle.std.specs.Option.{option_or, unwrap_or}
 use Rattle.t1_char.specs.declared.edition.Edition.{Edition}
 use Rattle.t1_char.specs.Editions.{has_latest_rules}
@@ -12,12 +12,9 @@ use Rattle.t1_drawing.specs.declared.font_box.FontBox.{FontBox}
 use Rattle.t1_drawing.specs.declared.segments.TracedSegment.{TracedSegment}
 use Rattle.t1_drawing.specs.declared.touching.UntouchedStem.{UntouchedStem}
 use Rattle.t1_drawing.specs.Areas.{drawn_area}
-use Rattle.t1_drawing.specs.Curves.{at_half, at_quarter, is_beyond, is_flat_from}
+use Rattle.t1_drawing.specs.Curves.{at_half, at_quarter, is_beyond}
 use Rattle.t1_drawing.specs.Drawings.{traced}
 use Rattle.t1_drawing.specs.DrawingRules.{drawing_rules}
-use Rattle.t1_drawing.specs.FontBoxes.{is_outside}
-use Rattle.t1_drawing.specs.Lines.{has_no_length_from, leads_back, leads_on, two_lines}
-use Rattle.t1_drawing.specs.StemEdges.{are_adjacent, has_negative_width}
 use Rattle.t1_drawing.specs.Strokes.{segments_of}
 use Rattle.t1_drawing.specs.Touching.{coordinate, first_untouched}
 use Rattle.t1_outline.specs.declared.segment.Segment.{Segment}
@@ -31,11 +28,14 @@ use Rattle.t1_rules.specs.Book.{number_of}
 use Rattle.t1_rules.specs.StepRules.{breaks}
 use Rattle.t1_rules.specs.StepRules.Paths.{outer_move}
 use Rattle.t1_reasons.specs.declared.reason.Reason.{Reason}
-use Rattle.t1_reasons.specs.declared.reason.Reason.TheVariants.{Area, Beyond, Nothing, Outside, Since, Stem as StemAlone, Stems, Stroke, Untouched}
+use Rattle.t1_reasons.specs.declared.reason.Reason.TheVariants.{Area, Beyond, Nothing, Outside, Since, Stroke, Untouched}
 use Rattle.t1_reasons.specs.declared.step_reasons.PairFlaw.TheVariants.{SharedEdge}
 use Rattle.t1_reasons.specs.declared.step_reasons.StemFlaw.TheVariants.{Negative}
+use Rattle.t1_reasons.specs.declared.reason.SubpathTurns.{SubpathTurns}
 use Rattle.t1_reasons.specs.Carried.{last_such}
+use Rattle.t1_reasons.specs.StemSearches.{nearest_end, set_first}
 use Rattle.t1_reasons.specs.StepReasons.{is_flawed, is_flawed_pair, single_stems_at, stems_at}
+use Rattle.t1_reasons.specs.SubpathTurns.{turns_of}
 
 abbrev pub or_nothing : Option Reason → Reason
 or_nothing reason = unwrap_or reason Nothing
@@ -96,13 +96,16 @@ told_of_segments box rule segments = or_nothing (option_map (told_of_segment box
 
 -- ---- the end of a glyph
 
-abbrev pub area_of_drawing : Option ℤ → Reason
-area_of_drawing None = Nothing
-area_of_drawing (Some twentyfold) = Area twentyfold
+abbrev pub area_of_drawing : Option ℤ → SubpathTurns → Reason
+area_of_drawing None turns = Nothing
+area_of_drawing (Some twentyfold) turns = Area twentyfold turns
 
-abbrev pub stem_left : Option UntouchedStem → Reason
-stem_left None = Nothing
-stem_left (Some stem) = Untouched stem
+abbrev pub stem_told : UntouchedStem → Option ℕ → Option ℤ → Reason
+stem_told stem step nearest = Untouched stem (unwrap_or step 0) nearest
+
+abbrev pub stem_left : Option UntouchedStem → List StepView → Reason
+stem_left None steps = Nothing
+stem_left (Some stem) steps = stem_told stem (set_first stem steps) (nearest_end stem steps)
 
 -- ---- steps alone
 
@@ -116,8 +119,8 @@ told_of_steps _ before step = Nothing
 
 -- The end of a glyph draws nothing and sets no stem.
 abbrev pub told_on_drawing : Option FontBox → Rule → List StepView → StepView → Reason
-told_on_drawing box P05 before step = area_of_drawing (drawn_area (segments_of (before ++ step ∷ [])))
-told_on_drawing box H08 before step = stem_left (first_untouched (before ++ step ∷ []))
+told_on_drawing box P05 before step = area_of_drawing (drawn_area (segments_of (before ++ step ∷ []))) (turns_of (before ++ step ∷ []))
+told_on_drawing box H08 before step = stem_left (first_untouched (before ++ step ∷ [])) (before ++ step ∷ [])
 told_on_drawing box P11 before step = told_of_steps P11 before step
 told_on_drawing box H09 before step = told_of_steps H09 before step
 told_on_drawing box H10 before step = told_of_steps H10 before step

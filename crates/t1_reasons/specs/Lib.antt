@@ -15,6 +15,8 @@ pub mod PathStarts
 pub mod Remedies
 pub mod Reported
 pub mod Standing
+pub mod StemSearches
 pub mod StepReasons
+pub mod SubpathTurns
 pub mod TextReasons
 pub mod UnusedWaivers

@@ -1,2 +1,3 @@
 -- Words that private contracts alone cite.
 pub mod Executing
+pub mod Searching

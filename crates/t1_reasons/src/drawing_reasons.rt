@@ -1,12 +1,11 @@
 //! Reasons of the rules on the drawing: Type 1 Font Format 1.1, chapters 2, 3 and 5.
 
 ghost use Rattle.std.specs.Prelude.{◌≡◌, find};
-ghost use Rattle.t1_reasons.specs.DrawingReasons.{are_beyond, area_of_drawing, beyond_at, beyond_of, beyonds_along, breaks_rule, fault_of, first_beyond, or_nothing, outside_of, stem_left, told_of_segment, told_of_segments};
+ghost use Rattle.t1_reasons.specs.DrawingReasons.{are_beyond, area_of_drawing, beyond_at, beyond_of, beyonds_along, breaks_rule, fault_of, first_beyond, or_nothing, outside_of, told_of_segment, told_of_segments};
 
-use crate::reason::Reason;
+use crate::reason::{Reason, SubpathTurns};
 use t1_drawing::{
-    Direction, FontBox, SegmentFaults, TracedSegment, UntouchedStem, at_half, at_quarter, end_of,
-    is_beyond,
+    Direction, FontBox, SegmentFaults, TracedSegment, at_half, at_quarter, end_of, is_beyond,
 };
 use t1_outline::Segment;
 use t1_rules::{Point, Rule};
@@ -18,22 +17,12 @@ pub(crate) fn or_nothing(reason: Option<Reason>) -> Reason
     reason.unwrap_or(Reason::Nothing)
 }
 
-/// The area of a drawing, if it is asked for.
-pub(crate) fn area_of_drawing(area: Option<i128>) -> Reason
-    ensures { result ≡ area_of_drawing area }
+/// The area of a drawing, if it is asked for, and which of its subpaths run clockwise.
+pub(crate) fn area_of_drawing(area: Option<i128>, turns: SubpathTurns) -> Reason
+    ensures { result ≡ area_of_drawing area turns }
 {
     match area {
-        Some(twentyfold) => Reason::Area { twentyfold },
-        None => Reason::Nothing,
-    }
-}
-
-/// A stem that nothing touches, if there is one.
-pub(crate) fn stem_left(stem: Option<UntouchedStem>) -> Reason
-    ensures { result ≡ stem_left stem }
-{
-    match stem {
-        Some(stem) => Reason::Untouched { stem },
+        Some(twentyfold) => Reason::Area { twentyfold, turns },
         None => Reason::Nothing,
     }
 }

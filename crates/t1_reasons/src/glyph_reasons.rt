@@ -3,21 +3,27 @@
 ghost use Rattle.std.specs.Prelude.{◌≡◌, ◌<◌, ◌≤◌, ◌+◌, ◌-◌, true, false, length, take};
 ghost use Rattle.t1_char.specs.Editions.{has_latest_rules, limit_of};
 ghost use Rattle.t1_char.specs.StepValues.{step_view};
+ghost use Rattle.t1_drawing.specs.declared.touching.UntouchedStem.{UntouchedStem as Stems};
 ghost use Rattle.t1_drawing.specs.DrawingRules.{box_of};
-ghost use Rattle.t1_reasons.specs.DrawingReasons.{drawing_reason, told_on_drawing};
+ghost use Rattle.t1_drawing.specs.Touching.{first_untouched};
+ghost use Rattle.t1_reasons.specs.DrawingReasons.{drawing_reason, stem_left, told_on_drawing};
 ghost use Rattle.t1_reasons.specs.GlyphReasons.{GoesTo, IsInHand, IsOfSameGlyph, is_step, limit_reason, reason_at, steps_in};
+ghost use Rattle.t1_reasons.specs.Private.Searching.{StemSearched, TurnsSearched};
 ghost use Rattle.t1_reasons.specs.Standing.{StepsStandFor};
+ghost use Rattle.t1_reasons.specs.SubpathTurns.{turns_of};
 ghost use Rattle.t1_rules.specs.Book.{last_number_of_third, number_of};
 ghost use Rattle.t1_rules.specs.Components.{AreOf};
 ghost use Rattle.t1_rules.specs.Private.Standing.{WatchesStandFor};
 
 use crate::charstring_reasons::told_of_step;
-use crate::drawing_reasons::{area_of_drawing, stem_left, told_of_segments};
-use crate::reason::Reason;
+use crate::drawing_reasons::{area_of_drawing, told_of_segments};
+use crate::reason::{Reason, SubpathTurns};
+use crate::stem_search::StemSearch;
 use crate::steps_before::StepsBefore;
+use crate::subpath_turns::TurnSearch;
 use std::marker::Model;
 use t1_char::{Answer, Edition, Machine, Numbers, Step};
-use t1_drawing::{DrawingWatcher, FontBox, TracedSegments};
+use t1_drawing::{DrawingWatcher, FontBox, TracedSegments, UntouchedStem};
 use t1_font::Font;
 use t1_rules::{Mask, Rule, Sidebearings, Watch, Watches};
 
@@ -25,7 +31,7 @@ use t1_rules::{Mask, Rule, Sidebearings, Watch, Watches};
 const LAST_OF_THIRD: u8 = 93;
 
 /// The reasons of a glyph's faults. It executes the glyph once where it is asked in the order of the steps, and once more where it is
-/// asked for an earlier step. It takes no memory and can't fail.
+/// asked for an earlier step, or for P05 or H08 where they are broken. It takes no memory and can't fail.
 #[derive(Drop)]
 pub struct GlyphReasons<'a> {
     font: &'a Font<'a>,
@@ -152,11 +158,85 @@ impl<'a> GlyphReasons<'a> {
         ensures { result ≡ told_on_drawing (box_of self.now.font) rule (take (self.now.counted - 1) (steps_in self.now)) self.now.step.step }
     {
         match rule {
-            Rule::P05 => area_of_drawing(self.drawing.area()),
-            Rule::H08 => stem_left(self.drawing.untouched()),
+            Rule::P05 => area_of_drawing(self.drawing.area(), self.search_turns()),
+            Rule::H08 => self.stem_left(),
             Rule::P11 | Rule::H09 | Rule::H10 => self.before.told_of(rule, step),
             _ => told_of_segments(FontBox::of_font(self.font), rule, self.segments.as_slice()),
         }
+    }
+
+    /// A stem that nothing touches, if there is one.
+    fn stem_left(&self) -> Reason
+        requires latest { has_latest_rules self.now.edition ≡ true }
+        requires few { self.now.counted ≤ length (steps_in self.now) }
+        ensures { result ≡ stem_left (first_untouched (take self.now.counted (steps_in self.now))) (take self.now.counted (steps_in self.now)) }
+    {
+        match self.drawing.untouched() {
+            Some(stem) => self.search_stem(stem).told(),
+            None => Reason::Nothing,
+        }
+    }
+
+    /// Looks for the subpaths that run clockwise: it executes the glyph once more, up to the step in hand.
+    #[inline(never)]
+    fn search_turns(&self) -> SubpathTurns
+        requires latest { has_latest_rules self.now.edition ≡ true }
+        requires few { self.now.counted ≤ length (steps_in self.now) }
+        ensures { result ≡ turns_of (take self.now.counted (steps_in self.now)) }
+    {
+        let mut run = GlyphReasons::start(self.font, self.glyph, self.edition);
+        let mut search = TurnSearch::start();
+        for seen in 0..self.machine.counted() {
+            run.go_to(seen + 1);
+            run.show_turn(&mut search);
+        }
+        search.turns()
+    }
+
+    /// Shows the step in hand to a search for the subpaths that run clockwise.
+    fn show_turn(&self, search: &mut TurnSearch)
+        requires latest { has_latest_rules self.now.edition ≡ true }
+        requires some { 0 < self.now.counted }
+        requires few { self.now.counted ≤ length (steps_in self.now) }
+        requires seen { TurnsSearched search.old (take (self.now.counted - 1) (steps_in self.now)) }
+        ensures { TurnsSearched search.new (take self.now.counted (steps_in self.now)) }
+    {
+        search.see(
+            self.machine.counted(),
+            self.segments.as_slice(),
+            self.drawing.area(),
+        );
+    }
+
+    /// Looks for the step that sets a stem, and for what is drawn nearest to it: it executes the glyph once more, up to the step in hand.
+    #[inline(never)]
+    fn search_stem(&self, stem: UntouchedStem) -> StemSearch
+        requires latest { has_latest_rules self.now.edition ≡ true }
+        requires few { self.now.counted ≤ length (steps_in self.now) }
+        ensures { StemSearched stem result (take self.now.counted (steps_in self.now)) }
+    {
+        let mut run = GlyphReasons::start(self.font, self.glyph, self.edition);
+        let mut search = StemSearch::start(stem);
+        for seen in 0..self.machine.counted() {
+            run.go_to(seen + 1);
+            run.show_stem(&mut search);
+        }
+        search
+    }
+
+    /// Shows the step in hand to a search for a stem.
+    fn show_stem(&self, search: &mut StemSearch)
+        requires latest { has_latest_rules self.now.edition ≡ true }
+        requires some { 0 < self.now.counted }
+        requires few { self.now.counted ≤ length (steps_in self.now) }
+        ensures { (stem : Stems) → StemSearched stem search.old (take (self.now.counted - 1) (steps_in self.now)) →
+            StemSearched stem search.new (take self.now.counted (steps_in self.now)) }
+    {
+        search.see(
+            self.machine.counted(),
+            self.machine.current(),
+            self.segments.as_slice(),
+        );
     }
 
     /// Goes back before the first step.

@@ -40,8 +40,10 @@ mod laws;
 mod reason;
 mod remedies;
 mod reported;
+mod stem_search;
 mod step_reasons;
 mod steps_before;
+mod subpath_turns;
 mod text_laws;
 mod text_reasons;
 mod waivers;
@@ -58,7 +60,7 @@ pub use laws::{
     scale_does_for_all, scales_do, steps_break_where_there_is_a_reason, told_steps_are_the_last,
     waivers_are_unused_for_a_reason,
 };
-pub use reason::{EntryKind, FontText, Found, Reason, SetStem};
+pub use reason::{EntryKind, FontText, Found, Reason, SetStem, SubpathTurns};
 pub use remedies::{fuzz_across, fuzz_that_does, scale_that_does};
 pub use reported::ReportReasons;
 pub use text_laws::{lines_are_counted, named_words_are_the_first};

@@ -219,9 +219,10 @@ pub enum Reason {
         point: Point,
         font_box: FontBox,
     },
-    /// Twenty times the signed area of the drawing, in squares of 1/65536: P05.
+    /// Twenty times the signed area of the drawing, in squares of 1/65536, and which of its subpaths run clockwise: P05.
     Area {
         twentyfold: i128,
+        turns: SubpathTurns,
     },
     /// A line or a curve, where it begins, and where the line right before it begins, if there is one: P06 to P09.
     Stroke {
@@ -238,9 +239,12 @@ pub enum Reason {
         start: i64,
         end: i64,
     },
-    /// A stem that nothing touches: H08.
+    /// A stem that nothing touches, the first step that sets it, and the coordinate of the end of a line or a curve after that step that is
+    /// nearest to one of its edges, if there is one: H08.
     Untouched {
         stem: UntouchedStem,
+        step: u32,
+        nearest: Option<i64>,
     },
     /// Why a waiver isn't used: U01.
     Waiver {
@@ -289,6 +293,14 @@ pub enum FontText {
 pub struct SetStem {
     pub stem: Stem,
     pub step: u32,
+}
+
+/// How many subpaths a drawing has, how many of them run clockwise, and the step that begins the first of these; 0 where there is none.
+#[derive(Clone, Copy, Debug, PartialEq, Eq)]
+pub struct SubpathTurns {
+    pub subpaths: u32,
+    pub clockwise: u32,
+    pub first: u32,
 }
 
 /// What an entry of a dictionary is.

@@ -58,7 +58,7 @@ const ROWS: &[Row] = &[
         "100 100 rmoveto 100 vlineto 100 hlineto -100 vlineto closepath endchar",
         14,
         Rule::P05,
-        Some("the area is -10000"),
+        Some("the area is -10000; 1 of 1 subpath is clockwise, from step 6"),
     ),
     // Half a unit by half a unit, the other way round: a quarter.
     (
@@ -66,7 +66,45 @@ const ROWS: &[Row] = &[
         "100 100 rmoveto 1 2 div vlineto 1 2 div hlineto -1 2 div vlineto closepath endchar",
         20,
         Rule::P05,
-        Some("the area is -0.25"),
+        Some("the area is -0.25; 1 of 1 subpath is clockwise, from step 6"),
+    ),
+    // Two squares: the small one runs anticlockwise, and then clockwise as well.
+    (
+        "",
+        "100 100 rmoveto 10 hlineto 10 vlineto -10 hlineto closepath \
+         100 90 rmoveto 100 vlineto 100 hlineto -100 vlineto closepath endchar",
+        24,
+        Rule::P05,
+        Some("the area is -9900; 1 of 2 subpaths is clockwise, from step 16"),
+    ),
+    (
+        "",
+        "100 100 rmoveto 10 vlineto 10 hlineto -10 vlineto closepath \
+         90 100 rmoveto 100 vlineto 100 hlineto -100 vlineto closepath endchar",
+        24,
+        Rule::P05,
+        Some("the area is -10100; 2 of 2 subpaths are clockwise, the first from step 6"),
+    ),
+    // The clockwise one comes first, and the last move draws nothing else.
+    (
+        "",
+        "100 100 rmoveto 100 vlineto 100 hlineto -100 vlineto closepath \
+         100 hmoveto 10 hlineto 10 vlineto -10 hlineto closepath 50 hmoveto endchar",
+        25,
+        Rule::P05,
+        Some("the area is -9900; 1 of 3 subpaths is clockwise, from step 6"),
+    ),
+    // A flex begins a subpath where there is none: half of 100 by 100, and 150 between its curves and their chord.
+    (
+        "",
+        "100 190 rmoveto 10 hlineto 10 vlineto -10 hlineto closepath \
+         0 1 callothersubr 50 3 rmoveto 0 2 callothersubr -30 -3 rmoveto 0 2 callothersubr \
+         10 3 rmoveto 0 2 callothersubr 20 0 rmoveto 0 2 callothersubr 20 0 rmoveto 0 2 callothersubr \
+         10 -3 rmoveto 0 2 callothersubr 20 0 rmoveto 0 2 callothersubr \
+         50 200 200 3 0 callothersubr pop pop setcurrentpoint -100 vlineto closepath endchar",
+        71,
+        Rule::P05,
+        Some("the area is -5050; 1 of 2 subpaths is clockwise, from step 64"),
     ),
     ("", SQUARE, 14, Rule::P05, None),
     (
@@ -116,21 +154,92 @@ const ROWS: &[Row] = &[
         SQUARE,
         17,
         Rule::H08,
-        Some("the stem from 300 to 320 in y"),
+        Some("the stem from 300 to 320 in y, set at step 6; the nearest point is at y 200"),
     ),
     (
         "300 20 hstem 400 -20 vstem ",
         SQUARE,
         20,
         Rule::H08,
-        Some("the stem from 300 to 320 in y, and 1 more"),
+        Some(
+            "the stem from 300 to 320 in y, set at step 6, and 1 more; the nearest point is at y 200",
+        ),
     ),
     (
         "400 -20 vstem ",
         SQUARE,
         17,
         Rule::H08,
-        Some("the stem from 380 to 400 in x"),
+        Some("the stem from 380 to 400 in x, set at step 6; the nearest point is at x 200"),
+    ),
+    // Another stem is set before it, or it is set twice.
+    (
+        "90 200 hstem 300 20 hstem ",
+        SQUARE,
+        20,
+        Rule::H08,
+        Some("the stem from 300 to 320 in y, set at step 9; the nearest point is at y 200"),
+    ),
+    (
+        "300 20 hstem 320 -20 hstem ",
+        SQUARE,
+        20,
+        Rule::H08,
+        Some("the stem from 300 to 320 in y, set at step 6; the nearest point is at y 200"),
+    ),
+    // One of three.
+    (
+        "90 10 190 10 300 20 hstem3 ",
+        SQUARE,
+        21,
+        Rule::H08,
+        Some("the stem from 300 to 320 in y, set at step 10; the nearest point is at y 200"),
+    ),
+    // Both edges count, and of two ends that are equally near the first.
+    (
+        "40 300 hstem ",
+        SQUARE,
+        17,
+        Rule::H08,
+        Some("the stem from 40 to 340 in y, set at step 6; the nearest point is at y 100"),
+    ),
+    (
+        "0 300 hstem ",
+        SQUARE,
+        17,
+        Rule::H08,
+        Some("the stem from 0 to 300 in y, set at step 6; the nearest point is at y 100"),
+    ),
+    // Edges count from the sidebearing that was set last.
+    (
+        "50 500 hsbw 400 20 vstem ",
+        SQUARE,
+        20,
+        Rule::H08,
+        Some("the stem from 450 to 470 in x, set at step 9; the nearest point is at x 250"),
+    ),
+    // It is set after all that is drawn.
+    (
+        "",
+        "100 100 rmoveto 100 hlineto 100 vlineto -100 hlineto closepath 100 100 hstem endchar",
+        17,
+        Rule::H08,
+        Some("the stem from 100 to 200 in y, set at step 16; nothing is drawn after it"),
+    ),
+    // A hint replacement sets it. What is drawn at 300 before doesn't count.
+    (
+        "90 200 hstem 5 1 3 callothersubr pop callsubr ",
+        SQUARE,
+        27,
+        Rule::H08,
+        Some("the stem from 300 to 320 in y, set at step 15; the nearest point is at y 200"),
+    ),
+    (
+        "",
+        "100 300 rmoveto 100 hlineto -100 vlineto 5 1 3 callothersubr pop callsubr -100 hlineto closepath endchar",
+        24,
+        Rule::H08,
+        Some("the stem from 300 to 320 in y, set at step 19; the nearest point is at y 200"),
     ),
     ("90 200 hstem ", SQUARE, 17, Rule::H08, None),
     (
@@ -158,12 +267,13 @@ const ROWS: &[Row] = &[
     ("200 -20 hstem ", SQUARE, 6, Rule::H10, None),
 ];
 
-/// The glyph T of a row has its reason in the fourth edition alone.
+/// The glyph T of a row has its reason in the fourth edition alone. Subr 5 sets a stem, from 300 to 320.
 fn assert_row(rt: &impl Abort, alloc: Global, row: &Row) -> Result<(), Fail> {
     let (stems, drawn, step, rule, want) = *row;
     let words = format!(in alloc; "0 500 hsbw {stems}{drawn}")?;
     let sample = Sample::new(alloc)?
         .encoding(b"/Encoding StandardEncoding def /FontBBox {0 0 1000 1000} def\n")?
+        .subr(5, assembled(alloc, "300 20 hstem return")?.as_slice())?
         .glyph(b"T", assembled(alloc, words.as_str())?.as_slice())?;
     let third = step_text(alloc, &sample, step, rule, Edition::Three)?;
     assert!(rt; third.is_none(), "{words} by edition 3");

@@ -1,4 +1,4 @@
-use Rattle.std.proofs.Common.{◌≡◌, ◌-◌, ◌<◌, ◌≤◌, ◌&&◌, if◌then◌else◌, None, Some, true, ap, length, refl, subst, sym, take, ◌∙◌}
+use Rattle.std.proofs.Common.{◌≡◌, ◌-◌, ◌<◌, ◌≤◌, ◌&&◌, if◌then◌else◌, None, Some, true, ap, length, subst, sym, take, ◌∙◌}
 use Rattle.t1_char.specs.Turns.{MachineView}
 use Rattle.t1_char.specs.Editions.{has_latest_rules}
 use Rattle.t1_drawing.specs.DrawingRules.{box_of, drawing_rules}
