@@ -33,7 +33,7 @@ use Rattle.t1_rules.specs.StepRules.Calls.{calls_by_number, calls_missing, calls
 use Rattle.t1_rules.specs.StepRules.Flex.{counts_no_pairs, current_point, end_point, ends_elsewhere, flex_moves, flex_points, is_elsewhere}
 use Rattle.t1_rules.specs.StepRules.Paths.{clearing_step, in_flex}
 use Rattle.t1_rules.specs.StepRules.Seac.{accent, accent_sidebearing, differs_in_sidebearing, has_no_code as no_code, has_unnamed_code, is_another, is_lacking, is_without_sidebearing}
-use Rattle.t1_rules.specs.StepRules.Stems.{is_stem, is_triple, sets_unequal, sets_without_width, hint_set, lies_across, one_overlaps, is_replaced, is_replaced_and_popped, overlap_by, sets_overlapping, stands_upright, stems_meet, stems_of, two_overlap}
+use Rattle.t1_rules.specs.StepRules.Stems.{is_stem, is_triple, sets_unequal, sets_without_width, hint_set, lies_across, one_overlaps, is_replaced, is_replaced_and_popped, sets_overlapping, stands_upright, stems_meet, stems_of, two_overlap}
 use Rattle.t1_rules.specs.StepRules.Counters.{is_counting, leaves_numbers}
 use Rattle.t1_rules.specs.StepRules.Tokens.{clears, is_command, is_pop, is_unknown, sets_width}
 use Rattle.t1_rules.specs.StepRules.Triples.{changes_by, differs_from, has_same_edges, is_hstem3, is_vstem3, last_triple, sets_another, sets_thin, triple_of}
@@ -47,9 +47,10 @@ use Rattle.t1_reasons.specs.Backgrounds.{background_of, set_three}
 use Rattle.t1_reasons.specs.Carried.{last_told}
 use Rattle.t1_reasons.specs.HintSets.{set_at, stems_set}
 use Rattle.t1_reasons.specs.Laws.{OthersCompareNumbers, ReasonsAreAgainstTheirRules, StepsBreakWhereThereIsAReason}
+use Rattle.t1_reasons.specs.declared.step_reasons.PairFlaw.{PairFlaw}
 use Rattle.t1_reasons.specs.declared.step_reasons.PairFlaw.TheVariants.{Overlap}
 use Rattle.t1_reasons.specs.declared.step_reasons.StemFlaw.TheVariants.{NoWidth, Thin}
-use Rattle.t1_reasons.specs.StepReasons.{beside_last, beside_last_of, counters_at, have_other_edges, is_flawed, is_flawed_pair, leaves_some, threes_at, additions_at, are_no_pairs, brings, is_full, pairs_at, arguments_in, beside, calls_at, codes_at, has_no_code, has_no_name, is_by_zero, is_outermost, is_past_quotient, is_too_deep, is_unknown_othersubr, is_unknown_token, known_calls_at, quotients_at, returns_at, count_of, counts_in, first_in_row, has_fewer, has_more, is_any, is_bad_count, is_lacking_subr, is_miscounted, is_miss, is_past_range, is_told_otherwise, is_uneven, misses_at, only_where, othersubrs_at, own_stems, pairs, pairs_with, placed_from, placed_of, row_of, sidebearings_at, single_stems_at, stems_at, step_reason, subrs_at, told_at, told_by, told_row, takes, triples_at, wants_in, with_own, call_of, clears_without_width, goes_on_in_flex, has_component, is_no_call, is_no_pop}
+use Rattle.t1_reasons.specs.StepReasons.{have_flaw, beside_last, beside_last_of, counters_at, have_other_edges, is_flawed, is_flawed_pair, leaves_some, threes_at, additions_at, are_no_pairs, brings, is_full, pairs_at, arguments_in, beside, calls_at, codes_at, has_no_code, has_no_name, is_by_zero, is_outermost, is_past_quotient, is_too_deep, is_unknown_othersubr, is_unknown_token, known_calls_at, quotients_at, returns_at, count_of, counts_in, first_in_row, has_fewer, has_more, is_any, is_bad_count, is_lacking_subr, is_miscounted, is_miss, is_past_range, is_told_otherwise, is_uneven, misses_at, only_where, othersubrs_at, own_stems, pairs, pairs_with, placed_from, placed_of, row_of, sidebearings_at, single_stems_at, stems_at, step_reason, subrs_at, told_at, told_by, told_row, takes, triples_at, wants_in, with_own, call_of, clears_without_width, goes_on_in_flex, has_component, is_no_call, is_no_pop}
 use Rattle.t1_reasons.proofs.Hints.{plain, plain_hints, plain_set}
 use Rattle.t1_reasons.proofs.LastCommands.{last_three_is}
 
@@ -107,7 +108,7 @@ past_argument (Command command) stack = go (arguments_of command)
 past_argument _ stack = refl
 
 -- One of the stems that a step sets is such.
-one_stem : (p : Reason → Bool) (stems : List Stem) → list_any (λ s. p (StemAlone s)) stems ≡ is_some (find p (map (λ s. StemAlone s) stems))
+pub one_stem : (p : Reason → Bool) (stems : List Stem) → list_any (λ s. p (StemAlone s)) stems ≡ is_some (find p (map (λ s. StemAlone s) stems))
 one_stem p [] = refl
 one_stem p (s ∷ ss) =
     sym (such_in_both p (StemAlone s ∷ []) (map (λ s. StemAlone s) ss) ∙ rw (one_such p (StemAlone s), ← one_stem p ss) refl)
@@ -270,48 +271,48 @@ told_otherwise components step = go (is_seac step.token) (accent components step
     go true (Some own) = sym (one_such is_told_otherwise (Sidebearings (accent_sidebearing step) own))
     go false own = refl
 
-beside_one : (edition : Edition) (own : Stem) (others : List SetStem)
-    → is_some (find (is_flawed_pair (Overlap edition)) (beside own others)) ≡ list_any (overlap_by edition own) (plain others)
-beside_one edition own [] = refl
-beside_one edition own (other ∷ others) =
-    such_in_both (is_flawed_pair (Overlap edition)) (Stems own other ∷ []) (beside own others)
-    ∙ rw (one_such (is_flawed_pair (Overlap edition)) (Stems own other), beside_one edition own others) refl
+beside_one : (flaw : PairFlaw) (own : Stem) (others : List SetStem)
+    → is_some (find (is_flawed_pair flaw) (beside own others)) ≡ list_any (have_flaw flaw own) (plain others)
+beside_one flaw own [] = refl
+beside_one flaw own (other ∷ others) =
+    such_in_both (is_flawed_pair flaw) (Stems own other ∷ []) (beside own others)
+    ∙ rw (one_such (is_flawed_pair flaw) (Stems own other), beside_one flaw own others) refl
 
-beside_all : (edition : Edition) (stems kept : List SetStem)
-    → is_some (find (is_flawed_pair (Overlap edition)) (flat_map (λ own. beside own.stem kept) stems)) ≡ one_overlaps (overlap_by edition) (plain stems) (plain kept)
-beside_all edition [] kept = refl
-beside_all edition (own ∷ stems) kept =
-    such_in_both (is_flawed_pair (Overlap edition)) (beside own.stem kept) (flat_map (λ s. beside s.stem kept) stems)
-    ∙ rw (beside_one edition own.stem kept, beside_all edition stems kept) refl
+beside_all : (flaw : PairFlaw) (stems kept : List SetStem)
+    → is_some (find (is_flawed_pair flaw) (flat_map (λ own. beside own.stem kept) stems)) ≡ one_overlaps (have_flaw flaw) (plain stems) (plain kept)
+beside_all flaw [] kept = refl
+beside_all flaw (own ∷ stems) kept =
+    such_in_both (is_flawed_pair flaw) (beside own.stem kept) (flat_map (λ s. beside s.stem kept) stems)
+    ∙ rw (beside_one flaw own.stem kept, beside_all flaw stems kept) refl
 
-in_pairs : (edition : Edition) (stems : List SetStem) → is_some (find (is_flawed_pair (Overlap edition)) (pairs stems)) ≡ two_overlap (overlap_by edition) (plain stems)
-in_pairs edition [] = refl
-in_pairs edition (own ∷ stems) =
-    such_in_both (is_flawed_pair (Overlap edition)) (beside own.stem stems) (pairs stems)
-    ∙ rw (beside_one edition own.stem stems, in_pairs edition stems) refl
+in_pairs : (flaw : PairFlaw) (stems : List SetStem) → is_some (find (is_flawed_pair flaw) (pairs stems)) ≡ two_overlap (have_flaw flaw) (plain stems)
+in_pairs flaw [] = refl
+in_pairs flaw (own ∷ stems) =
+    such_in_both (is_flawed_pair flaw) (beside own.stem stems) (pairs stems)
+    ∙ rw (beside_one flaw own.stem stems, in_pairs flaw stems) refl
 
-meet : (edition : Edition) (stems kept : List SetStem)
-    → is_some (find (is_flawed_pair (Overlap edition)) (pairs_with stems kept)) ≡ stems_meet (overlap_by edition) (plain stems) (plain kept)
-meet edition stems kept =
-    such_in_both (is_flawed_pair (Overlap edition)) (flat_map (λ own. beside own.stem kept) stems) (pairs stems)
-    ∙ rw (beside_all edition stems kept, in_pairs edition stems) refl
+meet : (flaw : PairFlaw) (stems kept : List SetStem)
+    → is_some (find (is_flawed_pair flaw) (pairs_with stems kept)) ≡ stems_meet (have_flaw flaw) (plain stems) (plain kept)
+meet flaw stems kept =
+    such_in_both (is_flawed_pair flaw) (flat_map (λ own. beside own.stem kept) stems) (pairs stems)
+    ∙ rw (beside_all flaw stems kept, in_pairs flaw stems) refl
 
 apart : (token : CharToken) → is_command lies_across token ≡ true → is_command stands_upright token ≡ false
 apart (Command Vstem) e = let no : false ≡ true = e in cc
 apart (Command Vstem3) e = let no : false ≡ true = e in cc
 apart _ e = refl
 
-overlapping : (edition : Edition) (before : List StepView) (step : StepView)
-    → sets_overlapping (overlap_by edition) before step ≡ is_some (find (is_flawed_pair (Overlap edition)) (stems_at before step))
-overlapping edition before step = go (is_command lies_across step.token) (is_command stands_upright step.token) (apart step.token)
+pub flawed_pairs : (flaw : PairFlaw) (before : List StepView) (step : StepView)
+    → sets_overlapping (have_flaw flaw) before step ≡ is_some (find (is_flawed_pair flaw) (stems_at before step))
+flawed_pairs flaw before step = go (is_command lies_across step.token) (is_command stands_upright step.token) (apart step.token)
   where
     along : (Commands → Bool) → Bool
-    along direction = stems_meet (overlap_by edition) (stems_of step) (hint_set direction before)
+    along direction = stems_meet (have_flaw flaw) (stems_of step) (hint_set direction before)
 
     met : (direction : Commands → Bool)
-        → is_some (find (is_flawed_pair (Overlap edition)) (pairs_with (own_stems before step) (stems_set direction before))) ≡ along direction
+        → is_some (find (is_flawed_pair flaw) (pairs_with (own_stems before step) (stems_set direction before))) ≡ along direction
     met direction =
-        meet edition (own_stems before step) (stems_set direction before)
+        meet flaw (own_stems before step) (stems_set direction before)
         ∙ rw (plain_set (length before + 1) (stems_of step), plain_hints direction before) refl
 
     last : (b : Bool) → (b || false) ≡ b
@@ -320,7 +321,7 @@ overlapping edition before step = go (is_command lies_across step.token) (is_com
 
     go : (across upright : Bool) → (across ≡ true → upright ≡ false) →
         ((across && along lies_across) || (upright && along stands_upright))
-        ≡ is_some (find (is_flawed_pair (Overlap edition))
+        ≡ is_some (find (is_flawed_pair flaw)
         (if across then pairs_with (own_stems before step) (stems_set lies_across before)
         else (if upright then pairs_with (own_stems before step) (stems_set stands_upright before) else [])))
     go true true e = let no : true ≡ false = e refl in cc
@@ -490,7 +491,7 @@ broken_where_reason edition components S02 before step =
 broken_where_reason edition components S03 before step =
     row_decides 37 (charstring_rules edition components) 11 _ refl refl refl refl before step ∙ returned step
 broken_where_reason edition components H02 before step =
-    row_decides 47 (charstring_rules edition components) 21 _ refl refl refl refl before step ∙ overlapping edition before step
+    row_decides 47 (charstring_rules edition components) 21 _ refl refl refl refl before step ∙ flawed_pairs (Overlap edition) before step
 broken_where_reason edition components H03 before step =
     row_decides 48 (charstring_rules edition components) 22 _ refl refl refl refl before step ∙ widthless step
 broken_where_reason edition components H04 before step =

@@ -1,4 +1,5 @@
 mod Backgrounds
+mod DrawingLaws
 mod DrawingTold
 mod EachStep
 mod Endings
@@ -14,6 +15,7 @@ mod LinesCounted
 pub mod NamedStems
 mod NamedSteps
 mod NamedWords
+mod NearestEnds
 mod PathStarts
 mod RemedyLaws
 mod ShortCharstrings

@@ -1,6 +1,7 @@
 pub mod Backgrounds
 pub mod Carried
 pub mod CharstringReasons
+pub mod DrawingLaws
 pub mod DrawingReasons
 pub mod FaultReasons
 pub mod FontReasons

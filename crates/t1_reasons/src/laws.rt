@@ -1,6 +1,7 @@
 //! Laws of reasons, each on a call that does nothing.
 
 ghost use Rattle.t1_reasons.specs.CharstringReasons.{EndsAreFollowedAsTold};
+ghost use Rattle.t1_reasons.specs.DrawingLaws.{DrawingReasonsAreAgainstTheirRules, NearestEndsAreNearest};
 ghost use Rattle.t1_reasons.specs.FaultReasons.{FaultsHaveReasons, ReportedPlacesHaveReasons};
 ghost use Rattle.t1_reasons.specs.GlyphReasons.{ShortCharstringsAreShorter};
 ghost use Rattle.t1_reasons.specs.NamedStems.{NamedStemsAreSet};
@@ -22,6 +23,13 @@ pub fn steps_break_where_there_is_a_reason()
 pub fn reasons_are_against_their_rules()
     ensures against { ReasonsAreAgainstTheirRules }
     ensures others { OthersCompareNumbers }
+{}
+
+/// A reason of a rule on the drawing is against the rule by its own numbers. The end that H08 names is the nearest of what is drawn after the stem
+/// was set.
+pub fn drawing_reasons_are_against_their_rules()
+    ensures against { DrawingReasonsAreAgainstTheirRules }
+    ensures nearest { NearestEndsAreNearest }
 {}
 
 /// A font breaks a rule exactly where it has a reason.

@@ -51,11 +51,11 @@ mod waivers;
 pub use font_reasons::font_reason;
 pub use glyph_reasons::GlyphReasons;
 pub use laws::{
-    ends_are_followed_as_told, faults_have_reasons, font_reasons_are_against_their_rules,
-    fonts_break_where_there_is_a_reason, fuzz_does_for_all, fuzz_does_for_both,
-    hint_sets_are_those_of_the_book, last_steps_are_the_books, last_three_stems_are_the_books,
-    named_stems_are_set, named_steps_are_of_their_kinds, numbers_do,
-    paths_begin_where_the_pen_was_left, paths_end_where_the_pen_was_left,
+    drawing_reasons_are_against_their_rules, ends_are_followed_as_told, faults_have_reasons,
+    font_reasons_are_against_their_rules, fonts_break_where_there_is_a_reason, fuzz_does_for_all,
+    fuzz_does_for_both, hint_sets_are_those_of_the_book, last_steps_are_the_books,
+    last_three_stems_are_the_books, named_stems_are_set, named_steps_are_of_their_kinds,
+    numbers_do, paths_begin_where_the_pen_was_left, paths_end_where_the_pen_was_left,
     reasons_are_against_their_rules, reported_faults_have_reasons, reported_places_have_reasons,
     scale_does_for_all, scales_do, steps_break_where_there_is_a_reason, told_steps_are_the_last,
     waivers_are_unused_for_a_reason,
