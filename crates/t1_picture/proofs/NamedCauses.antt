@@ -95,7 +95,7 @@ module _ (place : StemPlace) (rule : Rule) where
   named (Stroke line_start start segment) cause some = stroke_named line_start start segment cause some
   named (Beyond direction quarters number from to) cause some =
       subst (IsNamed place rule (Beyond direction quarters number from to)) (one_is (BeyondEnds direction number) cause some) refl
-  named (Untouched stem) cause some = subst (IsNamed place rule (Untouched stem)) (one_is (untouched_stem place.start stem) cause some) refl
+  named (Untouched stem step nearest) cause some = subst (IsNamed place rule (Untouched stem step nearest)) (one_is (untouched_stem place.start stem) cause some) refl
   named _ cause some = none_in cause some
 
   stem_marked : (reason : Reason) (role : Role) (stem : Stem) (cause : Cause) → NamesStem reason role stem → Contains (stems role stem) cause
@@ -128,7 +128,7 @@ module _ (place : StemPlace) (rule : Rule) where
   coordinate_marked _ cause is = absurd is
 
   untouched_marked : (reason : Reason) (named : NamedStem) → NamesUntouched place.start reason named → Contains (causes_in place rule reason) (LeftAlone named)
-  untouched_marked (Untouched stem) named is = alone (untouched_stem place.start stem) (LeftAlone named) (sym is)
+  untouched_marked (Untouched stem step nearest) named is = alone (untouched_stem place.start stem) (LeftAlone named) (sym is)
   untouched_marked _ named is = absurd is
 
   base_marked : (reason : Reason) → means_components rule ≡ true → NamesCodes reason → Contains (causes_in place rule reason) Base

@@ -139,7 +139,7 @@ causes_in place rule (Zones own other distance) = Zone other ∷ []
 causes_in place rule (Outside point box) = OutsideBox point box ∷ []
 causes_in place rule (Stroke line_start start segment) = option_to_list (stroke_of rule line_start start segment)
 causes_in place rule (Beyond direction quarters number from to) = BeyondEnds direction number ∷ []
-causes_in place rule (Untouched stem) = untouched_stem place.start stem ∷ []
+causes_in place rule (Untouched stem step nearest) = untouched_stem place.start stem ∷ []
 causes_in place rule _ = []
 
 abbrev pub causes_of_reason : StemPlace → Rule → Option Reason → List Cause

@@ -44,7 +44,7 @@ NamesCoordinate _ cause = ⊥
 
 -- A stem that nothing touches.
 abbrev pub NamesUntouched : Point → Reason → NamedStem → Type 0
-NamesUntouched start (Untouched stem) named = LeftAlone named ≡ untouched_stem start stem
+NamesUntouched start (Untouched stem step nearest) named = LeftAlone named ≡ untouched_stem start stem
 NamesUntouched start _ named = ⊥
 
 -- The codes of both components, and the accent's sidebearing.

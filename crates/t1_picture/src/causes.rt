@@ -183,7 +183,10 @@ fn add_causes_in(
             place: number,
             ..
         } => add_cause(causes, Some(Cause::Beyond { direction, number })),
-        Reason::Untouched { stem } => add_cause(causes, Some(untouched_stem(place.start, stem))),
+        Reason::Untouched { stem, .. } => add_cause(
+            causes,
+            Some(untouched_stem(place.start, stem)),
+        ),
         _ => Ok(()),
     }
 }
