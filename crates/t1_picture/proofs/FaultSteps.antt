@@ -20,9 +20,10 @@ use Rattle.t1_picture.specs.Drawings.{all_steps, own_part}
 use Rattle.t1_picture.specs.Parts.{start_of}
 use Rattle.t1_picture.specs.Private.FaultViews.{AreThose, IsRunFor, counted}
 use Rattle.t1_picture.specs.Private.MarkViews.{IsMarked, done_with, last_with}
-use Rattle.t1_picture.specs.Marks.{all_causes, causes_of, direction_at, fault_lines, glyph_steps, is_waived_of, last_of, lines_of, marks_from, pen_at, place_of_stems, reason_of, same_point, shown_of, up_to, waived_of}
+use Rattle.t1_picture.specs.Marks.{all_causes, causes_of, direction_at, fault_lines, glyph_steps, is_waived_of, last_of, lines_of, marks_from, pen_at, place_of_stems, reason_of, shown_of, up_to, waived_of}
 use Rattle.t1_picture.specs.Private.Runs.{GoesTo, IsOfSameGlyph, seen_steps}
 use Rattle.t1_picture.specs.Subjects.{Subject}
+use Rattle.t1_picture.specs.Subpaths.{same_point}
 use Rattle.t1_reasons.specs.GlyphReasons.{IsOfSameGlyph as IsSameMachine, glyph_reason, reason_at}
 use Rattle.t1_reasons.specs.declared.reason.Reason.{Reason}
 use Rattle.t1_report.specs.declared.marks.Mark.{Mark}

@@ -1,3 +1,4 @@
+pub mod ArrowLayers
 pub mod FaultSteps
 pub mod Joined
 pub mod Made

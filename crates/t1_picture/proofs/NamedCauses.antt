@@ -1,23 +1,26 @@
 -- What is marked is what the reasons of faults name.
-use Rattle.std.proofs.Common.{◌≡◌, ◌↔◌, ◌==◌, ◌≤◌, Bool, true, false, if◌then◌else◌, Option, Some, None, List, [], ◌∷◌, ◌++◌, flat_map, inl, inr, refl, sym, ap, subst, ◌∙◌, arith}
+use Rattle.std.proofs.Common.{◌≡◌, ◌↔◌, ◌==◌, ℕ, ℤ, Bool, true, false, if◌then◌else◌, Option, Some, None, List, [], ◌∷◌, ◌++◌, flat_map, inl, inr, refl, sym, ap, subst, ◌∙◌, arith}
 use Rattle.std.proofs.lemmas.List.Elements.{Contains-append_cases, Contains-append_left, Contains-append_right}
 use Rattle.std.specs.List.{Contains}
 use Rattle.std.specs.Option.{option_map, option_to_list}
 use Rattle.t1_drawing.specs.declared.direction.Direction.{Direction}
+use Rattle.t1_drawing.specs.declared.touching.UntouchedStem.{UntouchedStem}
 use Rattle.t1_outline.specs.declared.segment.Segment.{Segment}
 use Rattle.t1_picture.specs.declared.causes.Cause.{Cause}
-use Rattle.t1_picture.specs.declared.causes.Cause.TheVariants.{Accent, Base, Beyond as BeyondEnds, Ends, Miss as Missed, Outside as OutsideBox, Stem as NamedOne, Stroke as DrawnStroke, Untouched as LeftAlone, Zone}
+use Rattle.t1_picture.specs.declared.causes.Cause.TheVariants.{Accent, Base, Coordinate, Ends, Miss as Missed, Outside as OutsideBox, Stem as NamedOne, Stroke as DrawnStroke, Turns, Untouched as LeftAlone, Zone}
 use Rattle.t1_picture.specs.declared.causes.NamedStem.{NamedStem}
 use Rattle.t1_picture.specs.declared.causes.Role.{Role}
 use Rattle.t1_picture.specs.declared.causes.Role.TheVariants.{Other, Own}
 use Rattle.t1_picture.specs.declared.causes.StemPlace.{StemPlace}
-use Rattle.t1_picture.specs.Causes.{causes_in, causes_of_reason, line_before, means_components, named_stem, stem_cause, stroke_of, untouched_stem, zone_at}
+use Rattle.t1_picture.specs.Causes.{causes_in, causes_of_reason, line_before, means_components, named_stem, nearest_point, stem_cause, stroke_of, untouched_stem, zone_at}
 use Rattle.t1_picture.specs.Marks.{all_causes, causes_of, faults_by, place_of_stems, reason_of, shown_of, zone_of}
-use Rattle.t1_picture.specs.NamedCauses.{IsNamed, IsOfFault, IsShownOf, MarksAreOfFaults, NamesCodes, NamesCoordinate, NamesSidebearings, NamesStem, NamesStroke, NamesUntouched, NamesZone, by_place, by_reason}
+use Rattle.t1_picture.specs.NamedCauses.{IsNamed, IsOfFault, IsShownOf, MarksAreOfFaults, NamesCodes, NamesCoordinate, NamesSidebearings, NamesStem, NamesStroke, NamesTurns, NamesUntouched, NamesZone, by_place, by_reason}
 use Rattle.t1_picture.specs.Subjects.{ShownValue, Subject, everything, one_fault, up_to}
+use Rattle.t1_reason_texts.specs.declared.decimals.Unit.TheVariants.{OnCurve}
+use Rattle.t1_reason_texts.specs.Decimals.{coordinate_of, in_unit}
 use Rattle.t1_reasons.proofs.NamedStems.{none_in, one_is}
 use Rattle.t1_reasons.specs.declared.reason.Reason.{Reason}
-use Rattle.t1_reasons.specs.declared.reason.Reason.TheVariants.{Beyond, Codes, Miss, Open, Outside, Sidebearings, Stem as OneStem, Stems, Stroke, Triple, Untouched, Zones}
+use Rattle.t1_reasons.specs.declared.reason.Reason.TheVariants.{Area, Beyond, Codes, Miss, Open, Outside, Sidebearings, Stem as OneStem, Stems, Stroke, Triple, Untouched, Zones}
 use Rattle.t1_report.specs.Faults.{FaultValue}
 use Rattle.t1_rules.specs.declared.font_rules.zones.Edges.{Edges}
 use Rattle.t1_rules.specs.declared.rule.Rule.{Rule}
@@ -66,6 +69,12 @@ module _ (place : StemPlace) (rule : Rule) where
   stroke_named line_start (Some start) segment cause some =
       subst (IsNamed place rule (Stroke line_start (Some start) segment)) (one_is (DrawnStroke (line_before rule line_start) start segment) cause some) refl
 
+  nearest_named : (stem : UntouchedStem) (step : ℕ) (nearest : Option ℤ) (cause : Cause)
+      → Contains (option_to_list (nearest_point stem.direction nearest)) cause → IsNamed place rule (Untouched stem step nearest) cause
+  nearest_named stem step None cause some = none_in cause some
+  nearest_named stem step (Some number) cause some =
+      subst (IsNamed place rule (Untouched stem step (Some number))) (one_is (Coordinate stem.direction (coordinate_of number)) cause some) refl
+
   named : (reason : Reason) (cause : Cause) → Contains (causes_in place rule reason) cause → IsNamed place rule reason cause
   named (Stems own other) cause some = elim (Contains-append_cases (stems Own own) (stems Other other.stem) cause some) [
     | inl here ↦ stem_named (Stems own other) Own own refl cause here
@@ -94,8 +103,13 @@ module _ (place : StemPlace) (rule : Rule) where
   named (Outside point box) cause some = subst (IsNamed place rule (Outside point box)) (one_is (OutsideBox point box) cause some) refl
   named (Stroke line_start start segment) cause some = stroke_named line_start start segment cause some
   named (Beyond direction quarters number from to) cause some =
-      subst (IsNamed place rule (Beyond direction quarters number from to)) (one_is (BeyondEnds direction number) cause some) refl
-  named (Untouched stem step nearest) cause some = subst (IsNamed place rule (Untouched stem step nearest)) (one_is (untouched_stem place.start stem) cause some) refl
+      subst (IsNamed place rule (Beyond direction quarters number from to)) (one_is (Coordinate direction (in_unit OnCurve number)) cause some) refl
+  named (Area twentyfold turns) cause some = subst (IsNamed place rule (Area twentyfold turns)) (one_is Turns cause some) tt
+  named (Untouched stem step nearest) cause some =
+      elim (Contains-append_cases (untouched_stem place.start stem ∷ []) (option_to_list (nearest_point stem.direction nearest)) cause some) [
+        | inl here ↦ subst (IsNamed place rule (Untouched stem step nearest)) (one_is (untouched_stem place.start stem) cause here) refl
+        | inr here ↦ nearest_named stem step nearest cause here
+      ]
   named _ cause some = none_in cause some
 
   stem_marked : (reason : Reason) (role : Role) (stem : Stem) (cause : Cause) → NamesStem reason role stem → Contains (stems role stem) cause
@@ -124,12 +138,21 @@ module _ (place : StemPlace) (rule : Rule) where
   stroke_marked _ cause is = absurd is
 
   coordinate_marked : (reason : Reason) (cause : Cause) → NamesCoordinate reason cause → Contains (causes_in place rule reason) cause
-  coordinate_marked (Beyond direction quarters number from to) cause is = alone (BeyondEnds direction number) cause (sym is)
+  coordinate_marked (Beyond direction quarters number from to) cause is = alone (Coordinate direction (in_unit OnCurve number)) cause (sym is)
+  coordinate_marked (Untouched stem step nearest) cause is =
+      Contains-append_right (untouched_stem place.start stem ∷ []) (option_to_list (nearest_point stem.direction nearest)) cause
+      (subst (λ (found : Option Cause). Contains (option_to_list found) cause) (sym is) (alone cause cause refl))
   coordinate_marked _ cause is = absurd is
 
   untouched_marked : (reason : Reason) (named : NamedStem) → NamesUntouched place.start reason named → Contains (causes_in place rule reason) (LeftAlone named)
-  untouched_marked (Untouched stem step nearest) named is = alone (untouched_stem place.start stem) (LeftAlone named) (sym is)
+  untouched_marked (Untouched stem step nearest) named is =
+      Contains-append_left (untouched_stem place.start stem ∷ []) (option_to_list (nearest_point stem.direction nearest)) (LeftAlone named)
+      (alone (untouched_stem place.start stem) (LeftAlone named) (sym is))
   untouched_marked _ named is = absurd is
+
+  turns_marked : (reason : Reason) → NamesTurns reason → Contains (causes_in place rule reason) Turns
+  turns_marked (Area twentyfold turns) is = alone Turns Turns refl
+  turns_marked _ is = absurd is
 
   base_marked : (reason : Reason) → means_components rule ≡ true → NamesCodes reason → Contains (causes_in place rule reason) Base
   base_marked (Codes base accent) means is = rw means (Contains-append_left (Base ∷ []) (Accent ∷ []) Base (alone Base Base refl))
@@ -152,8 +175,9 @@ module _ (place : StemPlace) (rule : Rule) where
   marked reason (Ends start pen) is = subst (λ r. Contains (causes_in place rule r) (Ends start pen)) (sym is) (alone (Ends start pen) (Ends start pen) refl)
   marked reason (OutsideBox point box) is = subst (λ r. Contains (causes_in place rule r) (OutsideBox point box)) (sym is) (alone (OutsideBox point box) (OutsideBox point box) refl)
   marked reason (DrawnStroke before start segment) is = stroke_marked reason (DrawnStroke before start segment) is
-  marked reason (BeyondEnds direction number) is = coordinate_marked reason (BeyondEnds direction number) is
+  marked reason (Coordinate direction coordinate) is = coordinate_marked reason (Coordinate direction coordinate) is
   marked reason (LeftAlone stem) is = untouched_marked reason stem is
+  marked reason Turns is = turns_marked reason is
   marked reason Base is = base_marked reason is.0 is.1
   marked reason Accent (inl is) = accent_marked reason is.0 is.1
   marked reason Accent (inr is) = sidebearing_marked reason is

@@ -1,6 +1,6 @@
 -- What reasons name, as a text of SVG 1.1: red bands, boxes, lines and marks, and the numbers of edges.
 use Rattle.std.specs.Prelude.{ℕ, ℤ, pos, ◌+ℤ◌, ◌-ℤ◌, ◌*ℤ◌, if◌then◌else◌, int_div, Option, None, Some, List, [], ◌∷◌, ◌++◌, codes}
-use Rattle.std.specs.List.{flat_map}
+use Rattle.std.specs.List.{flat_map, list_any}
 use Rattle.std.specs.Ordering.{int_eq}
 use Rattle.t1_char.specs.Numbers.{unit}
 use Rattle.t1_drawing.specs.declared.direction.Direction.{Direction}
@@ -9,20 +9,21 @@ use Rattle.t1_drawing.specs.declared.font_box.FontBox.{FontBox}
 use Rattle.t1_outline.specs.Laws.Points.{end_of}
 use Rattle.t1_picture.specs.declared.bounds.Bounds.{Bounds}
 use Rattle.t1_picture.specs.declared.causes.Cause.{Cause}
-use Rattle.t1_picture.specs.declared.causes.Cause.TheVariants.{Beyond, Ends, Miss, Outside, Stem, Stroke, Untouched, Zone}
+use Rattle.t1_picture.specs.declared.causes.Cause.TheVariants.{Coordinate, Ends, Miss, Outside, Stem, Stroke, Untouched, Zone}
 use Rattle.t1_picture.specs.declared.causes.NamedStem.{NamedStem}
 use Rattle.t1_picture.specs.declared.causes.Role.{Role}
 use Rattle.t1_picture.specs.declared.causes.Role.TheVariants.{Other, Own}
 use Rattle.t1_picture.specs.declared.frame.Frame.{Frame}
+use Rattle.t1_picture.specs.Arrows.{arrows_if}
 use Rattle.t1_picture.specs.Bands.{across_text, band_text, line_text, with_band}
 use Rattle.t1_picture.specs.Bounds.{kept, with_point, with_y}
+use Rattle.t1_picture.specs.Causes.{is_turns}
 use Rattle.t1_picture.specs.Frames.{from_bottom, from_left, from_right, from_top, length_of, opposite, units_of}
 use Rattle.t1_picture.specs.Layers.{mark_text, stretch_text, thick_text}
 use Rattle.t1_picture.specs.Starts.{marks_start, numbers_start, path_start}
 use Rattle.t1_picture.specs.Subpaths.{begun_at}
 use Rattle.t1_reason_texts.specs.declared.decimals.Exact.{Exact}
-use Rattle.t1_reason_texts.specs.declared.decimals.Unit.TheVariants.{OnCurve}
-use Rattle.t1_reason_texts.specs.Decimals.{coordinate_of, exact_text, in_unit, value_of}
+use Rattle.t1_reason_texts.specs.Decimals.{coordinate_of, exact_text, value_of}
 use Rattle.t1_rules.specs.declared.step_rules.flex.Point.{Point}
 use Rattle.t1_rules.specs.StepRules.Flex.{at}
 
@@ -71,13 +72,13 @@ rectangle_text left low right high = lower_corners left low right ++ upper_corne
 abbrev pub font_box_text : FontBox → List ℕ
 font_box_text box = rectangle_text (value_of box.left) (value_of box.bottom) (value_of box.right) (value_of box.top)
 
--- Stems and zones, as bands; FontBBox; and a coordinate of a curve, which is told 64 times, as a line.
+-- Stems and zones, as bands; FontBBox; and a coordinate, as a line.
 abbrev pub cause_band : Frame → Cause → List ℕ
 cause_band frame (Stem stem) = band_text frame stem.band
 cause_band frame (Untouched stem) = band_text frame stem.band
 cause_band frame (Zone edges) = across_text frame (value_of edges.lower) (value_of edges.upper)
 cause_band frame (Outside point box) = font_box_text box
-cause_band frame (Beyond direction number) = line_text direction frame (in_unit OnCurve number)
+cause_band frame (Coordinate direction place) = line_text direction frame place
 cause_band frame _ = []
 
 unfoldable pub causes_start : List ℕ
@@ -119,9 +120,11 @@ cause_points (Outside point box) = mark_text (codes "cross") point
 cause_points (Stroke before start segment) = ends_text start (end_of segment)
 cause_points _ = []
 
-unfoldable pub cause_points_part : Frame → List Cause → List ℕ
-cause_points_part frame causes =
-    marks_start (codes "cause-points") (length_of frame (pos 2)) ++ (flat_map cause_points causes ++ codes "</g>\n")
+-- These, and the arrows of subpaths where a reason names which way they run.
+unfoldable pub cause_points_part : Frame → List Cause → List ℕ → List ℕ
+cause_points_part frame causes arrows =
+    marks_start (codes "cause-points") (length_of frame (pos 2))
+    ++ (flat_map cause_points causes ++ (arrows_if (list_any is_turns causes) arrows ++ codes "</g>\n"))
 
 -- ---- the numbers of edges, y downwards
 

@@ -15,14 +15,16 @@ use Rattle.t1_drawing.specs.declared.touching.UntouchedStem.{UntouchedStem}
 use Rattle.t1_drawing.specs.Touching.{coordinate}
 use Rattle.t1_outline.specs.declared.segment.Segment.{Segment}
 use Rattle.t1_picture.specs.declared.causes.Cause.{Cause}
-use Rattle.t1_picture.specs.declared.causes.Cause.TheVariants.{Accent, Base, Beyond as BeyondEnds, Ends, Miss as Missed, Outside as OutsideBox, Stem as NamedOne, Stroke as DrawnStroke, Untouched as LeftAlone, Zone}
+use Rattle.t1_picture.specs.declared.causes.Cause.TheVariants.{Accent, Base, Coordinate, Ends, Miss as Missed, Outside as OutsideBox, Stem as NamedOne, Stroke as DrawnStroke, Turns, Untouched as LeftAlone, Zone}
 use Rattle.t1_picture.specs.declared.causes.Role.{Role}
 use Rattle.t1_picture.specs.declared.causes.Role.TheVariants.{Other, Own}
 use Rattle.t1_picture.specs.declared.causes.StemPlace.{StemPlace}
 use Rattle.t1_picture.specs.Bounds.{kept}
 use Rattle.t1_picture.specs.Bands.{band_of, lower_edge, upper_edge}
+use Rattle.t1_reason_texts.specs.declared.decimals.Unit.TheVariants.{OnCurve}
+use Rattle.t1_reason_texts.specs.Decimals.{coordinate_of, in_unit}
 use Rattle.t1_reasons.specs.declared.reason.Reason.{Reason}
-use Rattle.t1_reasons.specs.declared.reason.Reason.TheVariants.{Beyond, Codes, Miss, Open, Outside, Sidebearings, Stem as OneStem, Stems, Stroke, Triple, Untouched, Zones}
+use Rattle.t1_reasons.specs.declared.reason.Reason.TheVariants.{Area, Beyond, Codes, Miss, Open, Outside, Sidebearings, Stem as OneStem, Stems, Stroke, Triple, Untouched, Zones}
 use Rattle.t1_rules.specs.declared.rule.Rule.{Rule}
 use Rattle.t1_rules.specs.declared.rule.Rule.TheVariants.{K04, K07, P07, P08}
 use Rattle.t1_rules.specs.declared.step_rules.flex.Point.{Point}
@@ -76,6 +78,11 @@ untouched_stem start stem =
       role = Own;
     })
 
+-- The coordinate of the point which is nearest to it, if there is one.
+abbrev pub nearest_point : Direction → Option ℤ → Option Cause
+nearest_point direction None = None
+nearest_point direction (Some number) = Some (Coordinate direction (coordinate_of number))
+
 -- ---- zones
 
 -- The zone of two numbers of a list, where both are there.
@@ -126,7 +133,7 @@ component_causes rule = if means_components rule then Base ∷ Accent ∷ [] els
 
 -- ---- all of them
 
--- What a reason names, given where the stems of its step are: H02 to H10, K04, K05, K07, P02, P04, P06 to P10, X05 and Z06.
+-- What a reason names, given where the stems of its step are: H02 to H10, K04, K05, K07, P02, P04 to P10, X05 and Z06.
 abbrev pub causes_in : StemPlace → Rule → Reason → List Cause
 causes_in place rule (Stems own other) = stem_cause place Own own ++ stem_cause place Other other.stem
 causes_in place rule (OneStem stem) = stem_cause place Own stem
@@ -138,15 +145,20 @@ causes_in place rule (Sidebearings told own) = Accent ∷ []
 causes_in place rule (Zones own other distance) = Zone other ∷ []
 causes_in place rule (Outside point box) = OutsideBox point box ∷ []
 causes_in place rule (Stroke line_start start segment) = option_to_list (stroke_of rule line_start start segment)
-causes_in place rule (Beyond direction quarters number from to) = BeyondEnds direction number ∷ []
-causes_in place rule (Untouched stem step nearest) = untouched_stem place.start stem ∷ []
+causes_in place rule (Beyond direction quarters number from to) = Coordinate direction (in_unit OnCurve number) ∷ []
+causes_in place rule (Area twentyfold turns) = Turns ∷ []
+causes_in place rule (Untouched stem step nearest) = untouched_stem place.start stem ∷ option_to_list (nearest_point stem.direction nearest)
 causes_in place rule _ = []
 
 abbrev pub causes_of_reason : StemPlace → Rule → Option Reason → List Cause
 causes_of_reason place rule None = []
 causes_of_reason place rule (Some reason) = causes_in place rule reason
 
--- One of some is the base, or the accent.
+-- One of some is which way subpaths run, the base, or the accent.
+abbrev pub is_turns : Cause → Bool
+is_turns Turns = true
+is_turns _ = false
+
 abbrev pub is_base : Cause → Bool
 is_base Base = true
 is_base _ = false

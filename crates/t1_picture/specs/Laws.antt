@@ -7,7 +7,7 @@ use Rattle.t1_font.specs.Keys.{same_name}
 use Rattle.t1_outline.specs.Outlines.{drawn_of, outline_of}
 use Rattle.t1_outline.specs.Parts.{parts_of_both}
 use Rattle.t1_picture.specs.Drawings.{all_steps, component_part, components_of, drawing_of, own_part}
-use Rattle.t1_picture.specs.Parts.{PartView, drawn_steps, part_outline}
+use Rattle.t1_picture.specs.Parts.{PartView, drawn_steps, part_arrows, part_outline}
 use Rattle.t1_picture.specs.Pictures.{IsPictureOf}
 use Rattle.t1_picture.specs.Marks.{faults_of, mark_of_one, pen_at}
 use Rattle.t1_picture.specs.Subjects.{Subject, everything, one_fault, up_to}
@@ -33,6 +33,12 @@ OutlineIsThatOfItsParts =
     (s : Subject) →
     (drawing_of s).layers.outline
     ≡ part_outline (own_part s) ++ flat_map (λ p. part_outline (component_part s [] p)) (parts_of_both (components_of s))
+
+-- Nor are its arrows others than those of these parts.
+abbrev pub ArrowsAreThoseOfItsParts : Type 0
+ArrowsAreThoseOfItsParts =
+    (s : Subject) →
+    (drawing_of s).layers.arrows ≡ part_arrows (own_part s) ++ flat_map (λ p. part_arrows (component_part s [] p)) (parts_of_both (components_of s))
 
 -- A part of which all steps are drawn, as a component is, and the glyph itself without a step, is drawn by its outline.
 abbrev pub WholePartsAreOutlines : Type 0

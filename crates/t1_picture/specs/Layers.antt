@@ -7,6 +7,7 @@ use Rattle.t1_picture.specs.declared.bounds.Bounds.{Bounds}
 use Rattle.t1_reason_texts.specs.declared.decimals.Exact.{Exact}
 use Rattle.t1_picture.specs.declared.layers.Layers.{Layers}
 use Rattle.t1_picture.specs.declared.subpath.Subpath.{Subpath}
+use Rattle.t1_picture.specs.Arrows.{arrow_text}
 use Rattle.t1_picture.specs.Bounds.{origin_alone, with_point}
 use Rattle.t1_reason_texts.specs.Decimals.{coordinate_of, exact_text, point_text}
 use Rattle.t1_picture.specs.Subpaths.{gone_on, no_subpath, placed}
@@ -73,8 +74,9 @@ pub record LayersView : Type 0 where
   pub bounds : Bounds
   -- The subpath that is being drawn.
   pub subpath : Subpath
-  -- The outline, the stretches that P02 speaks of, that of the step, the handles, the points, the control points.
+  -- The outline, the arrows of its subpaths, the stretches that P02 speaks of, that of the step, the handles, the points, the control points.
   pub outline : List ℕ
+  pub arrows : List ℕ
   pub unclosed : List ℕ
   pub stretch : List ℕ
   pub handles : List ℕ
@@ -89,6 +91,7 @@ layers_view l =
       bounds = l.bounds;
       subpath = l.subpath;
       outline = string_bytes l.outline;
+      arrows = string_bytes l.arrows;
       unclosed = string_bytes l.unclosed;
       stretch = string_bytes l.stretch;
       handles = string_bytes l.handles;
@@ -104,6 +107,7 @@ no_layers =
       bounds = origin_alone;
       subpath = no_subpath;
       outline = [];
+      arrows = [];
       unclosed = [];
       stretch = [];
       handles = [];
@@ -140,6 +144,7 @@ with_segment thick l segment =
       bounds = reached l.bounds segment;
       subpath = gone_on l.subpath segment;
       outline = l.outline ++ segment_text segment;
+      arrows = l.arrows ++ arrow_text l.subpath segment;
       unclosed = l.unclosed;
       stretch = l.stretch ++ stretch_of thick l.subpath segment;
       handles = l.handles ++ handles_text l.subpath segment;

@@ -1,10 +1,12 @@
 -- The lines below the drawing.
 use Rattle.std.specs.Prelude.{ℕ, ◌==◌, nat_lt, if◌then◌else◌, Bool, true, false, not, Option, None, Some, List, [], ◌∷◌, ◌++◌, codes}
 use Rattle.std.specs.Fmt.{decimal}
+use Rattle.std.specs.List.{list_any}
 use Rattle.t1_char.specs.Editions.{digit_of}
 use Rattle.t1_char.specs.declared.edition.Edition.{Edition}
 use Rattle.t1_char.specs.declared.edition.Edition.TheVariants.{One}
 use Rattle.t1_font.specs.Fonts.{glyph_name}
+use Rattle.t1_picture.specs.Causes.{is_turns}
 use Rattle.t1_picture.specs.Drawings.{DrawingView}
 use Rattle.t1_picture.specs.Marks.{FaultsView}
 use Rattle.t1_picture.specs.Parts.{note_if}
@@ -60,4 +62,5 @@ legend_of s drawing faults =
     title_line s.edition (title_of s)
     ∷ (step_lines (step_of s) drawing.last_step ++ (drawing.notes
     ++ (note_if (not (is_empty drawing.layers.unclosed)) (codes "dashed: a path that isn't closed")
-    ++ lines_of_faults (heading_of s.shown) faults)))
+    ++ (note_if (list_any is_turns faults.causes) (codes "arrows: which way each path runs")
+    ++ lines_of_faults (heading_of s.shown) faults))))

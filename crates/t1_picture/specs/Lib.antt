@@ -1,3 +1,4 @@
+pub mod Arrows
 pub mod Bands
 pub mod Bounds
 pub mod CauseTexts

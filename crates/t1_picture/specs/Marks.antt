@@ -1,8 +1,7 @@
 -- The faults that are shown: where their marks are, what their reasons name, and their lines.
-use Rattle.std.specs.Prelude.{◌≡◌, ℕ, ◌+◌, ◌-◌, ◌&&◌, min, nat_le, if◌then◌else◌, Bool, Option, None, Some, List, [], ◌∷◌, ◌++◌, codes, take, unwrap_or, ◌==◌}
+use Rattle.std.specs.Prelude.{◌≡◌, ℕ, ◌+◌, ◌-◌, min, nat_le, if◌then◌else◌, Bool, Option, None, Some, List, [], ◌∷◌, ◌++◌, codes, take, unwrap_or, ◌==◌}
 use Rattle.std.specs.List.{count_by, flat_map, list_any}
 use Rattle.std.specs.Option.{option_to_list}
-use Rattle.std.specs.Ordering.{int_eq}
 use Rattle.t1_char.specs.Editions.{limit_of}
 use Rattle.t1_char.specs.Steps.{StepView, steps_of}
 use Rattle.t1_font.specs.Fonts.{FontValue, glyph_name}
@@ -19,6 +18,7 @@ use Rattle.t1_picture.specs.Causes.{causes_of_reason, direction_among, is_accent
 use Rattle.t1_picture.specs.Drawings.{all_steps, component_part, components_of, own_part, texts_of}
 use Rattle.t1_picture.specs.Parts.{part_outline, start_of}
 use Rattle.t1_picture.specs.Subjects.{ShownValue, Subject, everything, one_fault, step_of, up_to as steps_up_to}
+use Rattle.t1_picture.specs.Subpaths.{same_point}
 use Rattle.t1_picture.specs.Texts.{legible_line}
 use Rattle.t1_reason_texts.specs.Texts.{reason_text, says_more}
 use Rattle.t1_reasons.specs.Reported.{fault_reason}
@@ -58,9 +58,6 @@ glyph_steps s = take (limit_of s.edition) (steps_of s.font s.glyph)
 
 abbrev pub pen_at : Subject → ℕ → Point
 pen_at s number = current_point (take (number - 1) (glyph_steps s))
-
-abbrev pub same_point : Point → Point → Bool
-same_point p q = int_eq p.x q.x && int_eq p.y q.y
 
 -- A mark has the numbers of faults that follow one another and are at its point.
 abbrev pub mark_of_one : Point → ℕ → FaultMark

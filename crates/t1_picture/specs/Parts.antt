@@ -10,14 +10,15 @@ use Rattle.t1_char.specs.Steps.{StepView, steps_of}
 use Rattle.t1_char.specs.Turns.{step_of_number}
 use Rattle.t1_font.specs.Fonts.{FontValue}
 use Rattle.t1_outline.specs.declared.segment.Segment.{Segment}
-use Rattle.t1_outline.specs.Outlines.{drawn, drawn_of}
+use Rattle.t1_outline.specs.Outlines.{DrawnView, drawn, drawn_of}
 use Rattle.t1_outline.specs.Parts.{composition_of, sidebearing_by}
 use Rattle.t1_picture.specs.declared.bands.Band.{Band}
 use Rattle.t1_drawing.specs.declared.direction.Direction.{Direction}
 use Rattle.t1_drawing.specs.declared.direction.Direction.TheVariants.{Across, Upright}
+use Rattle.t1_picture.specs.Arrows.{arrows_from}
 use Rattle.t1_picture.specs.Bands.{band_of}
 use Rattle.t1_picture.specs.Layers.{LayersView, begun, segment_text, with_bands, with_gap, with_segments}
-use Rattle.t1_picture.specs.Subpaths.{behind, placed}
+use Rattle.t1_picture.specs.Subpaths.{behind, no_subpath, placed}
 use Rattle.t1_picture.specs.Texts.{legible_line}
 use Rattle.t1_report.specs.Traces.{step_line}
 use Rattle.t1_rules.specs.declared.step_rules.flex.Point.{Point}
@@ -86,6 +87,13 @@ with_part part l = with_stems part (with_steps part (begun l) [] (drawn_steps pa
 -- The outline of a part, as data of a path: the segments that its steps draw, where its origin is.
 abbrev pub part_outline : PartView → List ℕ
 part_outline part = flat_map (λ d. segment_text (placed part.origin d.segment)) (drawn_of (drawn_steps part))
+
+-- The segments that its steps draw, where its origin is, and their arrows.
+abbrev pub placed_in : PartView → DrawnView → Segment
+placed_in part d = placed part.origin d.segment
+
+abbrev pub part_arrows : PartView → List ℕ
+part_arrows part = arrows_from no_subpath (map (placed_in part) (drawn_of (drawn_steps part)))
 
 -- ---- notes
 

@@ -220,16 +220,16 @@ back_text frame font layers metrics causes =
 unfoldable pub front_text : Frame → LayersView → List ℕ
 front_text frame layers = outline_part frame layers ++ points_part layers.points layers.controls
 
-unfoldable pub faults_part : Frame → FaultLayersView → List ℕ
-faults_part frame faults =
+unfoldable pub faults_part : Frame → List ℕ → FaultLayersView → List ℕ
+faults_part frame arrows faults =
     cause_lines_part frame faults.causes faults.components
-    ++ (cause_points_part frame faults.causes ++ marks_part frame faults.marks)
+    ++ (cause_points_part frame faults.causes arrows ++ marks_part frame faults.marks)
 
 unfoldable pub drawing_text : Frame → FontValue → LayersView → Option Metrics → FaultLayersView → List ℕ
 drawing_text frame font layers metrics faults =
     drawing_start (length_of frame (pos 1))
     ++ (back_text frame font layers metrics faults.causes
-    ++ (front_text frame layers ++ (faults_part frame faults ++ codes "</g>\n")))
+    ++ (front_text frame layers ++ (faults_part frame layers.arrows faults ++ codes "</g>\n")))
 
 -- ---- numbers and legend, y downwards
 

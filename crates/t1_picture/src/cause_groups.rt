@@ -6,6 +6,7 @@ ghost use Rattle.t1_picture.specs.CauseTexts.{before_text, cause_band, cause_lin
 ghost use Rattle.t1_picture.specs.Layers.{thick_text};
 ghost use Rattle.t1_picture.specs.Subpaths.{begun_at};
 
+use crate::arrows::write_arrows;
 use crate::bands::{write_across, write_line};
 use crate::bounds::Bounds;
 use crate::causes::{Cause, NamedStem, Role};
@@ -19,7 +20,7 @@ use t1_char::UNIT;
 use t1_drawing::{Direction, FontBox, end_of};
 use t1_font::BILLION;
 use t1_outline::Segment;
-use t1_reason_texts::{Exact, Unit, coordinate, value};
+use t1_reason_texts::{Exact, coordinate, value};
 use t1_rules::Point;
 
 /// The group of stems, zones, FontBBox and coordinates, which the frame cuts.
@@ -76,7 +77,11 @@ fn widen_by_cause(bounds: &mut Bounds, cause: Cause)
             bounds.take(pen);
         }
         Cause::Outside { point, .. } => bounds.take(point),
-        Cause::Stroke { .. } | Cause::Beyond { .. } | Cause::Base | Cause::Accent => {}
+        Cause::Stroke { .. }
+        | Cause::Coordinate { .. }
+        | Cause::Turns
+        | Cause::Base
+        | Cause::Accent => {}
     }
 }
 
@@ -125,13 +130,11 @@ fn write_cause_band(svg: &mut String, frame: &Frame, cause: Cause) -> Result<(),
         Cause::Stem(stem) | Cause::Untouched(stem) => stem.band.write(svg, frame),
         Cause::Zone(edges) => write_across(svg, frame, value(edges.lower), value(edges.upper)),
         Cause::Outside { font_box, .. } => write_font_box(svg, font_box),
-        Cause::Beyond { direction, number } => {
-            let unit = Unit::OnCurve;
-            write_line(svg, frame, direction, Exact { number, unit })
-        }
+        Cause::Coordinate { direction, place } => write_line(svg, frame, direction, place),
         Cause::Miss { .. }
         | Cause::Ends { .. }
         | Cause::Stroke { .. }
+        | Cause::Turns
         | Cause::Base
         | Cause::Accent => Ok(()),
     }
@@ -234,7 +237,8 @@ fn write_miss(svg: &mut String, cause: Cause) -> Result<(), AllocError>
         | Cause::Zone(_)
         | Cause::Ends { .. }
         | Cause::Outside { .. }
-        | Cause::Beyond { .. }
+        | Cause::Coordinate { .. }
+        | Cause::Turns
         | Cause::Base
         | Cause::Accent => Ok(()),
     }
@@ -266,17 +270,19 @@ fn write_before(svg: &mut String, before: Option<Point>, start: Point) -> Result
 
 // ---- points
 
-/// Writes the points that are named, and the ends of open paths, lines and curves.
+/// Writes the points that are named, the ends of open paths, lines and curves, and the arrows of subpaths where a reason names which way they run.
 #[tactic(auto, unfolding(crate::specs::CauseTexts::cause_points_part))]
 pub(crate) fn write_cause_points(
     svg: &mut String,
     frame: &Frame,
     causes: &[Cause],
+    arrows: &str,
 ) -> Result<(), AllocError>
-    ensures { OnOk result (string_bytes svg.new ≡ string_bytes svg.old ++ cause_points_part frame.now causes.now) }
+    ensures { OnOk result (string_bytes svg.new ≡ string_bytes svg.old ++ cause_points_part frame.now causes.now arrows.now) }
 {
     start_marks(svg, "cause-points", frame.length(LINE))?;
     write_all_points(svg, causes)?;
+    write_arrows(svg, causes, arrows)?;
     push(svg, END)
 }
 
@@ -300,7 +306,8 @@ fn write_points_of(svg: &mut String, cause: Cause) -> Result<(), AllocError>
         Cause::Stem(_)
         | Cause::Untouched(_)
         | Cause::Zone(_)
-        | Cause::Beyond { .. }
+        | Cause::Coordinate { .. }
+        | Cause::Turns
         | Cause::Base
         | Cause::Accent => Ok(()),
     }
@@ -358,7 +365,8 @@ fn write_numbers_of(svg: &mut String, frame: &Frame, cause: Cause) -> Result<(),
         | Cause::Ends { .. }
         | Cause::Outside { .. }
         | Cause::Stroke { .. }
-        | Cause::Beyond { .. }
+        | Cause::Coordinate { .. }
+        | Cause::Turns
         | Cause::Base
         | Cause::Accent => Ok(()),
     }

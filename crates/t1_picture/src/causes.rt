@@ -1,9 +1,9 @@
-//! What the reasons of faults show in the drawing: the stems, zones, points, lines and curves that they name.
+//! What the reasons of faults show in the drawing: the stems, zones, points, lines and curves that they name, and which way subpaths run.
 
 ghost use Rattle.std.specs.Prelude.{◌≡◌, ◌<◌, ◌+◌, ◌*◌, ◌++◌, OnOk, slice_get};
 ghost use Rattle.std.specs.Option.{option_to_list};
 ghost use Rattle.t1_font.specs.Entries.{entry_view};
-ghost use Rattle.t1_picture.specs.Causes.{causes_in, causes_of_reason, component_causes, direction_of, line_before, means_components, named_stem, stem_at, stroke_of, untouched_stem, zone_at, zone_by, zone_in, zone_key, zone_of_key};
+ghost use Rattle.t1_picture.specs.Causes.{causes_in, causes_of_reason, component_causes, direction_of, line_before, means_components, named_stem, nearest_point, stem_at, stroke_of, untouched_stem, zone_at, zone_by, zone_in, zone_key, zone_of_key};
 
 use crate::bands::{Band, lower_edge, number_at, upper_edge};
 use crate::view::View;
@@ -12,6 +12,7 @@ use t1_char::{CharToken, Command, Edition};
 use t1_drawing::{Direction, FontBox, UntouchedStem};
 use t1_font::{Entry, Font, Key};
 use t1_outline::Segment;
+use t1_reason_texts::{Exact, Unit, coordinate};
 use t1_reasons::Reason;
 use t1_rules::{Edges, INDEXES, Point, Rule, Stem, key_among};
 
@@ -62,13 +63,15 @@ pub(crate) enum Cause {
         start: Point,
         segment: Segment,
     },
-    /// A coordinate of a curve, 64 times: P10.
-    Beyond {
+    /// A coordinate: P10's of a curve, and that of the point which is nearest to H08's stem.
+    Coordinate {
         direction: Direction,
-        number: i128,
+        place: Exact,
     },
     /// A stem that nothing touches: H08.
     Untouched(NamedStem),
+    /// Which way each subpath runs: P05.
+    Turns,
     /// The base of the glyph's seac: K04, K07.
     Base,
     /// Its accent: K04, K05, K07.
@@ -182,11 +185,16 @@ fn add_causes_in(
             direction,
             place: number,
             ..
-        } => add_cause(causes, Some(Cause::Beyond { direction, number })),
-        Reason::Untouched { stem, .. } => add_cause(
-            causes,
-            Some(untouched_stem(place.start, stem)),
-        ),
+        } => {
+            let unit = Unit::OnCurve;
+            let place = Exact { number, unit };
+            add_cause(causes, Some(Cause::Coordinate { direction, place }))
+        }
+        Reason::Area { .. } => add_cause(causes, Some(Cause::Turns)),
+        Reason::Untouched { stem, nearest, .. } => {
+            add_cause(causes, Some(untouched_stem(place.start, stem)))?;
+            add_cause(causes, nearest_point(stem.direction, nearest))
+        }
         _ => Ok(()),
     }
 }
@@ -206,6 +214,19 @@ fn untouched_stem(start: Point, stem: UntouchedStem) -> Cause
         upper: stem.high.saturating_sub(start),
         role: Role::Own,
     })
+}
+
+/// The coordinate of the point which is nearest to a stem, if there is one.
+fn nearest_point(direction: Direction, nearest: Option<i64>) -> Option<Cause>
+    ensures { result ≡ nearest_point direction nearest }
+{
+    match nearest {
+        Some(number) => Some(Cause::Coordinate {
+            direction,
+            place: coordinate(number),
+        }),
+        None => None,
+    }
 }
 
 /// A line or a curve, if it is known where it begins.

@@ -81,7 +81,7 @@ pub(crate) fn write_drawing(
     start_drawing(svg, frame.length(THIN))?;
     write_back(svg, frame, font, drawing, faults.causes)?;
     write_front(svg, frame, &drawing.layers)?;
-    write_faults(svg, frame, faults)?;
+    write_faults(svg, frame, drawing.layers.arrows.as_str(), faults)?;
     push(svg, END)
 }
 
@@ -112,13 +112,18 @@ fn write_front(svg: &mut String, frame: &Frame, layers: &Layers) -> Result<(), A
     write_points(svg, layers.points.as_str(), layers.controls.as_str())
 }
 
-/// Writes what faults draw upon it.
+/// Writes what faults draw upon it, given the arrows of its subpaths.
 #[tactic(auto, unfolding(crate::specs::Pictures::faults_part))]
-fn write_faults(svg: &mut String, frame: &Frame, faults: &FaultLayers<'_>) -> Result<(), AllocError>
-    ensures { OnOk result (string_bytes svg.new ≡ string_bytes svg.old ++ faults_part frame.now (fault_layers_view faults.now)) }
+fn write_faults(
+    svg: &mut String,
+    frame: &Frame,
+    arrows: &str,
+    faults: &FaultLayers<'_>,
+) -> Result<(), AllocError>
+    ensures { OnOk result (string_bytes svg.new ≡ string_bytes svg.old ++ faults_part frame.now arrows.now (fault_layers_view faults.now)) }
 {
     write_cause_lines(svg, frame, faults.causes, faults.components)?;
-    write_cause_points(svg, frame, faults.causes)?;
+    write_cause_points(svg, frame, faults.causes, arrows)?;
     write_marks(svg, frame, faults.marks)
 }
 

@@ -1,6 +1,6 @@
 //! Laws of pictures. A call of one does nothing but call the laws that it rests on: a proof cites what it ensures.
 
-ghost use Rattle.t1_picture.specs.Laws.{AmpersandsBeginEntities, FontFaultsShowAllSteps, GlyphFaultsShowTheirSteps, HasNoOtherPicture, HasPicture, LegibleTextsAreFit, OneFaultIsMarked, OutlineIsThatOfItsParts, TextsHaveNoMarkup, WholePartsAreOutlines};
+ghost use Rattle.t1_picture.specs.Laws.{AmpersandsBeginEntities, ArrowsAreThoseOfItsParts, FontFaultsShowAllSteps, GlyphFaultsShowTheirSteps, HasNoOtherPicture, HasPicture, LegibleTextsAreFit, OneFaultIsMarked, OutlineIsThatOfItsParts, TextsHaveNoMarkup, WholePartsAreOutlines};
 ghost use Rattle.t1_picture.specs.NamedCauses.{MarksAreOfFaults};
 
 use t1_report::faults_of_a_unit_are_the_reports;
@@ -15,9 +15,10 @@ pub fn a_subject_has_one_picture()
 }
 
 /// The outline of a picture is that of the glyph, up to the last step drawn, and then that of each component of its seac that is
-/// there; and where all steps of a part are drawn, its outline is that of t1_outline.
+/// there; and where all steps of a part are drawn, its outline is that of t1_outline. The arrows are those of the subpaths of these.
 pub fn outlines_are_drawn()
     ensures parts { OutlineIsThatOfItsParts }
+    ensures arrows { ArrowsAreThoseOfItsParts }
     ensures whole { WholePartsAreOutlines }
 {}
 
@@ -30,7 +31,7 @@ pub fn a_fault_is_drawn_up_to_its_step()
 {}
 
 /// The stems, zones, points, boxes, lines, curves, coordinates and components that are marked are exactly those that the reasons of the
-/// faults shown name, and the zones at which faults of the font are.
+/// faults shown name, and the zones at which faults of the font are. Subpaths have arrows exactly where such a reason tells their area.
 pub fn marks_are_what_reasons_name()
     ensures { MarksAreOfFaults }
 {}

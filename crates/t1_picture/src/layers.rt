@@ -5,6 +5,7 @@ ghost use Rattle.t1_picture.specs.Layers.{begun, layers_view, mark_text, no_laye
 ghost use Rattle.t1_outline.specs.declared.segment.Segment.TheVariants.{Curve};
 ghost use Rattle.t1_picture.specs.Parts.{bands_of};
 
+use crate::arrows::write_arrow;
 use crate::bands::Band;
 use crate::bounds::Bounds;
 use crate::subpath::{Subpath, placed};
@@ -24,6 +25,8 @@ pub(crate) struct Layers {
     pub(crate) subpath: Subpath,
     /// The outline, as data of a path.
     pub(crate) outline: String,
+    /// The arrows at the beginnings of subpaths, as elements.
+    pub(crate) arrows: String,
     /// The stretches that P02 speaks of.
     pub(crate) unclosed: String,
     /// The stretch of the step that was requested.
@@ -47,6 +50,7 @@ impl Layers {
             bounds: Bounds::new(),
             subpath: Subpath::new(),
             outline: String::new(alloc),
+            arrows: String::new(alloc),
             unclosed: String::new(alloc),
             stretch: String::new(alloc),
             handles: String::new(alloc),
@@ -83,6 +87,7 @@ impl Layers {
         ensures { OnOk result (layers_view self.new ≡ with_segment is_thick (layers_view self.old) segment) }
     {
         write_if(is_thick, &mut self.stretch, &self.subpath, segment)?;
+        write_arrow(&mut self.arrows, &self.subpath, segment)?;
         self.add_points(segment)?;
         self.subpath.go_on(segment);
         write_segment(&mut self.outline, segment)

@@ -7,6 +7,7 @@ ghost use Rattle.t1_picture.specs.Marks.{faults_view};
 ghost use Rattle.t1_picture.specs.Parts.{note_if};
 ghost use Rattle.t1_picture.specs.Subjects.{shown_value, subject_of};
 
+use crate::arrows::has_turns;
 use crate::drawing::Drawing;
 use crate::faults::Faults;
 use crate::texts::add_line;
@@ -40,6 +41,7 @@ pub(crate) fn legend(
     add_step(alloc, view.step(), &drawing.last_step, &mut lines)?;
     lines.append(&mut drawing.notes)?;
     add_dashed(alloc, drawing.layers.unclosed.as_str(), &mut lines)?;
+    add_arrows(alloc, has_turns(faults.causes.as_slice()), &mut lines)?;
     add_waived(alloc, faults.waived, &mut lines)?;
     let heading = heading(&view.shown);
     add_faults(alloc, heading, faults.waived, &mut faults.lines, &mut lines)?;
@@ -94,6 +96,18 @@ fn add_dashed(alloc: Global, unclosed: &str, lines: &mut Vec<String>) -> Result<
         return Ok(());
     }
     lines.push(String::from_str(alloc, "dashed: a path that isn't closed")?)?;
+    Ok(())
+}
+
+/// Adds what arrows show, if they are meant.
+fn add_arrows(alloc: Global, are_meant: bool, lines: &mut Vec<String>) -> Result<(), AllocError>
+    ensures { OnOk result (texts_of lines.new.items ≡ texts_of lines.old.items
+        ++ note_if are_meant (codes "arrows: which way each path runs")) }
+{
+    if !are_meant {
+        return Ok(());
+    }
+    lines.push(String::from_str(alloc, "arrows: which way each path runs")?)?;
     Ok(())
 }
 

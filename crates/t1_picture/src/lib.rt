@@ -1,7 +1,7 @@
 //! A picture of one glyph of a Type 1 font, with its faults, as a text of SVG 1.1: its outline and its points, the stems that are
 //! in force after the last step drawn, sidebearing, width and base line, the zones of BlueValues and OtherBlues, for each fault a
-//! numbered mark, with t1check's line in a legend, and in red what its reason names: stems, points, lines, curves, components. Adobe
-//! Type 1 Font Format 1.1, chapters 2, 3, 5, 6 and 8.
+//! numbered mark, with t1check's line in a legend, and in red what its reason names: stems, points, lines, curves, components, and
+//! which way subpaths run. Adobe Type 1 Font Format 1.1, chapters 2, 3, 5, 6 and 8.
 //!
 //! [`picture`] makes it: of a whole glyph, up to a step, or of one fault alone ([`Shown`]), which may be one of the font's zones.
 //! [`shown_by`] finds that fault by its number. What is drawn, and the form of the text, is said in docs/REFERENCE.md.
@@ -25,6 +25,7 @@
 //! ```
 #![tactic(auto)]
 
+mod arrows;
 mod bands;
 mod bounds;
 mod cause_groups;

@@ -3,8 +3,8 @@
 ghost use Rattle.std.specs.Prelude.{◌≡◌, ◌++◌, IfOk, None, OnOk, []};
 ghost use Rattle.std.specs.Option.{option_to_list};
 ghost use Rattle.t1_picture.specs.Private.MarkViews.{IsMarked};
-ghost use Rattle.t1_picture.specs.Marks.{same_point};
 
+use crate::subpath::is_same;
 use std::alloc::{AllocError, Global};
 use t1_rules::Point;
 
@@ -70,10 +70,4 @@ impl Marks {
         }
         Ok(marks)
     }
-}
-
-fn is_same(one: Point, other: Point) -> bool
-    ensures { result ≡ same_point one other }
-{
-    one.x == other.x && one.y == other.y
 }

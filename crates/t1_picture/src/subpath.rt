@@ -1,7 +1,7 @@
 //! The subpath that is being drawn.
 
 ghost use Rattle.std.specs.Prelude.{◌≡◌};
-ghost use Rattle.t1_picture.specs.Subpaths.{begun_at, behind, gone_on, no_subpath, placed};
+ghost use Rattle.t1_picture.specs.Subpaths.{begun_at, behind, drawn_to, gone_on, has_length_with, leads_to, no_subpath, placed, point_or, same_point};
 
 use t1_outline::{ORIGIN, Segment};
 use t1_rules::Point;
@@ -15,6 +15,8 @@ pub(crate) struct Subpath {
     pub(crate) end: Point,
     /// Whether a line or a curve of it was drawn, and it wasn't closed.
     pub(crate) is_drawn: bool,
+    /// Whether a line or a curve of some length was.
+    pub(crate) has_length: bool,
 }
 
 impl Subpath {
@@ -22,11 +24,7 @@ impl Subpath {
     pub(crate) fn new() -> Subpath
         ensures { result ≡ no_subpath }
     {
-        Subpath {
-            first: ORIGIN,
-            end: ORIGIN,
-            is_drawn: false,
-        }
+        Subpath::at(ORIGIN)
     }
 
     /// One is begun at a point.
@@ -37,6 +35,7 @@ impl Subpath {
             first: start,
             end: start,
             is_drawn: false,
+            has_length: false,
         }
     }
 
@@ -44,22 +43,62 @@ impl Subpath {
     pub(crate) fn go_on(&mut self, segment: Segment)
         ensures { self.new ≡ gone_on self.old segment }
     {
-        match segment {
-            Segment::Move(to) => {
-                self.first = to;
-                self.end = to;
-                self.is_drawn = false;
-            }
-            Segment::Line(to) | Segment::Curve(_, _, to) => {
-                self.end = to;
-                self.is_drawn = true;
-            }
-            Segment::Close => {
-                self.end = self.first;
-                self.is_drawn = false;
-            }
+        *self = match segment {
+            Segment::Move(to) => Subpath::at(to),
+            Segment::Line(to) | Segment::Curve(_, _, to) => self.drawn_to(segment, to),
+            Segment::Close => Subpath::at(self.first),
+        };
+    }
+
+    /// It, with a line or a curve more, which ends at a point.
+    fn drawn_to(&self, segment: Segment, end: Point) -> Subpath
+        ensures { result ≡ drawn_to self.now segment end }
+    {
+        Subpath {
+            first: self.first,
+            end,
+            is_drawn: true,
+            has_length: self.has_length_with(segment),
         }
     }
+
+    /// Whether a line or a curve of some length was drawn, or this one is one.
+    fn has_length_with(&self, segment: Segment) -> bool
+        ensures { result ≡ has_length_with self.now segment }
+    {
+        self.has_length | leads_to(self.first, segment).is_some()
+    }
+}
+
+/// Where a line or a curve leads: to the first of its points that isn't where its subpath begins. It has no length, if there is none.
+pub(crate) fn leads_to(first: Point, segment: Segment) -> Option<Point>
+    ensures { result ≡ leads_to first segment }
+{
+    match segment {
+        Segment::Line(to) => point_or(first, to, None),
+        Segment::Curve(one, two, to) => {
+            let last = point_or(first, to, None);
+            point_or(first, one, point_or(first, two, last))
+        }
+        Segment::Move(_) | Segment::Close => None,
+    }
+}
+
+/// A point, if it isn't where a subpath begins; else another one, if there is one.
+fn point_or(first: Point, point: Point, other: Option<Point>) -> Option<Point>
+    ensures { result ≡ point_or first point other }
+{
+    if is_same(first, point) {
+        other
+    } else {
+        Some(point)
+    }
+}
+
+pub(crate) fn is_same(one: Point, other: Point) -> bool
+    ensures { result ≡ same_point one other }
+{
+    one.x == other.x && one.y == other.y
 }
 
 /// A point relative to another one.

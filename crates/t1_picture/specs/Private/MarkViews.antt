@@ -2,7 +2,8 @@
 use Rattle.std.specs.Prelude.{◌≡◌, ℕ, ◌++◌, if◌then◌else◌, Option, None, Some, List, [], ◌∷◌}
 use Rattle.t1_picture.specs.declared.marks.FaultMark.{FaultMark}
 use Rattle.t1_picture.specs.declared.marks.Marks.{Marks}
-use Rattle.t1_picture.specs.Marks.{mark_of_one, mark_with, same_point}
+use Rattle.t1_picture.specs.Marks.{mark_of_one, mark_with}
+use Rattle.t1_picture.specs.Subpaths.{same_point}
 use Rattle.t1_rules.specs.declared.step_rules.flex.Point.{Point}
 
 -- The last mark after a fault, and those that are done with it.
