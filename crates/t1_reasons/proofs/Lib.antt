@@ -11,6 +11,7 @@ mod Hints
 mod LastCommands
 mod LastSteps
 mod LawProofs
+mod LeftStems
 mod LinesCounted
 pub mod NamedStems
 mod NamedSteps

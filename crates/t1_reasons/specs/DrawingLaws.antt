@@ -1,5 +1,5 @@
 -- Laws of the reasons of rules on the drawing.
-use Rattle.std.specs.Prelude.{◌≡◌, ℤ, pos, ◌≤◌, int_lt, Bool, true, false, Option, Some, List}
+use Rattle.std.specs.Prelude.{◌≡◌, ℤ, pos, ◌≤◌, int_lt, Bool, true, false, Option, Some, is_some, List}
 use Rattle.std.specs.List.{All, Contains}
 use Rattle.t1_char.specs.declared.edition.Edition.{Edition}
 use Rattle.t1_char.specs.Steps.{StepView}
@@ -8,6 +8,7 @@ use Rattle.t1_drawing.specs.declared.touching.UntouchedStem.{UntouchedStem}
 use Rattle.t1_drawing.specs.Curves.{is_flat_from}
 use Rattle.t1_drawing.specs.FontBoxes.{is_outside}
 use Rattle.t1_drawing.specs.Lines.{has_no_length_from, leads_back, leads_on, two_lines}
+use Rattle.t1_drawing.specs.Touching.{first_untouched}
 use Rattle.t1_outline.specs.declared.segment.Segment.{Segment}
 use Rattle.t1_rules.specs.declared.rule.Rule.{Rule}
 use Rattle.t1_rules.specs.declared.rule.Rule.TheVariants.{P04, P05, P06, P07, P08, P09, P10, H09, H10}
@@ -17,7 +18,7 @@ use Rattle.t1_reasons.specs.declared.reason.Reason.TheVariants.{Area, Outside, S
 use Rattle.t1_reasons.specs.declared.step_reasons.PairFlaw.TheVariants.{SharedEdge}
 use Rattle.t1_reasons.specs.declared.step_reasons.StemFlaw.TheVariants.{Negative}
 use Rattle.t1_reasons.specs.DrawingReasons.{are_beyond, drawing_reason}
-use Rattle.t1_reasons.specs.StemSearches.{distance, later_ends, nearest_end}
+use Rattle.t1_reasons.specs.StemSearches.{distance, later_ends, nearest_end, set_first}
 use Rattle.t1_reasons.specs.StepReasons.{is_flawed, is_flawed_pair}
 
 -- The point is outside the box that is named with it.
@@ -60,3 +61,7 @@ pub record IsNearestEnd (stem : UntouchedStem) (steps : List StepView) (place : 
 abbrev pub NearestEndsAreNearest : Type 0
 NearestEndsAreNearest =
     (stem : UntouchedStem) (steps : List StepView) (place : ℤ) → nearest_end stem steps ≡ Some place → IsNearestEnd stem steps place
+
+-- A stem that nothing touches is set at a step.
+abbrev pub LeftStemsAreSet : Type 0
+LeftStemsAreSet = (steps : List StepView) (stem : UntouchedStem) → first_untouched steps ≡ Some stem → is_some (set_first stem steps) ≡ true

@@ -1,7 +1,7 @@
 //! Laws of reasons, each on a call that does nothing.
 
 ghost use Rattle.t1_reasons.specs.CharstringReasons.{EndsAreFollowedAsTold};
-ghost use Rattle.t1_reasons.specs.DrawingLaws.{DrawingReasonsAreAgainstTheirRules, NearestEndsAreNearest};
+ghost use Rattle.t1_reasons.specs.DrawingLaws.{DrawingReasonsAreAgainstTheirRules, LeftStemsAreSet, NearestEndsAreNearest};
 ghost use Rattle.t1_reasons.specs.FaultReasons.{FaultsHaveReasons, ReportedPlacesHaveReasons};
 ghost use Rattle.t1_reasons.specs.GlyphReasons.{ShortCharstringsAreShorter};
 ghost use Rattle.t1_reasons.specs.NamedStems.{NamedStemsAreSet};
@@ -25,10 +25,11 @@ pub fn reasons_are_against_their_rules()
     ensures others { OthersCompareNumbers }
 {}
 
-/// A reason of a rule on the drawing is against the rule by its own numbers. The end that H08 names is the nearest of what is drawn after the stem
-/// was set.
+/// A reason of a rule on the drawing is against the rule by its own numbers. The stem that H08 names is set at a step, and the end that it names
+/// is the nearest of what is drawn after that.
 pub fn drawing_reasons_are_against_their_rules()
     ensures against { DrawingReasonsAreAgainstTheirRules }
+    ensures set { LeftStemsAreSet }
     ensures nearest { NearestEndsAreNearest }
 {}
 
