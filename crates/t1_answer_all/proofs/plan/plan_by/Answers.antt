@@ -8,9 +8,9 @@ returns-clause-plan c =
       c.mode_by.ensures,
       c.as_slice-2.ensures.value,
       c.as_slice-3.ensures.value,
-      c.layout_of.ensures,
+      c.tells_edition.ensures,
+      c.layout_of-layout.ensures,
       c.unlisted.ensures.undecoded,
       c.unlisted.ensures.unsearched,
       c.is_quiet.ensures,
-      c.tells_edition.ensures,
     ) refl
