@@ -1,23 +1,15 @@
 -- The layer of the arrows, part by part.
-use Rattle.std.proofs.Common.{◌≡◌, ◌&&◌, ◌+◌, ℕ, Bool, cond, codes, true, false, Option, None, Some, List, [], ◌∷◌, ◌++◌, length, map, refl, sym, ap, ◌∙◌, append_assoc, append-nil}
-use Rattle.std.proofs.lemmas.Grind.{flat_map-append}
+use Rattle.std.proofs.Common.{◌≡◌, ◌&&◌, ◌+◌, ℕ, Bool, cond, true, false, List, [], ◌∷◌, ◌++◌, length, map, refl, sym, ap, ◌∙◌, append_assoc, append-nil}
 use Rattle.std.proofs.lemmas.List.{map-append}
-use Rattle.std.specs.List.{flat_map}
 use Rattle.t1_char.specs.Steps.{StepView}
-use Rattle.t1_outline.specs.declared.parts.Part.{Part}
-use Rattle.t1_outline.specs.declared.parts.SeacPart.{SeacPart}
-use Rattle.t1_outline.specs.declared.parts.SeacPart.TheVariants.{NoCode, NoGlyph, NoName, There}
-use Rattle.t1_outline.specs.declared.parts.SeacParts.{SeacParts}
 use Rattle.t1_outline.specs.declared.segment.Segment.{Segment}
 use Rattle.t1_outline.specs.Outlines.{DrawnView, drawn, drawn_from, placed as drawn_at}
-use Rattle.t1_outline.specs.Parts.{part_of, parts_of_both}
 use Rattle.t1_picture.specs.declared.subpath.Subpath.{Subpath}
 use Rattle.t1_picture.specs.Arrows.{arrow_text, arrows_from, drawn_on}
-use Rattle.t1_picture.specs.Drawings.{called_part, component_part, components_of, own_part, with_component, with_components}
+use Rattle.t1_picture.proofs.PartLayers.{of_picture}
 use Rattle.t1_picture.specs.Laws.{ArrowsAreThoseOfItsParts}
-use Rattle.t1_picture.specs.Layers.{LayersView, begun, no_layers, with_gap, with_segment, with_segments}
+use Rattle.t1_picture.specs.Layers.{LayersView, begun, with_gap, with_segment, with_segments}
 use Rattle.t1_picture.specs.Parts.{PartView, drawn_steps, is_step, part_arrows, placed_in, with_gap_if, with_part, with_step, with_steps}
-use Rattle.t1_picture.specs.Subjects.{Subject}
 use Rattle.t1_picture.specs.Subpaths.{gone_on, placed}
 use Rattle.t1_rules.specs.declared.step_rules.flex.Point.{Point}
 use Rattle.t1_rules.specs.StepRules.Paths.{leaves_open}
@@ -100,28 +92,5 @@ of_part part l = of_steps part (begun l) [] (drawn_steps part)
 
 -- ---- components
 
-abbrev arrows_in : Subject → Part → List ℕ
-arrows_in s p = part_arrows (component_part s [] p)
-
-of_component : (s : Subject) (called : List ℕ) (component : SeacPart) (l : LayersView)
-    → (with_component s called component l).arrows ≡ l.arrows ++ flat_map (arrows_in s) (part_of component)
-of_component s called (There p) l = of_part (called_part s called p) l ∙ ap (λ (o : List ℕ). l.arrows ++ o) (sym (append-nil (arrows_in s p)))
-of_component s called NoCode l = sym (append-nil l.arrows)
-of_component s called (NoName code) l = sym (append-nil l.arrows)
-of_component s called (NoGlyph code) l = sym (append-nil l.arrows)
-
-of_components : (s : Subject) (components : Option SeacParts) (l : LayersView)
-    → (with_components s components l).arrows ≡ l.arrows ++ flat_map (arrows_in s) (parts_of_both components)
-of_components s None l = sym (append-nil l.arrows)
-of_components s (Some seac) l =
-    let base = flat_map (arrows_in s) (part_of seac.base) in
-    let accent = flat_map (arrows_in s) (part_of seac.accent) in
-    of_component s (codes "accent") seac.accent (with_component s (codes "base") seac.base l)
-    ∙ ap (λ (o : List ℕ). o ++ accent) (of_component s (codes "base") seac.base l)
-    ∙ append_assoc l.arrows base accent
-    ∙ ap (λ (o : List ℕ). l.arrows ++ o) (sym (flat_map-append (arrows_in s) (part_of seac.base) (part_of seac.accent)))
-
 pub arrows_are_those_of_its_parts : ArrowsAreThoseOfItsParts
-arrows_are_those_of_its_parts s =
-    of_components s (components_of s) (with_part (own_part s) no_layers)
-    ∙ ap (λ (o : List ℕ). o ++ flat_map (arrows_in s) (parts_of_both (components_of s))) (of_part (own_part s) no_layers)
+arrows_are_those_of_its_parts = of_picture (λ (l : LayersView). l.arrows) part_arrows (record { of_part = of_part; called = λ s called p. refl })

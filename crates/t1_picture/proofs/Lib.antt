@@ -6,6 +6,7 @@ pub mod NamedCauses
 pub mod OneFault
 pub mod OnePicture
 pub mod OutlineLayers
+pub mod PartLayers
 pub mod PartSteps
 pub mod Runs
 pub mod XmlCharacters

@@ -1,5 +1,5 @@
 -- The layer of the outline, part by part.
-use Rattle.std.proofs.Common.{◌≡◌, ◌&&◌, ◌+◌, ℕ, Bool, cond, codes, true, false, Option, None, Some, List, [], ◌∷◌, ◌++◌, length, map, take, refl, sym, ap, ◌∙◌, arith, append_assoc, append-nil}
+use Rattle.std.proofs.Common.{◌≡◌, ◌&&◌, ◌+◌, ℕ, Bool, cond, true, false, List, [], ◌∷◌, ◌++◌, length, map, take, refl, sym, ap, ◌∙◌, arith, append_assoc, append-nil}
 use Rattle.std.proofs.lemmas.Grind.{flat_map-append}
 use Rattle.std.proofs.lemmas.List.{length-take, take_all}
 use Rattle.std.proofs.lemmas.List.Folds.{flat_map-map}
@@ -7,18 +7,13 @@ use Rattle.std.specs.List.{flat_map}
 use Rattle.t1_char.proofs.EditionLemmas.{limit_few}
 use Rattle.t1_char.specs.Editions.{limit_of}
 use Rattle.t1_char.specs.Steps.{StepView, steps_of}
-use Rattle.t1_outline.specs.declared.parts.Part.{Part}
-use Rattle.t1_outline.specs.declared.parts.SeacPart.{SeacPart}
-use Rattle.t1_outline.specs.declared.parts.SeacPart.TheVariants.{NoCode, NoGlyph, NoName, There}
-use Rattle.t1_outline.specs.declared.parts.SeacParts.{SeacParts}
 use Rattle.t1_outline.specs.declared.segment.Segment.{Segment}
 use Rattle.t1_outline.specs.Outlines.{DrawnView, drawn, drawn_from, drawn_of, placed as drawn_at}
-use Rattle.t1_outline.specs.Parts.{part_of, parts_of_both}
-use Rattle.t1_picture.specs.Drawings.{all_steps, called_part, component_part, components_of, own_part, with_component, with_components}
+use Rattle.t1_picture.proofs.PartLayers.{of_picture}
+use Rattle.t1_picture.specs.Drawings.{all_steps}
 use Rattle.t1_picture.specs.Laws.{OutlineIsThatOfItsParts, WholePartsAreOutlines}
-use Rattle.t1_picture.specs.Layers.{LayersView, begun, no_layers, segment_text, with_gap, with_segment, with_segments}
+use Rattle.t1_picture.specs.Layers.{LayersView, begun, segment_text, with_gap, with_segment, with_segments}
 use Rattle.t1_picture.specs.Parts.{PartView, drawn_steps, is_step, part_outline, with_gap_if, with_part, with_step, with_steps}
-use Rattle.t1_picture.specs.Subjects.{Subject}
 use Rattle.t1_picture.specs.Subpaths.{placed}
 use Rattle.t1_rules.specs.declared.step_rules.flex.Point.{Point}
 use Rattle.t1_rules.specs.StepRules.Paths.{leaves_open}
@@ -69,31 +64,8 @@ of_part part l = of_steps part (begun l) [] (drawn_steps part)
 
 -- ---- components
 
-abbrev outline_in : Subject → Part → List ℕ
-outline_in s p = part_outline (component_part s [] p)
-
-of_component : (s : Subject) (called : List ℕ) (component : SeacPart) (l : LayersView)
-    → (with_component s called component l).outline ≡ l.outline ++ flat_map (outline_in s) (part_of component)
-of_component s called (There p) l = of_part (called_part s called p) l ∙ ap (λ (o : List ℕ). l.outline ++ o) (sym (append-nil (outline_in s p)))
-of_component s called NoCode l = sym (append-nil l.outline)
-of_component s called (NoName code) l = sym (append-nil l.outline)
-of_component s called (NoGlyph code) l = sym (append-nil l.outline)
-
-of_components : (s : Subject) (components : Option SeacParts) (l : LayersView)
-    → (with_components s components l).outline ≡ l.outline ++ flat_map (outline_in s) (parts_of_both components)
-of_components s None l = sym (append-nil l.outline)
-of_components s (Some seac) l =
-    let base = flat_map (outline_in s) (part_of seac.base) in
-    let accent = flat_map (outline_in s) (part_of seac.accent) in
-    of_component s (codes "accent") seac.accent (with_component s (codes "base") seac.base l)
-    ∙ ap (λ (o : List ℕ). o ++ accent) (of_component s (codes "base") seac.base l)
-    ∙ append_assoc l.outline base accent
-    ∙ ap (λ (o : List ℕ). l.outline ++ o) (sym (flat_map-append (outline_in s) (part_of seac.base) (part_of seac.accent)))
-
 pub outline_is_that_of_its_parts : OutlineIsThatOfItsParts
-outline_is_that_of_its_parts s =
-    of_components s (components_of s) (with_part (own_part s) no_layers)
-    ∙ ap (λ (o : List ℕ). o ++ flat_map (outline_in s) (parts_of_both (components_of s))) (of_part (own_part s) no_layers)
+outline_is_that_of_its_parts = of_picture (λ (l : LayersView). l.outline) part_outline (record { of_part = of_part; called = λ s called p. refl })
 
 -- ---- all steps
 
